@@ -1,6 +1,7 @@
 -- Names that differ, and their numbers.
-use Rattle.std.proofs.Common.{◌≡◌, ℕ, ◌+◌, ◌<◌, Bool, true, false, not, cond, List, [], ◌∷◌, ◌++◌, length, map, take, drop, get_or, None, sym, ap, ap₂, ◌∙◌}
-use Rattle.std.proofs.lemmas.List.{take_more, at_drop_more, get_or_read, map_more}
+use Rattle.std.proofs.Common.{◌≡◌, ℕ, ◌+◌, ◌<◌, Bool, true, false, not, cond, List, [], ◌∷◌, ◌++◌, length, map, take, drop, get_or, None, sym, ap, ap₂, ◌∙◌, append_assoc, length-append, arith}
+use Rattle.std.proofs.Math.Seq.{take-append-add}
+use Rattle.std.proofs.lemmas.List.{take_more, at_drop_more, get_or_read, get_or-append-add, map_more}
 use Rattle.std.proofs.lemmas.Bool.{false≢true}
 use Rattle.std.specs.List.{list_any, flat_map, IsDistinct}
 use Rattle.std.specs.Str.{bytes_eq}
@@ -46,18 +47,31 @@ pub undefined_behind_node : (signals : List (List ℕ)) (nodes : List DraftNode)
 undefined_behind_node signals nodes i node below here rest e =
     sym (undefined_later signals node.fanins (flat_map fanins_of (drop (i + 1) nodes)) e) ∙ (ap (undefined_in signals) (sym (fanins_from nodes i node below here)) ∙ rest)
 
+-- among distinct names none stands before its place
+none_behind : (start names : List (List ℕ)) (i : ℕ) (d : List ℕ) → IsDistinct bytes_eq (start ++ names) → i < length names → is_among (start ++ take i names) (get_or names i d) ≡ false
+none_behind start names i d distinct below =
+    let place = length start + i in
+    let here : get_or (start ++ names) place d ≡ get_or names i d = get_or-append-add start names i d in
+    let front : take place (start ++ names) ≡ start ++ take i names = take-append-add start names i in
+    let inside : place < length (start ++ names) = omega (arith, length-append start names) in
+    ap₂ (λ ns n. is_among ns n) (sym front) (sym here) ∙ none_before (start ++ names) place d distinct inside
+
 -- a name that is not among those before it, and one that is
-pub fresh_more : (names old new : List (List ℕ)) (i : ℕ) (name item : List ℕ) (fresh : Bool) → i < length names → item ≡ get_or names i item → name ≡ item → old ≡ take i names → fresh ≡ not (list_any (bytes_eq name) old) → new ≡ insert_key bytes_eq old name → fresh ≡ true → new ≡ take (i + 1) names
-fresh_more names old new i name item fresh below read copied was told is now =
+pub fresh_more : (start names old new : List (List ℕ)) (i : ℕ) (name item : List ℕ) (fresh : Bool) → i < length names → item ≡ get_or names i item → name ≡ item → old ≡ start ++ take i names → fresh ≡ not (list_any (bytes_eq name) old) → new ≡ insert_key bytes_eq old name → fresh ≡ true → new ≡ start ++ take (i + 1) names
+fresh_more start names old new i name item fresh below read copied was told is now =
     let here : name ≡ get_or names i name = copied ∙ get_or_read names i item below read name in
     by_test (list_any (bytes_eq name) old) (sym told ∙ now) is here
   where
-    by_test : (b : Bool) → not b ≡ true → new ≡ cond b old (old ++ name ∷ []) → name ≡ get_or names i name → new ≡ take (i + 1) names
-    by_test false e grown here = grown ∙ (ap (λ l. l ++ name ∷ []) was ∙ (ap (λ n. take i names ++ n ∷ []) here ∙ sym (take_more names i name below)))
+    by_test : (b : Bool) → not b ≡ true → new ≡ cond b old (old ++ name ∷ []) → name ≡ get_or names i name → new ≡ start ++ take (i + 1) names
+    by_test false e grown here =
+        grown
+        ∙ (ap (λ l. l ++ name ∷ []) was
+        ∙ (append_assoc start (take i names) (name ∷ [])
+        ∙ (ap (λ n. start ++ (take i names ++ n ∷ [])) here ∙ ap (λ l. start ++ l) (sym (take_more names i name below)))))
     by_test true e grown here = cc
 
-pub twice : (names old : List (List ℕ)) (i : ℕ) (name item : List ℕ) (fresh : Bool) → i < length names → item ≡ get_or names i item → name ≡ item → old ≡ take i names → fresh ≡ not (list_any (bytes_eq name) old) → fresh ≡ false → IsDistinct bytes_eq names → ⊥
-twice names old i name item fresh below read copied was told now distinct =
+pub twice : (start names old : List (List ℕ)) (i : ℕ) (name item : List ℕ) (fresh : Bool) → i < length names → item ≡ get_or names i item → name ≡ item → old ≡ start ++ take i names → fresh ≡ not (list_any (bytes_eq name) old) → fresh ≡ false → IsDistinct bytes_eq (start ++ names) → ⊥
+twice start names old i name item fresh below read copied was told now distinct =
     let here : name ≡ get_or names i name = copied ∙ get_or_read names i item below read name in
-    let none : list_any (bytes_eq name) old ≡ false = ap (λ l. list_any (bytes_eq name) l) was ∙ (ap (λ n. list_any (bytes_eq n) (take i names)) here ∙ none_before names i name distinct below) in
+    let none : list_any (bytes_eq name) old ≡ false = ap (λ l. list_any (bytes_eq name) l) was ∙ (ap (λ n. list_any (bytes_eq n) (start ++ take i names)) here ∙ none_behind start names i name distinct below) in
     false≢true (sym now ∙ (told ∙ ap not none))

@@ -1,4 +1,4 @@
-ghost use Rattle.std.specs.Prelude.{◌≡◌, ◌<◌, ◌++◌, [], ◌∷◌, ◌↔◌, length, map, IsTrue, OnOk, OnErr, Some, slice_get, All};
+ghost use Rattle.std.specs.Prelude.{◌≡◌, ◌<◌, ◌++◌, [], ◌∷◌, ◌↔◌, length, map, IsTrue, MatchResult, Some, slice_get, All};
 
 use crate::Cubes;
 use crate::naming::{differ, number, numbers, signals};
@@ -73,8 +73,8 @@ impl DraftNodes {
 
     /// Appends an entry. For want of memory nothing is changed.
     pub fn push(&mut self, item: DraftNode) -> Result<(), AllocError>
-        ensures ok { OnOk result (self.new ≡ self.old ++ item ∷ []) }
-        ensures err { OnErr result (self.new ≡ self.old) }
+        ensures { MatchResult result (λ _. self.new ≡ self.old ++ item ∷ [])
+            (λ _. self.new ≡ self.old) }
     {
         let DraftNode {
             out,

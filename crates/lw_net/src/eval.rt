@@ -1,5 +1,5 @@
 // The values of nets.
-ghost use Rattle.std.specs.Prelude.{◌≡◌, ◌+◌, ◌<◌, ◌≤◌, ℕ, Bool, false, List, Some, length, map, take, slice_get, slice_index_or, All};
+ghost use Rattle.std.specs.Prelude.{◌≡◌, ◌+◌, ◌<◌, ℕ, Bool, false, List, Some, length, map, slice_get, slice_index_or, All};
 ghost use Rattle.std.specs.List.{list_any};
 ghost use Rattle.lw_laws.specs.Networks.{row_value, node_value, given, AreValues};
 ghost use Rattle.lw_net.specs.Networks.{IsNodeAt};
@@ -73,12 +73,4 @@ pub(crate) fn fill(nodes: &[Node], first: usize, nets: &mut [bool])
     for (j, node) in nodes.iter().enumerate() {
         nets[first + j] = value_of(node, nets);
     }
-}
-
-// Copies values to the front.
-pub(crate) fn copy_front(x: &[bool], nets: &mut [bool])
-    requires { length x.now ≤ length nets.old }
-    ensures { take (length x.now) nets.new ≡ x.now }
-{
-    nets[..x.len()].copy_from_slice(x);
 }

@@ -1,5 +1,5 @@
 // Names, and their numbers.
-ghost use Rattle.std.specs.Prelude.{◌≡◌, ◌<◌, ◌++◌, [], length, map, All, IfOk, IsTrue, ◌↔◌};
+ghost use Rattle.std.specs.Prelude.{◌≡◌, ◌<◌, ◌++◌, length, map, All, IfOk, IsTrue, ◌↔◌};
 ghost use Rattle.std.specs.List.{IsDistinct};
 ghost use Rattle.std.specs.Str.{bytes_eq};
 ghost use Rattle.lw_net.specs.Closing.{out_of};
@@ -70,10 +70,9 @@ pub(crate) fn differ(alloc: Global, names: &[Name]) -> Result<bool, AllocError>
     differ
 }
 
-// Adds names to a set of none, up to the first that is there already. Whether all were new.
+// Adds names to a set, up to the first that is there already. Whether all were new.
 fn are_new(alloc: Global, set: &mut IndexSet<Name>, names: &[Name]) -> Result<bool, AllocError>
-    requires { set.old.keys ≡ [] }
-    ensures { IfOk result (λ b. IsTrue b ↔ IsDistinct bytes_eq names.now) }
+    ensures { IfOk result (λ b. IsTrue b ↔ IsDistinct bytes_eq (set.old.keys ++ names.now)) }
 {
     for name in names {
         let copy = Name::from_slice(alloc, name.as_bytes())?;

@@ -1,7 +1,7 @@
 ghost use Rattle.std.specs.Prelude.{◌≡◌, ◌≤◌, length};
 
 use crate::close::{parts_of, put_in_order};
-use crate::eval::{copy_front, fill};
+use crate::eval::fill;
 use crate::written::{Written, by_numbers};
 use crate::{Draft, NetFault, Node, Nodes};
 use lw_pool::{Name, Names, NetId, Nets};
@@ -91,7 +91,7 @@ impl Network {
         ensures { AreValues (plain self.now) (given x.now) nets.new }
     {
         let nodes = self.nodes();
-        copy_front(x, nets);
+        nets[..x.len()].copy_from_slice(x);
         fill(nodes, x.len(), nets);
     }
 

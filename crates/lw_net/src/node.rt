@@ -1,4 +1,4 @@
-ghost use Rattle.std.specs.Prelude.{◌≡◌, ◌+◌, ◌<◌, ◌++◌, [], ◌∷◌, ◌↔◌, List, ℕ, length, IsTrue, IfOk, IfSome, IfNone, OnOk, OnErr, Some, slice_get, All};
+ghost use Rattle.std.specs.Prelude.{◌≡◌, ◌+◌, ◌<◌, ◌++◌, [], ◌∷◌, ◌↔◌, List, ℕ, length, IsTrue, IfOk, IfSome, IfNone, MatchResult, Some, slice_get, All};
 ghost use Rattle.lw_net.specs.Signs.{IsSign};
 
 use lw_pool::{NetId, Nets};
@@ -141,8 +141,8 @@ impl Cubes {
     /// Appends an entry. For want of memory nothing is changed. The first takes no more room than
     /// its own, since many nodes have one row.
     pub fn push(&mut self, item: Cube) -> Result<(), AllocError>
-        ensures ok { OnOk result (self.new ≡ self.old ++ item ∷ []) }
-        ensures err { OnErr result (self.new ≡ self.old) }
+        ensures { MatchResult result (λ _. self.new ≡ self.old ++ item ∷ [])
+            (λ _. self.new ≡ self.old) }
     {
         if self.items.is_empty() {
             self.items.reserve_exact(1)?;
@@ -229,8 +229,8 @@ impl Nodes {
 
     /// Appends an entry. For want of memory nothing is changed.
     pub fn push(&mut self, item: Node) -> Result<(), AllocError>
-        ensures ok { OnOk result (self.new ≡ self.old ++ item ∷ []) }
-        ensures err { OnErr result (self.new ≡ self.old) }
+        ensures { MatchResult result (λ _. self.new ≡ self.old ++ item ∷ [])
+            (λ _. self.new ≡ self.old) }
     {
         self.items.push(item)?;
         Ok(())

@@ -1,5 +1,5 @@
 // The places of names among the signals.
-ghost use Rattle.std.specs.Prelude.{◌≡◌, ◌+◌, ◌<◌, ◌≤◌, None, length, map, replicate, All, IfOk, IfSome, IfNone, IfErr, OnOk};
+ghost use Rattle.std.specs.Prelude.{◌≡◌, ◌+◌, ◌<◌, ◌≤◌, None, length, map, replicate, All, IfOk, IfErr, MatchOption, OnOk};
 ghost use Rattle.std.specs.List.{flat_map};
 ghost use Rattle.lw_net.specs.Closing.{signals_of, fanins_of, number_in, undefined_in};
 ghost use Rattle.lw_pool.specs.Numbers.{most_signals};
@@ -39,15 +39,10 @@ pub(crate) fn places(alloc: Global, count: usize, signals: &[u32]) -> Result<Vec
 
 // The place of a name, where it has one.
 fn place_of(places: &[u32], name: u32) -> Option<u32>
-    requires { name < length places.now }
-    ensures some { IfSome result (λ s. place_at places.now name ≡ s + 1) }
-    ensures none { IfNone result (place_at places.now name ≡ 0) }
+    ensures { MatchOption result (place_at places.now name ≡ 0)
+        (λ s. place_at places.now name ≡ s + 1) }
 {
-    let place = places[name as usize];
-    if place == 0 {
-        return None;
-    }
-    Some(place - 1)
+    places.get(name as usize)?.checked_sub(1)
 }
 
 // A copy of the name with a number.

@@ -12,7 +12,7 @@ returns-in_default-place_of-clause-fault c =
     let w = c.args.w.now in
     let list = c.args.list.now in
     let i = c.loop-number.number-index in
-    let none = unplaced w c.args.places.now c.requires.table (get_or list i 0) (c.requires.within i 0 c.loop-number-test.true) c.in_default-place_of.ensures.none in
+    let none = unplaced w c.args.places.now c.requires.table (get_or list i 0) (c.requires.within i 0 c.loop-number-test.true) c.in_default-place_of.ensures in
     row_fault (signals_of (draft_in w)) w.names.keys list i c.loop-number-test.true none c.loop-number.invariant.rest ∙ ap (λ n. Some n) (sym c.in_ok-name.ensures)
 
 pub loop-number-preserved : goal.loop-number-preserved
@@ -25,8 +25,8 @@ loop-number-preserved c =
     let place = c.in-Some.place in
     let signals = signals_of (draft_in w) in
     record {
-      so_far = row_so_far signals w.names.keys list c.loop-number.numbers.items c.push.new.self.items i place c.loop-number-test.true c.loop-number.invariant.so_far (placed_number w places c.requires.table n place c.in-Some.ensures.some) c.in-Ok-push.ensures.items;
-      rest = row_rest signals w.names.keys list i c.loop-number-test.true (placed_among w places c.requires.table n place c.in-Some.ensures.some) c.loop-number.invariant.rest;
+      so_far = row_so_far signals w.names.keys list c.loop-number.numbers.items c.push.new.self.items i place c.loop-number-test.true c.loop-number.invariant.so_far (placed_number w places c.requires.table n place c.in-Some.ensures) c.in-Ok-push.ensures.items;
+      rest = row_rest signals w.names.keys list i c.loop-number-test.true (placed_among w places c.requires.table n place c.in-Some.ensures) c.loop-number.invariant.rest;
     }
 
 pub returns-in_default : goal.returns-in_default
@@ -34,9 +34,6 @@ returns-in_default c = record { ok = tt; defined = tt; fault = tt }
 
 pub loop-number-init : goal.loop-number-init
 loop-number-init c = record { so_far = c.in-Ok.ensures.items; rest = refl }
-
-pub place_of-requires : goal.place_of-requires
-place_of-requires c = omega (arith, c.requires.table.placed.one_each, c.requires.within c.loop-number.number-index 0 c.loop-number-test.true)
 
 pub copy_of-requires : goal.copy_of-requires
 copy_of-requires c = c.requires.within c.loop-number.number-index 0 c.loop-number-test.true

@@ -1,42 +1,33 @@
 use Rattle.std.proofs.Common.{◌≡◌, ◌<◌, All, length, refl, subst, sym, ap, ◌∙◌}
 use Rattle.std.proofs.lemmas.List.Elements.{All-push, All-same}
-use Rattle.std.proofs.lemmas.Result.{IfOk-from_err}
+use Rattle.std.proofs.lemmas.Result.{MatchResult-from_err}
 use Rattle.lw_net.specs.declared.written.NumberedNode.{NumberedNode}
 use Rattle.lw_net.specs.Written.{names_in, named_nodes, IsWithin}
-use Rattle.lw_net.proofs.Writing.{on_err, nodes_longer, nodes_within_longer, names_longer, within_longer, longer_then, item_named, pushed}
+use Rattle.lw_net.proofs.Writing.{nodes_longer, nodes_within_longer, names_longer, within_longer, longer_then, item_named, pushed}
 use Rattle.lw_net.proofs.draft.DraftNodes.push.Goals as goal
 
-pub returns-in_err-numbers-clause-err : goal.returns-in_err-numbers-clause-err
-returns-in_err-numbers-clause-err c =
-    on_err c.from_residual.result (nodes_longer c.self.inside.names.keys c.numbers.new.names.keys c.self.inside.nodes.items c.numbers.ensures.longer c.self.invariant ∙ c.self.view_is)
+pub returns-in_err-numbers : goal.returns-in_err-numbers
+returns-in_err-numbers c =
+    MatchResult-from_err _ _ _ c.from_residual.ensures.0 (λ _. nodes_longer c.self.inside.names.keys c.numbers.new.names.keys c.self.inside.nodes.items c.numbers.ensures.longer c.self.invariant ∙ c.self.view_is)
 
-pub returns-in_err-out-clause-err : goal.returns-in_err-out-clause-err
-returns-in_err-out-clause-err c =
+pub returns-in_err-out : goal.returns-in_err-out
+returns-in_err-out c =
     let longer = longer_then c.self.inside.names.keys c.numbers.new.names.keys c.number.new.names.keys c.numbers.ensures.longer c.number.ensures.longer in
-    on_err c.from_residual-in_err-out.result (nodes_longer c.self.inside.names.keys c.number.new.names.keys c.self.inside.nodes.items longer c.self.invariant ∙ c.self.view_is)
+    MatchResult-from_err _ _ _ c.from_residual-in_err-out.ensures.0 (λ _. nodes_longer c.self.inside.names.keys c.number.new.names.keys c.self.inside.nodes.items longer c.self.invariant ∙ c.self.view_is)
 
-pub returns-in_err-push-clause-err : goal.returns-in_err-push-clause-err
-returns-in_err-push-clause-err c =
+pub returns-in_err-push : goal.returns-in_err-push
+returns-in_err-push c =
     let longer = longer_then c.self.inside.names.keys c.numbers.new.names.keys c.number.new.names.keys c.numbers.ensures.longer c.number.ensures.longer in
-    on_err c.from_residual-in_err-push.result (ap (named_nodes c.number.new.names.keys) c.in_err-push.ensures.items ∙ (nodes_longer c.self.inside.names.keys c.number.new.names.keys c.self.inside.nodes.items longer c.self.invariant ∙ c.self.view_is))
+    MatchResult-from_err _ _ _ c.from_residual-in_err-push.ensures.0 (λ _. ap (named_nodes c.number.new.names.keys) c.in_err-push.ensures.items ∙ (nodes_longer c.self.inside.names.keys c.number.new.names.keys c.self.inside.nodes.items longer c.self.invariant ∙ c.self.view_is))
 
-pub returns-clause-ok : goal.returns-clause-ok
-returns-clause-ok c =
+pub returns : goal.returns
+returns c =
     let keys = c.number.new.names.keys in
     let made : names_in keys c.new-fanins.result ≡ c.args.item.fanins =
     ap (names_in keys) c.new-fanins.ensures ∙ (names_longer c.numbers.new.names.keys keys c.in_ok-numbers.field-0.items c.number.ensures.longer c.in_ok-numbers.ensures.within ∙ c.in_ok-numbers.ensures.named) in
     let node : NumberedNode = record { out = c.in_ok-out.out; fanins = c.new-fanins.result; rows = c.args.item.rows; on = c.args.item.on } in
     pushed c.self.inside.names.keys c.numbers.new.names.keys keys c.self.inside.nodes.items c.push.new.self.items node c.args.self.now c.args.item c.numbers.ensures.longer c.number.ensures.longer c.self.invariant c.in_ok-push.ensures.items c.self.view_is
     (item_named keys node c.args.item c.in_ok-out.ensures.named made refl refl)
-
-pub returns-in_err-numbers-clause-ok : goal.returns-in_err-numbers-clause-ok
-returns-in_err-numbers-clause-ok c = IfOk-from_err _ _ c.from_residual.ensures.0
-
-pub returns-in_err-out-clause-ok : goal.returns-in_err-out-clause-ok
-returns-in_err-out-clause-ok c = IfOk-from_err _ _ c.from_residual-in_err-out.ensures.0
-
-pub returns-in_err-push-clause-ok : goal.returns-in_err-push-clause-ok
-returns-in_err-push-clause-ok c = IfOk-from_err _ _ c.from_residual-in_err-push.ensures.0
 
 pub invariant_of-self : goal.invariant_of-self
 invariant_of-self c = nodes_within_longer c.self.inside.names.keys c.numbers.new.names.keys c.self.inside.nodes.items c.numbers.ensures.longer c.self.invariant
