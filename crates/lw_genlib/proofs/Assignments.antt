@@ -161,9 +161,6 @@ one_truth e f pins few over also agree y =
     ∙ (subst (λ n. expr_value (assigned n) e ≡ expr_value (assigned n) f) parts here
     ∙ value_by_pins (assigned (number_of y pins)) y f (λ p m. number_bit y pins p (also p m)))
 
-pub few_blocks : (pins : ℕ) → pins ≤ 16 → 2 ^ (pins - 6) ≤ 1024
-few_blocks pins few = two_power (pins - 6) 10 (omega arith)
-
 -- the same value under each of the first assignments is the same value under all
 pub truth_below : (e f : Expr) (pins : ℕ) → ((k : ℕ) → MentionsPin e k → k < pins) → ((k : ℕ) → MentionsPin f k → k < pins)
     → ((n : ℕ) → n < 2 ^ pins → expr_value (assigned n) e ≡ expr_value (assigned n) f) → HaveOneTruth e f

@@ -1,6 +1,7 @@
 // What the text of a function says.
-ghost use Rattle.std.specs.Prelude.{◌≡◌, ◌<◌, ◌≤◌, ◌-◌, ◌^◌, [], None, length, take, drop, MatchResult};
+ghost use Rattle.std.specs.Prelude.{◌≡◌, ◌<◌, ◌^◌, [], None, length, MatchResult};
 ghost use Rattle.lw_genlib.specs.Functions.{IsText, Says, first_fault};
+ghost use Rattle.lw_genlib.specs.Spelled.{inner_of};
 ghost use Rattle.lw_genlib.specs.Tells.{TellsFault};
 
 use crate::check_tokens::pins_of;
@@ -41,10 +42,12 @@ pub(crate) fn function_of(
     Ok(Function { output, pins, form })
 }
 
-// The tokens behind the first two and before the last.
+// The tokens behind the first two and before the last: those of the expression.
 pub(crate) fn between(tokens: &[Token]) -> &[Token]
-    requires { 3 ≤ length tokens.now }
-    ensures { result.now ≡ take (length tokens.now - 1 - 2) (drop 2 tokens.now) }
+    ensures { result.now ≡ inner_of tokens.now }
 {
-    &tokens[2..tokens.len() - 1]
+    match tokens {
+        [_, _, inner @ .., _] => inner,
+        _ => &[],
+    }
 }

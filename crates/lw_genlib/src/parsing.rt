@@ -1,5 +1,5 @@
 // Parses an expression from tokens that may stand one after the other.
-ghost use Rattle.std.specs.Prelude.{◌≡◌, ◌+◌, ◌≤◌, ◌^◌, ◌||◌, ◌∷◌, [], true, false, IfOk, OnOk, IfSome, IfNone, length, unwrap_or, replicate, ◌++◌};
+ghost use Rattle.std.specs.Prelude.{◌≡◌, ◌+◌, ◌≤◌, ◌^◌, ◌||◌, ◌∷◌, [], true, false, IfOk, OnOk, MatchOption, length, unwrap_or, replicate, ◌++◌};
 ghost use Rattle.std.specs.List.{position};
 ghost use Rattle.std.specs.Str.{bytes_eq};
 ghost use Rattle.lw_genlib.specs.declared.token.Token.TheVariants.{Punct};
@@ -151,8 +151,8 @@ fn atom<'a>(
 
 // What stands behind this punctuation byte, if it stands first.
 fn behind_punct(punct: u8, tokens: &[Token]) -> Option<&[Token]>
-    ensures some { IfSome result (λ rest. tokens.now ≡ Punct punct ∷ rest.now) }
-    ensures none { IfNone result (begins_with (grammar.is_punct punct) tokens.now ≡ false) }
+    ensures { MatchOption result (begins_with (grammar.is_punct punct) tokens.now ≡ false)
+        (λ rest. tokens.now ≡ Punct punct ∷ rest.now) }
 {
     match tokens {
         [Token::Punct(byte), rest @ ..] if *byte == punct => Some(rest),
@@ -206,9 +206,9 @@ fn without_bangs(tokens: &[Token]) -> (usize, &[Token])
 }
 
 fn next_factor(rest: &[Token]) -> Option<&[Token]>
-    ensures some { IfSome result (λ behind. grammar.IsNextFactor rest.now behind.now) }
-    ensures none { IfNone result (begins_with
-        (λ token. grammar.is_punct 42 token || grammar.begins_operand token) rest.now ≡ false) }
+    ensures { MatchOption result (begins_with
+        (λ token. grammar.is_punct 42 token || grammar.begins_operand token) rest.now ≡ false)
+        (λ behind. grammar.IsNextFactor rest.now behind.now) }
 {
     match rest {
         [Token::Punct(b'*'), behind @ ..] => Some(behind),

@@ -1,5 +1,5 @@
 // Reads a library line by line.
-ghost use Rattle.std.specs.Prelude.{◌≡◌, ◌++◌, [], ◌∷◌, List, Ok, All, IfOk, IfErr, MatchResult, map};
+ghost use Rattle.std.specs.Prelude.{◌≡◌, ◌++◌, [], ◌∷◌, List, Ok, All, MatchResult, map};
 ghost use Rattle.lw_genlib.specs.declared.fault.LibFault.TheVariants.{Memory};
 ghost use Rattle.lw_genlib.specs.Cells.{IsWord};
 ghost use Rattle.lw_genlib.specs.Streams.{StreamItem, word_on, text_end, items_on};
@@ -174,8 +174,7 @@ fn finish(alloc: Global, last: u32, state: ReaderState) -> Result<Library, LibFa
 }
 
 fn library_in(alloc: Global, so_far: CellsSoFar) -> Result<Library, LibFault>
-    ensures cells { IfOk result (λ library. library ≡ so_far.cells) }
-    ensures memory { IfErr result (λ fault. fault ≡ Memory) }
+    ensures { MatchResult result (λ library. library ≡ so_far.cells) (λ fault. fault ≡ Memory) }
 {
     match Library::new(alloc, so_far.cells) {
         Ok(library) => Ok(library),

@@ -1,5 +1,5 @@
 // Truth tables, 64 assignments at a time.
-ghost use Rattle.std.specs.Prelude.{◌≡◌, ◌+◌, ◌*◌, ◌<◌, ◌≤◌, ◌^◌, ◌↔◌, ℕ, IsTrue, slice_index};
+ghost use Rattle.std.specs.Prelude.{◌≡◌, ◌+◌, ◌*◌, ◌<◌, ◌≤◌, ◌↔◌, ℕ, IsTrue, slice_index};
 ghost use Rattle.lw_laws.specs.Expressions.{MentionsPin};
 ghost use Rattle.lw_genlib.specs.Cells.{HaveOneTruth};
 ghost use Rattle.lw_genlib.specs.Words.{bit, AgreeIn, block_count};
@@ -42,7 +42,6 @@ fn blocks(pins: usize) -> u64
 // Whether the expressions have the same values in a block of assignments.
 fn agree_in(first: &Expr, other: &Expr, pins: usize, block: u64) -> bool
     requires few { pins ≤ 16 }
-    requires block { block < 1024 }
     requires first { (k : ℕ) → MentionsPin first.now k → k < pins }
     requires other { (k : ℕ) → MentionsPin other.now k → k < pins }
     ensures { IsTrue result ↔ AgreeIn first.now other.now block }
@@ -53,7 +52,6 @@ fn agree_in(first: &Expr, other: &Expr, pins: usize, block: u64) -> bool
 
 // The values of the pins in a block of assignments: assignment n gives pin p bit p of n.
 fn pin_words(block: u64) -> [u64; 16]
-    requires { block < 1024 }
     ensures { (p k : ℕ) → p < 16 → k < 64 → bit k (slice_index result p) ≡ bit p (block * 64 + k) }
 {
     let mut words = [0; 16];
@@ -64,8 +62,7 @@ fn pin_words(block: u64) -> [u64; 16]
 }
 
 fn pin_word(block: u64, pin: usize) -> u64
-    requires block { block < 1024 }
-    requires pin { pin < 16 }
+    requires { pin < 16 }
     ensures { (k : ℕ) → k < 64 → bit k result ≡ bit pin (block * 64 + k) }
 {
     if pin < 6 {

@@ -11,12 +11,6 @@ first_name-requires c =
     let f = faultless c.args.tokens.now c.args.lines.now c.requires.text c.requires.lines c.in_ok-pins.ensures.1 in
     subst (λ (s : List Token). begins_with is_name s ≡ true) (sym f.whole) refl
 
-pub between-requires : goal.between-requires
-between-requires c =
-    let f = faultless c.args.tokens.now c.args.lines.now c.requires.text c.requires.lines c.in_ok-pins.ensures.1 in
-    let long : length c.args.tokens.now ≡ length f.inner + 3 = (inner_at c.args.tokens.now f.inner f.output f.whole).0 in
-    omega arith
-
 pub expression-requires-clause-fits : goal.expression-requires-clause-fits
 expression-requires-clause-fits c =
     let f = faultless c.args.tokens.now c.args.lines.now c.requires.text c.requires.lines c.in_ok-pins.ensures.1 in

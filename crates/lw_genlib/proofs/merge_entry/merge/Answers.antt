@@ -78,12 +78,6 @@ returns-clause-kept c = λ yes.
     (subst (IsForm (length c.args.cell.now.pins)) (sym j.read) j.is_form)
     (subst (HaveOneTruth (first_expr c.args.cell.now.forms)) (sym j.read) (subst (λ (e : Expr). HaveOneTruth e c.in_ok-form.form) first (c.if-not-have_one_truth.ensures.0 refl)))
 
-pub between-requires : goal.between-requires
-between-requires c =
-    let f = c.entry.invariant.function in
-    let at = inner_at c.deref.result.now f.inner c.entry.inside.function.output (c.deref.ensures.value ∙ f.whole) in
-    omega (arith, at.0)
-
 pub expression-requires-clause-fits : goal.expression-requires-clause-fits
 expression-requires-clause-fits c =
     let f = c.entry.invariant.function in

@@ -8,7 +8,7 @@ use Rattle.lw_genlib.proofs.parsing.+expression.Goals as goal
 use Rattle.lw_genlib.proofs.parsing.+expression.Goals.{product-then-factors-gt1+in_ok-push, product-else-factors-gt1, sum-then-products-gt1+in_ok-push, sum-else-products-gt1}
 
 pub atom-returns-in-Some : goal.atom-returns-in-Some
-atom-returns-in-Some t c = grouped c.args.pins.now c.args.depth _ _ c.args.tokens.now c.in-Some.inner.now c.in_ok-rest.rest.now _ c.in-Some.ensures.some c.in_ok-rest.ensures c.behind_group.ensures
+atom-returns-in-Some t c = grouped c.args.pins.now c.args.depth _ _ c.args.tokens.now c.in-Some.inner.now c.in_ok-rest.rest.now _ c.in-Some.ensures c.in_ok-rest.ensures c.behind_group.ensures
 
 pub atom-returns : goal.atom-returns
 atom-returns t c = named c.args.pins.now c.args.depth _ _ c.args.tokens.now _ c.first_name.result.0.now c.literal_of.result c.first_name.ensures c.requires.fits c.literal_of.ensures c.in_ok-push.ensures.items
@@ -29,9 +29,9 @@ product-loop-behind-init t c = product_begins c.args.pins.now c.args.depth c.arg
 
 pub product-factor-requires-in-Some : goal.product-factor-requires-in-Some
 product-factor-requires-in-Some t c =
-    let short = next_shorter c.loop-behind.rest.now c.in-Some.behind.now c.in-Some.ensures.some in
+    let short = next_shorter c.loop-behind.rest.now c.in-Some.behind.now c.in-Some.ensures in
     let next = within c.args.depth c.args.tokens.now c.loop-behind.invariant.read c.loop-behind.rest.now c.in-Some.behind.now c.loop-behind.invariant.whole (omega (arith, c.loop-behind.invariant.positive, c.loop-behind.invariant.few)) c.requires.few c.requires.short
-    (next_goes_on c.args.depth c.loop-behind.rest.now c.in-Some.behind.now c.in-Some.ensures.some c.loop-behind.invariant.left) short.0 short.1 in
+    (next_goes_on c.args.depth c.loop-behind.rest.now c.in-Some.behind.now c.in-Some.ensures c.loop-behind.invariant.left) short.0 short.1 in
     (omega arith, (next.ok, (next.few, (next.room, c.requires.pins))))
 
 pub product-overflow_add-factors : goal.product-overflow_add-factors
@@ -40,26 +40,26 @@ product-overflow_add-factors t c =
     search rules
 
 pub product-loop-behind-preserved : goal.product-loop-behind-preserved
-product-loop-behind-preserved t c = product_goes_on c.args.pins.now c.args.depth c.args.tokens.now _ c.loop-behind.rest.now c.in-Some.behind.now _ _ _ _ c.loop-behind.invariant c.in-Some.ensures.some c.in_ok-rest-2.ensures
+product-loop-behind-preserved t c = product_goes_on c.args.pins.now c.args.depth c.args.tokens.now _ c.loop-behind.rest.now c.in-Some.behind.now _ _ _ _ c.loop-behind.invariant c.in-Some.ensures c.in_ok-rest-2.ensures
 
 pub product-returns : goal.product-returns
 product-returns t c =
     product_ends c.args.pins.now c.args.depth c.args.tokens.now _ c.args.ops.now.items c.loop-behind.ops.items c.if-factors-gt1.ops.items c.loop-behind.factors c.loop-behind.invariant
     (λ alone. elim c.if-factors-gt1.branch [ product-then-factors-gt1+in_ok-push w ↦ absurd (omega arith) | product-else-factors-gt1 w ↦ ap (λ (v : Vec ExprOp). v.items) w.ops-is ])
     (λ many. elim c.if-factors-gt1.branch [ product-then-factors-gt1+in_ok-push w ↦ ap (λ (v : Vec ExprOp). v.items) w.ops-is ∙ w.in_ok-push.ensures.items | product-else-factors-gt1 w ↦ absurd (omega arith) ])
-    (product_stops c.loop-behind.rest.now c.loop-behind.invariant.stops c.in_default.ensures.none)
+    (product_stops c.loop-behind.rest.now c.loop-behind.invariant.stops c.in_default.ensures)
 
 pub quoted-loop-behind-preserved : goal.quoted-loop-behind-preserved
-quoted-loop-behind-preserved t c = quoted c.args.pins.now c.args.depth _ _ _ c.in_ok-push.ensures.items c.args.tokens.now c.loop-behind.rest.now _ c.loop-behind.invariant c.in-Some.ensures.some
+quoted-loop-behind-preserved t c = quoted c.args.pins.now c.args.depth _ _ _ c.in_ok-push.ensures.items c.args.tokens.now c.loop-behind.rest.now _ c.loop-behind.invariant c.in-Some.ensures
 
 pub sum-loop-behind-init : goal.sum-loop-behind-init
 sum-loop-behind-init t c = sum_begins c.args.pins.now c.args.depth c.args.tokens.now _ _ _ c.in_ok-rest.ensures
 
 pub sum-product-requires-in-Some : goal.sum-product-requires-in-Some
 sum-product-requires-in-Some t c =
-    let short = plus_shorter c.loop-behind.rest.now c.in-Some.behind.now c.in-Some.ensures.some in
+    let short = plus_shorter c.loop-behind.rest.now c.in-Some.behind.now c.in-Some.ensures in
     let next = within c.args.depth c.args.tokens.now c.loop-behind.invariant.read c.loop-behind.rest.now c.in-Some.behind.now c.loop-behind.invariant.whole (omega (arith, c.loop-behind.invariant.positive, c.loop-behind.invariant.few)) c.requires.few c.requires.short
-    (plus_goes_on c.args.depth c.loop-behind.rest.now c.in-Some.behind.now c.in-Some.ensures.some c.loop-behind.invariant.left) short.0 short.1 in
+    (plus_goes_on c.args.depth c.loop-behind.rest.now c.in-Some.behind.now c.in-Some.ensures c.loop-behind.invariant.left) short.0 short.1 in
     (omega arith, (next.ok, (next.few, (next.room, c.requires.pins))))
 
 pub sum-overflow_add-products : goal.sum-overflow_add-products
@@ -68,11 +68,11 @@ sum-overflow_add-products t c =
     search rules
 
 pub sum-loop-behind-preserved : goal.sum-loop-behind-preserved
-sum-loop-behind-preserved t c = sum_goes_on c.args.pins.now c.args.depth c.args.tokens.now _ c.loop-behind.rest.now c.in-Some.behind.now _ _ _ _ c.loop-behind.invariant c.in-Some.ensures.some c.in_ok-rest-2.ensures
+sum-loop-behind-preserved t c = sum_goes_on c.args.pins.now c.args.depth c.args.tokens.now _ c.loop-behind.rest.now c.in-Some.behind.now _ _ _ _ c.loop-behind.invariant c.in-Some.ensures c.in_ok-rest-2.ensures
 
 pub sum-returns : goal.sum-returns
 sum-returns t c =
     sum_ends c.args.pins.now c.args.depth c.args.tokens.now _ c.args.ops.now.items c.loop-behind.ops.items c.if-products-gt1.ops.items c.loop-behind.products c.loop-behind.invariant
     (λ alone. elim c.if-products-gt1.branch [ sum-then-products-gt1+in_ok-push w ↦ absurd (omega arith) | sum-else-products-gt1 w ↦ ap (λ (v : Vec ExprOp). v.items) w.ops-is ])
     (λ many. elim c.if-products-gt1.branch [ sum-then-products-gt1+in_ok-push w ↦ ap (λ (v : Vec ExprOp). v.items) w.ops-is ∙ w.in_ok-push.ensures.items | sum-else-products-gt1 w ↦ absurd (omega arith) ])
-    (sum_stops c.loop-behind.rest.now c.loop-behind.invariant.stops c.in_default.ensures.none)
+    (sum_stops c.loop-behind.rest.now c.loop-behind.invariant.stops c.in_default.ensures)

@@ -12,7 +12,7 @@ pub returns-in-Ok : goal.returns-in-Ok
 returns-in-Ok c =
     answer-of c.library_in.result (library_by (resume c.args.state (text_end c.args.last ∷ []))) c.in-Ok.so_far.cells
     (end-at_piece c.args.state c.in-Piece.entry c.args.last c.in-Piece.is ∙ cells-ended c.args.state.so_far c.in-Ok.so_far c.in-Piece.entry c.in-Ok.ensures)
-    c.library_in.ensures.cells c.library_in.ensures.memory
+    c.library_in.ensures
 
 pub returns-in-Err : goal.returns-in-Err
 returns-in-Err c =
@@ -23,7 +23,7 @@ pub returns-in-Latch : goal.returns-in-Latch
 returns-in-Latch c =
     answer-of c.library_in-in-Latch.result (library_by (resume c.args.state (text_end c.args.last ∷ []))) c.args.state.so_far.cells
     (end-at_latch c.args.state c.args.last c.in-Latch.is (sym (ap (λ (b : CellsSoFar). b.entry) c.so_far.view_is)))
-    c.library_in-in-Latch.ensures.cells c.library_in-in-Latch.ensures.memory
+    c.library_in-in-Latch.ensures
 
 pub returns-in_default : goal.returns-in_default
 returns-in_default c = end-inside c.args.state c.args.last c.in_default.not-Piece c.in_default.not-Latch
