@@ -50,10 +50,10 @@ unfolding text_from
 long-at so_far (expect.Piece e) n rest = long-piece (with_open so_far e) n rest
 long-at so_far expect.Latch n rest = ap (outcome_from so_far) (long-latch n rest) ∙ (piece-again so_far (long_line n ∷ rest) ∙ long-piece so_far n rest)
 long-at so_far (expect.Name gate) n rest = refl
-long-at so_far (expect.Area gate name) n rest = refl
+long-at so_far (expect.Area gate) n rest = refl
 long-at so_far (expect.Function header text) n rest = refl
 long-at so_far (expect.Pin e) n rest = refl
-long-at so_far (expect.Field e pins field delay) n rest = refl
+long-at so_far (expect.Field e pin field) n rest = refl
 
 pub long-resume : (state : ReaderState) (n : ℕ) (rest : List StreamItem) → resume state (long_line n ∷ rest) ≡ faulty (Line n LongWord)
 unfolding resume
@@ -80,10 +80,10 @@ unfolding text_from
 none-at so_far (expect.Piece e) = none-piece (with_open so_far e)
 none-at so_far expect.Latch = ap (outcome_from so_far) none-latch ∙ (piece-again so_far [] ∙ none-piece so_far)
 none-at so_far (expect.Name gate) = refl
-none-at so_far (expect.Area gate name) = refl
+none-at so_far (expect.Area gate) = refl
 none-at so_far (expect.Function header text) = refl
 none-at so_far (expect.Pin e) = refl
-none-at so_far (expect.Field e pins field delay) = refl
+none-at so_far (expect.Field e pin field) = refl
 
 pub none-resume : (state : ReaderState) → resume state [] ≡ nothing
 unfolding resume
@@ -123,10 +123,10 @@ unfolding text_from
 end-others so_far (expect.Piece e) n piece latch = absurd (piece e refl)
 end-others so_far expect.Latch n piece latch = absurd (latch refl)
 end-others so_far (expect.Name gate) n piece latch = refl
-end-others so_far (expect.Area gate name) n piece latch = refl
+end-others so_far (expect.Area gate) n piece latch = refl
 end-others so_far (expect.Function header text) n piece latch = refl
 end-others so_far (expect.Pin e) n piece latch = refl
-end-others so_far (expect.Field e pins field delay) n piece latch = refl
+end-others so_far (expect.Field e pin field) n piece latch = refl
 
 pub end-inside : (state : ReaderState) (n : ℕ) → ((e : Option Entry) → state.expect ≡ expect.Piece e → ⊥) → (state.expect ≡ expect.Latch → ⊥) → library_by (resume state (text_end n ∷ [])) ≡ Err (Line n Expected)
 unfolding resume

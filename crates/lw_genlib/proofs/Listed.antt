@@ -150,7 +150,7 @@ pub ended-fault : (so_far : CellsSoFar) (entry : Entry) (fault : LibFault) → T
 ended-fault so_far entry (Line line kind) is = ap with_cells is
 ended-fault so_far entry Memory is = tt
 
-pub ended-answer : (so_far : CellsSoFar) (o : Option Entry) (entry : Entry) (r : Result CellsSoFar LibFault) → o ≡ Some entry → MatchResult r (λ (new : CellsSoFar). merged so_far.cells entry ≡ Ok new.cells) (TellsErr (merged so_far.cells entry))
-    → IfOk r (λ (new : CellsSoFar). new.entry ≡ None) → MatchResult r (λ (new : CellsSoFar). entry_ended (with_open so_far o) ≡ Ok new) (TellsErr (entry_ended (with_open so_far o)))
-ended-answer so_far o entry (Ok new) is said whole = ap (λ (p : Option Entry). entry_ended (with_open so_far p)) is ∙ ended-some so_far new entry said whole
-ended-answer so_far o entry (Err fault) is said whole = subst (λ (p : Option Entry). TellsErr (entry_ended (with_open so_far p)) fault) (sym is) (ended-fault so_far entry fault said)
+pub ended-answer : (so_far : CellsSoFar) (entry : Entry) (r : Result CellsSoFar LibFault) → MatchResult r (λ (new : CellsSoFar). merged so_far.cells entry ≡ Ok new.cells) (TellsErr (merged so_far.cells entry))
+    → IfOk r (λ (new : CellsSoFar). new.entry ≡ None) → MatchResult r (λ (new : CellsSoFar). entry_ended (with_open so_far (Some entry)) ≡ Ok new) (TellsErr (entry_ended (with_open so_far (Some entry))))
+ended-answer so_far entry (Ok new) said whole = ended-some so_far new entry said whole
+ended-answer so_far entry (Err fault) said whole = ended-fault so_far entry fault said

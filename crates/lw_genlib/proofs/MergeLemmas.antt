@@ -1,6 +1,6 @@
 -- Cells and libraries with one more form or cell.
 use Rattle.std.proofs.Common.{ℕ, ◌+◌, ◌≡◌, ◌<◌, Bool, true, false, ◌||◌, if◌then◌else◌, Some, List, [], ◌∷◌, ◌++◌, length, get_or, set, refl, ap, sym, ◌∙◌, subst, arith, length-append}
-use Rattle.std.specs.Prelude.{sum_by, Contains, Result, Ok, Err, OnOk, OnErr}
+use Rattle.std.specs.Prelude.{sum_by, Contains, Result, Ok, Err, MatchResult}
 use Rattle.std.specs.List.{list_any, IsDistinct}
 use Rattle.std.specs.Str.{bytes_eq}
 use Rattle.std.proofs.lemmas.List.{get_or_append_left, map-append}
@@ -111,9 +111,9 @@ cells-merged cells entries place cell form h room below is kept = record {
         omega (arith, both, same, forms)
 
 -- what holds of both answers of a push
-pub push-either : {E : Type 0} (r : Result (Unit {0}) E) (new old more : List Expr) (P : List Expr → Type 0) → OnOk r (new ≡ more) → OnErr r (new ≡ old) → P more → P old → P new
-push-either (Ok u) new old more P ok err pm po = subst P (sym ok) pm
-push-either (Err e) new old more P ok err pm po = subst P (sym err) po
+pub push-either : {E : Type 0} (r : Result (Unit {0}) E) (new old more : List Expr) (P : List Expr → Type 0) → MatchResult r (λ _. new ≡ more) (λ _. new ≡ old) → P more → P old → P new
+push-either (Ok u) new old more P is pm po = subst P (sym is) pm
+push-either (Err e) new old more P is pm po = subst P (sym is) po
 
 pub no-cells : AreCells [] 0
 unfolding IsDistinct

@@ -12,7 +12,8 @@ use Rattle.lw_genlib.specs.declared.fault.LibFault.{LibFault}
 use Rattle.lw_genlib.specs.declared.fault.LibFault.TheVariants.{Line, Memory}
 use Rattle.lw_genlib.specs.declared.state_parts.Expect.{Expect}
 use Rattle.lw_genlib.specs.declared.state_parts.Expect.TheVariants as expect
-use Rattle.lw_genlib.specs.Cells.{CellParts, form_count}
+use Rattle.lw_genlib.specs.declared.state_parts.PinDelay.{PinDelay}
+use Rattle.lw_genlib.specs.Cells.{form_count}
 use Rattle.lw_genlib.specs.Fields.{fields_behind, fields_from}
 use Rattle.lw_genlib.specs.Streams.{StreamItem, word_on, Reading, done, broken, and_then, with_rest, on_line}
 use Rattle.lw_genlib.specs.Entries.{FunctionText, Entry, text_from, with_word, with_end, is_end, left_over, entry_begun, cell_name, number_of, behind_name, behind_words, behind_target, target_of, pins_of, pin_fields, no_delay, with_delay, delay_behind, delay_from, larger}
@@ -31,10 +32,10 @@ breaks line kind r is = ap (λ (x : Reading CellsSoFar). (reads_on (piece_by x))
 
 -- Words behind a pin's name.
 
-pub field-next : (so_far : CellsSoFar) (entry : Entry) (pins : Target) (field following : Field) (delay : Micro) (rest : List StreamItem) → fields_from (Some following) ≡ fields_behind field
-    → reads_on (piece_at so_far (expect.Field entry pins following delay) rest) ≡ reads_on (piece_by (opened_by (with_open so_far (Some entry)) (behind_target entry pins (fields_behind field) delay rest)))
-field-next so_far entry pins field following delay rest is =
-    ap (λ (fields : List Field). reads_on (piece_by (opened_by (with_open so_far (Some entry)) (behind_target entry pins fields delay rest)))) is
+pub field-next : (so_far : CellsSoFar) (entry : Entry) (pin : PinDelay) (field following : Field) (rest : List StreamItem) → fields_from (Some following) ≡ fields_behind field
+    → reads_on (piece_at so_far (expect.Field entry pin following) rest) ≡ reads_on (piece_by (opened_by (with_open so_far (Some entry)) (behind_target entry pin.pins (fields_behind field) pin.delay rest)))
+field-next so_far entry pin field following rest is =
+    ap (λ (fields : List Field). reads_on (piece_by (opened_by (with_open so_far (Some entry)) (behind_target entry pin.pins fields pin.delay rest)))) is
 
 pub field-last : (so_far : CellsSoFar) (entry more : Entry) (pins : Target) (field : Field) (delay : Micro) (rest : List StreamItem) → fields_from None ≡ fields_behind field → more ≡ with_delay entry pins delay
     → reads_on (piece_at so_far (expect.Piece (Some more)) rest) ≡ reads_on (piece_by (opened_by (with_open so_far (Some entry)) (behind_target entry pins (fields_behind field) delay rest)))
@@ -56,18 +57,6 @@ ended-behind so_far new line bytes rest is = ap (λ (r : Result CellsSoFar LibFa
 
 pub ended-fault : (so_far : CellsSoFar) (line : ℕ) (bytes : List ℕ) (rest : List StreamItem) (at : ℕ) (kind : LibKind) → entry_ended so_far ≡ Err (Line at kind) → entry_behind so_far line bytes rest ≡ broken (Line at kind)
 ended-fault so_far line bytes rest at kind is = ap (λ (r : Result CellsSoFar LibFault). go_on_with r (entry_on line bytes rest)) is
-
-ended-cells : (r : Result (List CellParts) LibFault) (new : CellsSoFar) → with_cells r ≡ Ok new → new.entry ≡ None
-ended-cells (Ok cells) new is = sym (ap was_open is)
-  where
-    was_open : Result CellsSoFar LibFault → Option Entry
-    was_open (Ok so_far) = so_far.entry
-    was_open (Err fault) = None
-ended-cells (Err fault) new is = cc
-
--- the cells so far where an entry is at its end have no entry
-pub ended-so_far : (so_far new : CellsSoFar) → entry_ended so_far ≡ Ok new → new.entry ≡ None
-ended-so_far so_far new is = ended-cells (merged_with so_far.cells so_far.entry) new is
 
 pub latch-begins : (so_far : CellsSoFar) (line : ℕ) (bytes : List ℕ) (rest : List StreamItem) → is_word (codes "LATCH") bytes ≡ true → entry_on line bytes rest so_far ≡ done so_far (behind_latch rest)
 latch-begins so_far line bytes rest is =

@@ -21,12 +21,12 @@ abbrev pub piece_at : library.CellsSoFar → Expect → List StreamItem → libr
 piece_at so_far (expect.Piece e) stream = library.piece (library.with_open so_far e) stream
 piece_at so_far expect.Latch stream = library.next so_far (library.behind_latch stream)
 piece_at so_far (expect.Name gate) stream = library.piece_by (library.gate_on so_far gate stream)
-piece_at so_far (expect.Area gate name) stream = library.piece_by (library.opened_by so_far (entry.behind_name gate name stream))
+piece_at so_far (expect.Area gate) stream = library.piece_by (library.opened_by so_far (entry.behind_name gate.line gate.name stream))
 piece_at so_far (expect.Function header text) stream =
     library.piece_by (library.opened_by so_far (entry.behind_words header.line header.name header.area text stream))
 piece_at so_far (expect.Pin e) stream = library.piece_by (library.pin_on (library.with_open so_far (Some e)) e stream)
-piece_at so_far (expect.Field e pins field delay) stream =
-    library.piece_by (library.opened_by (library.with_open so_far (Some e)) (entry.behind_target e pins (field ∷ fields_behind field) delay stream))
+piece_at so_far (expect.Field e pin field) stream =
+    library.piece_by (library.opened_by (library.with_open so_far (Some e)) (entry.behind_target e pin.pins (field ∷ fields_behind field) pin.delay stream))
 
 -- what comes of a piece and those behind it
 abbrev pub reads_on : library.Piece → library.Outcome

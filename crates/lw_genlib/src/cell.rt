@@ -30,7 +30,7 @@ impl Model for Cell {
 }
 
 impl Cell {
-    ghost use Rattle.std.specs.Prelude.{◌≡◌, length, OnOk, OnErr};
+    ghost use Rattle.std.specs.Prelude.{◌≡◌, length, MatchResult};
     ghost use Rattle.lw_genlib.specs.Cells.{IsCell, IsForm, HaveOneTruth, cell_value};
     ghost use Rattle.lw_genlib.specs.Postfix.{first_expr};
     ghost use Rattle.lw_genlib.specs.Merging.{with_form};
@@ -120,8 +120,8 @@ impl Cell {
     pub(crate) fn add_form(&mut self, form: Expr) -> Result<(), AllocError>
         requires form { IsForm (length self.old.pins) form }
         requires one_truth { HaveOneTruth (first_expr self.old.forms) form }
-        ensures ok { OnOk result (self.new ≡ with_form self.old form) }
-        ensures err { OnErr result (self.new ≡ self.old) }
+        ensures { MatchResult result (λ _. self.new ≡ with_form self.old form)
+            (λ _. self.new ≡ self.old) }
     {
         self.forms.push(form)
     }

@@ -1,5 +1,5 @@
 // The cells of the entries that are at their end.
-ghost use Rattle.std.specs.Prelude.{◌≡◌, ◌<◌, MatchResult, Ok, Some, None, IfOk, IfSome, OnOk, ◌++◌, [], ◌∷◌, length, true, false};
+ghost use Rattle.std.specs.Prelude.{◌≡◌, ◌<◌, MatchResult, Ok, Some, None, IfOk, OnOk, ◌++◌, [], ◌∷◌, length, true, false};
 ghost use Rattle.std.specs.List.{list_any, IsDistinct};
 ghost use Rattle.std.specs.Str.{bytes_eq};
 ghost use Rattle.lw_genlib.specs.Cells.{CellParts, IsCell, IsListed, form_count};
@@ -10,6 +10,7 @@ ghost use Rattle.lw_genlib.specs.Tells.{TellsErr};
 
 use crate::entry::delays;
 use crate::merge_entry::{merge, place_of};
+use crate::reader_state::{CellsWithRoom, OpenCells};
 use crate::state_parts::{CellsSoFar, Entry};
 use crate::{Cell, Exprs, LibFault, LibKind};
 use lw_fixed::Micros;
@@ -26,31 +27,31 @@ pub(crate) fn no_cells(alloc: Global) -> CellsSoFar
 }
 
 /// The cells so far with the entry, if there is one, at its end.
-pub(crate) fn end_entry(
-    alloc: Global,
-    so_far: CellsSoFar,
-    entry: Option<Entry>,
-) -> Result<CellsSoFar, LibFault>
-    requires { IfSome entry (λ e. HasRoom so_far.cells) }
+pub(crate) fn end_entry(alloc: Global, read: OpenCells) -> Result<CellsSoFar, LibFault>
     ensures { MatchResult result
-        (λ new. library.entry_ended (library.with_open so_far entry) ≡ Ok new)
-        (TellsErr (library.entry_ended (library.with_open so_far entry))) }
+        (λ new. library.entry_ended (library.with_open read.so_far read.entry) ≡ Ok new)
+        (TellsErr (library.entry_ended (library.with_open read.so_far read.entry))) }
 {
+    let OpenCells { so_far, entry } = read;
     // Brings in what the type of `so_far` keeps.
     let _ = &so_far.cells;
     match entry {
         None => Ok(so_far),
-        Some(entry) => close_entry(alloc, so_far, entry),
+        Some(entry) => close_entry(alloc, CellsWithRoom { so_far }, entry),
     }
 }
 
-fn close_entry(alloc: Global, so_far: CellsSoFar, entry: Entry) -> Result<CellsSoFar, LibFault>
-    requires { HasRoom so_far.cells }
-    ensures cells { MatchResult result
-        (λ new. merging.merged so_far.cells entry ≡ Ok new.cells)
-        (TellsErr (merging.merged so_far.cells entry)) }
-    ensures whole { IfOk result (λ new. new.entry ≡ None) }
+/// The cells so far with the entry at its end.
+pub(crate) fn close_entry(
+    alloc: Global,
+    before: CellsWithRoom,
+    entry: Entry,
+) -> Result<CellsSoFar, LibFault>
+    ensures { MatchResult result
+        (λ new. library.entry_ended (library.with_open before.so_far (Some entry)) ≡ Ok new)
+        (TellsErr (library.entry_ended (library.with_open before.so_far (Some entry)))) }
 {
+    let CellsWithRoom { so_far } = before;
     let Ok(found) = delays(alloc, &entry.named, entry.every) else {
         drop(entry);
         drop(so_far);

@@ -1,14 +1,13 @@
 // Entries of cells.
 ghost use Rattle.std.specs.Prelude.{◌≡◌, ◌<◌, ⊤, MatchResult, MatchOption, IfOk, true, false, None, Ok, length, replicate, map};
 ghost use Rattle.std.specs.List.{list_any};
-ghost use Rattle.lw_genlib.specs.Cells.{IsSmall};
 ghost use Rattle.lw_genlib.specs.Entries as words;
 ghost use Rattle.lw_genlib.specs.Merging as merging;
 ghost use Rattle.lw_genlib.specs.Tells.{TellsErr};
 
 use crate::function::function_of;
 use crate::function_text::with_end;
-use crate::state_parts::{Entry, FunctionText, GateHeader};
+use crate::state_parts::{Entry, FunctionText, GateHeader, PinDelay};
 use crate::{LibFault, Target};
 use lw_fixed::{Micro, Micros};
 use lw_pool::Name;
@@ -52,16 +51,15 @@ fn no_delays(alloc: Global, pins: usize) -> Result<Vec<Option<Micro>>, AllocErro
 }
 
 /// The entry with one more delay: of pins of one kind the last wins.
-pub(crate) fn with_delay(entry: Entry, target: Target, delay: Micro) -> Entry
-    requires { IsSmall delay }
-    ensures { result ≡ words.with_delay entry target delay }
+pub(crate) fn with_delay(entry: Entry, pin: PinDelay) -> Entry
+    ensures { result ≡ words.with_delay entry pin.pins pin.delay }
 {
     let mut entry = entry;
-    match target {
-        Target::Every => entry.every = Some(delay),
+    match pin.pins {
+        Target::Every => entry.every = Some(pin.delay),
         Target::One(place) => {
             if let Some(own) = entry.named.get_mut(place) {
-                *own = Some(delay);
+                *own = Some(pin.delay);
             }
         }
     }

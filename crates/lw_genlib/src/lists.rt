@@ -1,4 +1,4 @@
-ghost use Rattle.std.specs.Prelude.{◌≡◌, ◌<◌, ◌++◌, [], ◌∷◌, length, OnOk, OnErr, Some, slice_get};
+ghost use Rattle.std.specs.Prelude.{◌≡◌, ◌<◌, ◌++◌, [], ◌∷◌, length, MatchResult, Some, slice_get};
 
 use crate::Expr;
 use std::alloc::{AllocError, Global};
@@ -62,8 +62,8 @@ impl Exprs {
 
     /// Appends an entry. For want of memory nothing is changed.
     pub fn push(&mut self, item: Expr) -> Result<(), AllocError>
-        ensures ok { OnOk result (self.new ≡ self.old ++ item ∷ []) }
-        ensures err { OnErr result (self.new ≡ self.old) }
+        ensures { MatchResult result (λ _. self.new ≡ self.old ++ item ∷ [])
+            (λ _. self.new ≡ self.old) }
     {
         self.items.push(item)?;
         Ok(())

@@ -10,7 +10,7 @@ ghost use Rattle.lw_words.specs.Limits.{longest_word};
 
 use crate::cells_so_far::{end_entry, no_cells};
 use crate::read_word::read_word;
-use crate::reader_state::ReaderState;
+use crate::reader_state::{OpenCells, ReaderState};
 use crate::state_parts::{CellsSoFar, Expect};
 use crate::{LibFault, LibKind, Library};
 use lw_words::{Line, Words};
@@ -160,7 +160,7 @@ fn finish(alloc: Global, last: u32, state: ReaderState) -> Result<Library, LibFa
     // Brings in what the type of `so_far` keeps.
     let _ = &so_far.cells;
     match expect {
-        Expect::Piece(entry) => match end_entry(alloc, so_far, entry) {
+        Expect::Piece(entry) => match end_entry(alloc, OpenCells { so_far, entry }) {
             Ok(so_far) => library_in(alloc, so_far),
             Err(fault) => Err(fault),
         },

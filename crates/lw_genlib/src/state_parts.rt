@@ -27,6 +27,14 @@ impl Model for FunctionText {
     ghost invariant = { λ t. IsOpenText t.tokens.items t.lines.items t.room };
 }
 
+/// The words of an entry up to its name.
+#[derive(Drop)]
+pub(crate) struct GateName {
+    pub(crate) line: u32,
+    pub(crate) name: Name,
+    ghost word: { IsWord longest_word name },
+}
+
 /// What stands before the function of an entry.
 #[derive(Drop)]
 pub(crate) struct GateHeader {
@@ -86,6 +94,14 @@ impl Model for CellsSoFar {
     ghost invariant = { λ b. AreCells b.cells.items b.entries };
 }
 
+/// The pins that a name means, and the larger of their delays so far.
+#[derive(Drop)]
+pub(crate) struct PinDelay {
+    pub(crate) pins: Target,
+    pub(crate) delay: Micro,
+    ghost small: { IsSmall delay },
+}
+
 /// What is read next.
 #[derive(Drop)]
 pub(crate) enum Expect {
@@ -96,11 +112,11 @@ pub(crate) enum Expect {
     /// The name of a cell, by the line of its entry.
     Name(u32),
     /// The area.
-    Area(u32, Name),
+    Area(GateName),
     /// More words of the function.
     Function(GateHeader, FunctionText),
     /// The name of a pin.
     Pin(Entry),
     /// A word behind it.
-    Field(Entry, Target, Field, Micro),
+    Field(Entry, PinDelay, Field),
 }

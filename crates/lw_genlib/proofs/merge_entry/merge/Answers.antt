@@ -65,7 +65,7 @@ returns-clause-form c = λ yes.
     c.as_slice.result.now c.between.result.now c.deref.result.now c.pins.result.now c.in_ok-form.form
     c.entry.invariant.function c.entry.invariant.delays (ap (λ (w : words.Entry). w.tokens) c.entry.view_is) (ap (λ (w : words.Entry). w.named) c.entry.view_is)
     (c.as_slice.ensures ∙ c.requires.delays) c.pins.ensures.kept c.requires.pins_differ c.if-not-is_alike.ensures c.between.ensures c.deref.ensures.value c.pins.ensures.pins c.in_ok-form.ensures in
-    c.in_ok-add_form.ensures.ok ∙ ap (merging.with_form c.args.cell.now) (sym j.read)
+    c.in_ok-add_form.ensures ∙ ap (merging.with_form c.args.cell.now) (sym j.read)
 
 pub returns-clause-kept : goal.returns-clause-kept
 returns-clause-kept c = λ yes.

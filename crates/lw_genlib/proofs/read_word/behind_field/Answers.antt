@@ -12,10 +12,10 @@ pub returns : goal.returns
 unfolding resume
 returns c = λ rest.
     elim c.match-next.branch [
-      | in-Some w ↦ subst (λ (p : Expect). reads_on (piece_at c.args.so_far p rest)
-          ≡ reads_on (library.piece_by (library.opened_by (library.with_open c.args.so_far (Some c.args.entry)) (words.behind_target c.args.entry c.args.pins (fields_behind c.args.field) c.args.delay rest)))) (sym w.expect-is)
-          (field-next c.args.so_far c.args.entry c.args.pins c.args.field w.in-Some.next c.args.delay rest w.in-Some.ensures)
-      | in-None w ↦ subst (λ (p : Expect). reads_on (piece_at c.args.so_far p rest)
-          ≡ reads_on (library.piece_by (library.opened_by (library.with_open c.args.so_far (Some c.args.entry)) (words.behind_target c.args.entry c.args.pins (fields_behind c.args.field) c.args.delay rest)))) (sym w.expect-is)
-          (field-last c.args.so_far c.args.entry w.with_delay.result c.args.pins c.args.field c.args.delay rest w.in-None.ensures w.with_delay.ensures)
+      | in-Some w ↦ subst (λ (p : Expect). reads_on (piece_at c.args.before.so_far p rest)
+          ≡ reads_on (library.piece_by (library.opened_by (library.with_open c.args.before.so_far (Some c.args.entry)) (words.behind_target c.args.entry c.args.pin.pins (fields_behind c.args.field) c.args.pin.delay rest)))) (sym w.expect-is)
+          (field-next c.args.before.so_far c.args.entry c.args.pin c.args.field w.in-Some.next rest w.in-Some.ensures)
+      | in-None w ↦ subst (λ (p : Expect). reads_on (piece_at c.args.before.so_far p rest)
+          ≡ reads_on (library.piece_by (library.opened_by (library.with_open c.args.before.so_far (Some c.args.entry)) (words.behind_target c.args.entry c.args.pin.pins (fields_behind c.args.field) c.args.pin.delay rest)))) (sym w.expect-is)
+          (field-last c.args.before.so_far c.args.entry w.with_delay.result c.args.pin.pins c.args.field c.args.pin.delay rest w.in-None.ensures w.with_delay.ensures)
     ]

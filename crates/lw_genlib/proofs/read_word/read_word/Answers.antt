@@ -35,8 +35,8 @@ returns-in-Name c = λ rest.
 
 pub returns-in-Area : goal.returns-in-Area
 returns-in-Area c = λ rest.
-    word-at c.read_area.result (λ (p : ReaderState). resume p rest) c.args.state (expect.Area c.in-Area.gate c.in-Area.name) (word_on c.args.line c.args.word.now ∷ rest)
-    (reads_on (library.piece_by (library.opened_by c.args.state.so_far (words.behind_name c.in-Area.gate c.in-Area.name (word_on c.args.line c.args.word.now ∷ rest)))))
+    word-at c.read_area.result (λ (p : ReaderState). resume p rest) c.args.state (expect.Area c.in-Area.gate) (word_on c.args.line c.args.word.now ∷ rest)
+    (reads_on (library.piece_by (library.opened_by c.args.state.so_far (words.behind_name c.in-Area.gate.line c.in-Area.gate.name (word_on c.args.line c.args.word.now ∷ rest)))))
     c.in-Area.is refl (c.read_area.ensures rest)
 
 pub returns-in-Function : goal.returns-in-Function
@@ -53,6 +53,6 @@ returns-in-Pin c = λ rest.
 
 pub returns-in-Field : goal.returns-in-Field
 returns-in-Field c = λ rest.
-    word-at c.read_field.result (λ (p : ReaderState). resume p rest) c.args.state (expect.Field c.in-Field.entry c.in-Field.pins c.in-Field.field c.in-Field.delay) (word_on c.args.line c.args.word.now ∷ rest)
-    (reads_on (library.piece_by (library.opened_by (library.with_open c.args.state.so_far (Some c.in-Field.entry)) (words.behind_target c.in-Field.entry c.in-Field.pins (c.in-Field.field ∷ fields_behind c.in-Field.field) c.in-Field.delay (word_on c.args.line c.args.word.now ∷ rest)))))
+    word-at c.read_field.result (λ (p : ReaderState). resume p rest) c.args.state (expect.Field c.in-Field.entry c.in-Field.pin c.in-Field.field) (word_on c.args.line c.args.word.now ∷ rest)
+    (reads_on (library.piece_by (library.opened_by (library.with_open c.args.state.so_far (Some c.in-Field.entry)) (words.behind_target c.in-Field.entry c.in-Field.pin.pins (c.in-Field.field ∷ fields_behind c.in-Field.field) c.in-Field.pin.delay (word_on c.args.line c.args.word.now ∷ rest)))))
     c.in-Field.is refl (c.read_field.ensures rest)

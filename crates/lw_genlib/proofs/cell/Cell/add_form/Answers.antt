@@ -11,7 +11,7 @@ invariant_of-self c =
     let kept : IsCell now = c.self.invariant in
     push-either c.push.result c.push.new.self c.self.inside.forms (c.self.inside.forms ++ c.args.form ∷ [])
     (λ (fs : List Expr). IsCell (record { name = c.self.inside.name; area = c.self.inside.area; output = c.self.inside.output; pins = c.self.inside.pins; delays = c.self.inside.delays; forms = fs }))
-    c.push.ensures.ok c.push.ensures.err
+    c.push.ensures
     (cell-with_form now c.args.form kept
     (subst (λ (cell : CellParts). IsForm (length cell.pins) c.args.form) (sym c.self.view_is) c.requires.form)
     (subst (λ (cell : CellParts). HaveOneTruth (first_expr cell.forms) c.args.form) (sym c.self.view_is) c.requires.one_truth))
