@@ -1,8 +1,7 @@
 // The trees of an expression.
-ghost use Rattle.std.specs.Prelude.{◌≡◌, ◌-◌, ◌≤◌, ◌++◌, ◌∷◌, [], vec_len, length, map, take, drop, All, OnOk, IfOk};
+ghost use Rattle.std.specs.Prelude.{◌≡◌, ◌-◌, ◌≤◌, ◌++◌, ◌∷◌, [], vec_len, length, map, take, drop, OnOk, IfOk};
 ghost use Rattle.lw_genlib.specs.Postfix.{arity, stepped, run, postfix};
 ghost use Rattle.lw_laws.specs.Patterns.{trees_of_expr, inverted};
-ghost use Rattle.lw_pattern.specs.Nodes.{node_count};
 ghost use Rattle.lw_pattern.specs.Steps.{law_operator};
 ghost use Rattle.lw_pattern.specs.Growing.{joined_by, trees_by, first_trees, IsWideStep};
 
@@ -19,9 +18,7 @@ const MOST_TREES: u8 = 64;
 /// The trees of an expression: with all bracketings, or with the left chains alone where these are
 /// too many.
 pub(crate) fn trees(alloc: Global, form: &Expr) -> Result<Shapes, AllocError>
-    ensures trees { IfOk result (λ trees. trees ≡ trees_of_expr form.now) }
-    ensures few_nodes { IfOk result
-        (λ trees. All (λ t. node_count t ≤ 254) (trees_of_expr form.now)) }
+    ensures { IfOk result (λ trees. trees ≡ trees_of_expr form.now) }
 {
     if bracketing_count(alloc, form)? <= MOST_TREES {
         grown(alloc, Bracketing::Every, form)
@@ -31,9 +28,7 @@ pub(crate) fn trees(alloc: Global, form: &Expr) -> Result<Shapes, AllocError>
 }
 
 fn grown(alloc: Global, way: Bracketing, form: &Expr) -> Result<Shapes, AllocError>
-    ensures trees { IfOk result (λ trees. run (trees_by way) (postfix form.now) [] ≡ trees ∷ []) }
-    ensures few_nodes { IfOk result
-        (λ trees. All (λ t. node_count t ≤ 254) (trees_of_expr form.now)) }
+    ensures { IfOk result (λ trees. run (trees_by way) (postfix form.now) [] ≡ trees ∷ []) }
 {
     let mut stack = Vec::new(alloc);
     for op in form.ops() {

@@ -59,6 +59,8 @@ fn push_form(
     ensures { OnOk result (items.new.items ≡ items.old.items
         ++ map listed (map (pattern_of_cell id.0) (trees_of_expr form.now))) }
 {
+    // Brings in what the type of `form` keeps.
+    let _ = form.ops();
     for tree in trees(alloc, form)?.as_slice() {
         items.push(Pattern {
             cell: id,

@@ -3,7 +3,6 @@ use Rattle.lw_genlib.specs.declared.op.ExprOp.TheVariants.{Const}
 use Rattle.lw_genlib.specs.Postfix.{arity, postfix, stepped}
 use Rattle.lw_pattern.specs.Growing.{IsWideStep, trees_by}
 use Rattle.lw_pattern.proofs.Running.{first_alone, next_is, next_takes, next_wide, starts, whole_long, whole_run, can_grow_whole}
-use Rattle.lw_pattern.proofs.Sizes.{all_few_nodes}
 use Rattle.lw_pattern.proofs.growing.grown.Goals as goal
 
 pub loop-op-init : goal.loop-op-init
@@ -38,12 +37,9 @@ swap_remove-requires c =
     let long = whole_long (trees_by c.args.way) (postfix c.args.form.now) c.loop-op.op-index c.loop-op.stack.items c.loop-op.invariant past in
     omega arith
 
-pub returns-clause-trees : goal.returns-clause-trees
-returns-clause-trees c =
+pub returns : goal.returns
+returns c =
     let past = subst (λ os. length os ≤ c.loop-op.op-index) c.ops-op-items.ensures.steps (omega arith) in
     let long = whole_long (trees_by c.args.way) (postfix c.args.form.now) c.loop-op.op-index c.loop-op.stack.items c.loop-op.invariant past in
     let all = whole_run (trees_by c.args.way) (postfix c.args.form.now) c.loop-op.op-index c.loop-op.stack.items c.loop-op.invariant past in
     all ∙ first_alone c.loop-op.stack.items c.swap_remove.result long c.swap_remove.ensures.value
-
-pub returns-clause-few_nodes : goal.returns-clause-few_nodes
-returns-clause-few_nodes c = all_few_nodes c.args.form.now c.ops-op-items.ensures.wide c.ops-op-items.ensures.few
