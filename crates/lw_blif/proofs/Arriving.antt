@@ -1,5 +1,5 @@
 -- Arrival lines.
-use Rattle.std.proofs.Common.{ℕ, ◌≡◌, ◌+◌, ◌<◌, ◌≤◌, arith, Bool, true, false, not, ◌&&◌, cond, List, [], ◌∷◌, ◌++◌, length, take, drop, Option, Some, None, Result, Ok, Err, refl, ap, sym, ◌∙◌}
+use Rattle.std.proofs.Common.{ℕ, ◌≡◌, ◌+◌, ◌<◌, ◌≤◌, ◌⊎◌, inl, inr, arith, Bool, true, false, not, ◌&&◌, cond, List, [], ◌∷◌, ◌++◌, length, take, drop, Option, Some, None, Result, Ok, Err, refl, ap, sym, ◌∙◌, subst}
 use Rattle.std.specs.Prelude.{slice_get, nat_le, ◌==◌}
 use Rattle.std.proofs.lemmas.Bool.Decides.{nat_tests}
 use Rattle.std.specs.List.{list_all}
@@ -10,29 +10,43 @@ use Rattle.lw_blif.specs.declared.command.Command.{Command}
 use Rattle.lw_blif.specs.declared.command.Command.TheVariants.{Model, Inputs, Outputs, Names, Arrival, DefaultArrival, End, Ignored, Unsupported, Unknown, Row}
 use Rattle.lw_blif.specs.declared.fault.BlifKind.{BlifKind}
 use Rattle.lw_blif.specs.declared.fault.BlifKind.TheVariants as kind
-use Rattle.lw_blif.specs.LineFaults.{first_broken, other_words, wants_words, names_for, times_for, start_in, start_rules, arrival_rules}
+use Rattle.lw_blif.specs.LineFaults.{first_broken, other_words, wants_words, names_for, times_for, times_place, is_arrival_command, start_in, start_rules, arrival_rules}
 use Rattle.lw_blif.specs.Drafts.{arrival_of, arrivals_for, latch_of, latches_for}
 use Rattle.lw_pool.specs.declared.latch.Latch.{Latch}
 use Rattle.lw_blif.specs.declared.command.Command.TheVariants as asks
 use Rattle.std.proofs.lemmas.Bool.{and_parts, eqb-true}
 use Rattle.lw_facts.proofs.Lists.{drop_get}
 use Rattle.lw_blif.specs.Readers.{start_or_kind, start_said_on}
-use Rattle.lw_blif.specs.Keeping.{IsArrivalLine}
 use Rattle.lw_words.specs.Words.{first_word, is_name}
 
-pub arrival-left : (c : Command) → IsArrivalLine c → (c ≡ Arrival → ⊥) → c ≡ DefaultArrival
-arrival-left Arrival is other = absurd (other refl)
-arrival-left DefaultArrival is other = refl
-arrival-left Model is other = absurd is
-arrival-left Inputs is other = absurd is
-arrival-left Outputs is other = absurd is
-arrival-left Names is other = absurd is
-arrival-left asks.Latch is other = absurd is
-arrival-left End is other = absurd is
-arrival-left Ignored is other = absurd is
-arrival-left Unsupported is other = absurd is
-arrival-left Unknown is other = absurd is
-arrival-left Row is other = absurd is
+arrival-cases : (c : Command) → is_arrival_command c ≡ true → (c ≡ Arrival) ⊎ (c ≡ DefaultArrival)
+arrival-cases Arrival is = inl refl
+arrival-cases DefaultArrival is = inr refl
+arrival-cases Model is = cc
+arrival-cases Inputs is = cc
+arrival-cases Outputs is = cc
+arrival-cases Names is = cc
+arrival-cases asks.Latch is = cc
+arrival-cases End is = cc
+arrival-cases Ignored is = cc
+arrival-cases Unsupported is = cc
+arrival-cases Unknown is = cc
+arrival-cases Row is = cc
+
+pub arrival-left : (c : Command) → is_arrival_command c ≡ true → (c ≡ Arrival → ⊥) → c ≡ DefaultArrival
+arrival-left c is other = by_cases (arrival-cases c is)
+  where
+    by_cases : (c ≡ Arrival) ⊎ (c ≡ DefaultArrival) → c ≡ DefaultArrival
+    by_cases (inl e) = absurd (other e)
+    by_cases (inr e) = e
+
+-- the times of an arrival line
+pub times-drop : (c : Command) (words : List (List ℕ)) → is_arrival_command c ≡ true → times_for c words ≡ drop (times_place c) words
+times-drop c words is = by_cases (arrival-cases c is)
+  where
+    by_cases : (c ≡ Arrival) ⊎ (c ≡ DefaultArrival) → times_for c words ≡ drop (times_place c) words
+    by_cases (inl e) = ap (λ d. times_for d words) e ∙ ap (λ d. drop (times_place d) words) (sym e)
+    by_cases (inr e) = ap (λ d. times_for d words) e ∙ ap (λ d. drop (times_place d) words) (sym e)
 
 pub start-words : (words : List (List ℕ)) (from : ℕ) (rise fall : List ℕ) → slice_get words from ≡ Some rise → slice_get words (from + 1) ≡ Some fall → start_in (drop from words) ≡ start_said rise fall
 start-words words from rise fall e f = ap start_in (drop_get words from rise e) ∙ ap (λ ws. start_in (rise ∷ ws)) (drop_get words (from + 1) fall f)
@@ -133,9 +147,39 @@ model-long c words e w = at (length words) (ap (λ d. wants_words d words) (sym 
     at : (n : ℕ) → (n == 2) ≡ true → 2 ≤ n
     at n h = omega (arith, eqb-true n 2 h)
 
+pub times-within : (c : Command) (words : List (List ℕ)) → is_arrival_command c ≡ true → wants_words c words ≡ true → times_place c + 1 < length words
+times-within c words is w = by_cases (arrival-cases c is)
+  where
+    by_cases : (c ≡ Arrival) ⊎ (c ≡ DefaultArrival) → times_place c + 1 < length words
+    by_cases (inl e) = subst (λ d. times_place d + 1 < length words) (sym e) (own-within c words e w)
+    by_cases (inr e) = subst (λ d. times_place d + 1 < length words) (sym e) (every-within c words e w)
+
 pub own-long : (c : Command) (words : List (List ℕ)) → c ≡ Arrival → wants_words c words ≡ true → 1 < length words
 own-long c words e w = omega (arith, own-within c words e w)
 
 -- the latch that a line says
 pub latches-line : (c : Command) (words : List (List ℕ)) (latches new : List Latch) (latch : Latch) → c ≡ asks.Latch → latch_of (drop 1 words) ≡ latch ∷ [] → new ≡ latches ++ latch ∷ [] → new ≡ latches ++ latches_for c (other_words words)
 latches-line c words latches new latch e is grown = grown ∙ ap (λ l. latches ++ l) (sym (ap (λ d. latches_for d (other_words words)) e ∙ is))
+
+-- A start that is said: the line has its words, and the times say it.
+module _ (c : Command) (words : List (List ℕ)) (start : Micro) (said : start_said_on c words ≡ Ok start) where
+  pub said-wanted : wants_words c words ≡ true
+  said-wanted = by_test (wants_words c words) refl
+    where
+      by_test : (b : Bool) → wants_words c words ≡ b → b ≡ true
+      by_test true e = refl
+      by_test false e = let no : ◌≡◌ {A = Result Micro BlifKind} (Err kind.WordCount) (Ok start) = sym (said-count c words e) ∙ said in cc
+
+  named : list_all is_name (names_for c words) ≡ true
+  named = by_test (list_all is_name (names_for c words)) refl
+    where
+      by_test : (b : Bool) → list_all is_name (names_for c words) ≡ b → b ≡ true
+      by_test true e = refl
+      by_test false e = let no : ◌≡◌ {A = Result Micro BlifKind} (Err kind.BadName) (Ok start) = sym (said-names c words said-wanted e) ∙ said in cc
+
+  pub said-times : start_in (times_for c words) ≡ Ok start
+  said-times = by_result (start_in (times_for c words)) (sym (said-start c words said-wanted named) ∙ said)
+    where
+      by_result : (r : Result Micro DecimalFault) → start_or_kind r ≡ Ok start → r ≡ Ok start
+      by_result (Ok m) e = let same : m ≡ start = cc in ap (λ n. Ok n) same
+      by_result (Err fault) e = let no : ◌≡◌ {A = Result Micro BlifKind} (Err (kind.Decimal fault)) (Ok start) = e in cc

@@ -25,7 +25,7 @@ use Rattle.lw_words.specs.Words.{first_word}
 
 -- Starts
 
-words_early : (words : List (List ℕ)) (m : Micro) → start_in words ≡ Ok m → IsEarly m
+pub words_early : (words : List (List ℕ)) (m : Micro) → start_in words ≡ Ok m → IsEarly m
 words_early [] m e = cc
 words_early (rise ∷ []) m e = cc
 words_early (rise ∷ fall ∷ words) m e = said_early rise fall m e

@@ -150,6 +150,11 @@ pub record ReadsArrival (old : Parts) (c : Command) (words : List (List ℕ)) (n
   pub latches : new.latches ≡ old.latches
   pub arrivals : (said : List starts.Arrival) → StandsFor old.arrivals said → StandsFor new.arrivals (said ++ arrivals_for c words)
 
+-- An arrival line is read, or the first rule that it breaks is told.
+pub record ReadsArrivalLine (old : Parts) (c : Command) (words : List (List ℕ)) (new : Parts) (told : Option BlifKind) : Type 0 where
+  pub fault : told ≡ arrival_fault c words
+  pub arrival : told ≡ None → ReadsArrival old c words new
+
 -- This is what lines say.
 pub record IsSaidBy (lines : List LogicalLine) (said : Said) : Type 0 where
   pub draft : said.draft ≡ draft_of lines

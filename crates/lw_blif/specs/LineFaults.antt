@@ -167,6 +167,12 @@ name_rules defined c words =
     ∷ record { broken = nat_lt most_signals (length defined + length (defined_for c words)); kind = kind.LimitSignals }
     ∷ record { broken = has_twice (defined_for c words) || list_any (is_among defined) (defined_for c words); kind = kind.Redefined } ∷ []
 
+-- a command for an arrival line
+abbrev pub is_arrival_command : Command → Bool
+is_arrival_command Arrival = true
+is_arrival_command DefaultArrival = true
+is_arrival_command other = false
+
 -- what a command asks of the number of words
 abbrev pub wants_words : Command → List (List ℕ) → Bool
 wants_words Model words = length words == 2
@@ -181,6 +187,11 @@ abbrev pub times_for : Command → List (List ℕ) → List (List ℕ)
 times_for Arrival words = drop 2 words
 times_for DefaultArrival words = drop 1 words
 times_for other words = []
+
+-- where they begin
+abbrev pub times_place : Command → ℕ
+times_place Arrival = 2
+times_place other = 1
 
 -- the start that the first two of these words say
 abbrev pub start_in : List (List ℕ) → Result Micro DecimalFault

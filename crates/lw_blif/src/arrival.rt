@@ -1,28 +1,22 @@
 // Lines that say when inputs arrive.
-ghost use Rattle.std.specs.Prelude.{◌≡◌, ◌+◌, ◌<◌, ◌++◌, true, List, ℕ, Ok, length, drop, IfOk, OnOk};
-ghost use Rattle.lw_frame.specs.Starts.{IsEarly};
+ghost use Rattle.std.specs.Prelude.{◌≡◌, ◌++◌, List, Ok, OnOk};
 ghost use Rattle.lw_frame.specs.Starts as starts;
 ghost use Rattle.lw_frame.specs.Standing.{StandsFor};
-ghost use Rattle.lw_blif.specs.LineFaults.{wants_words, times_for, start_in};
+ghost use Rattle.lw_blif.specs.LineFaults.{times_place};
 ghost use Rattle.lw_blif.specs.Drafts.{arrivals_for};
 ghost use Rattle.lw_blif.specs.Readers.{start_said_on};
-ghost use Rattle.lw_blif.specs.Keeping.{IsArrivalLine};
 
+use crate::lengths::ArrivalLine;
 use crate::rules::{has_names, wants_words};
 use crate::{BlifKind, Command};
-use lw_fixed::{DecimalFault, Micro};
+use lw_fixed::Micro;
 use lw_frame::{Arrivals, read_start};
 use lw_pool::Name;
-use lw_words::Words;
 use std::alloc::{AllocError, Global};
 
 // Where the words for the times begin.
 fn times_at(command: Command) -> usize
-    requires { IsArrivalLine command }
-    ensures times { (words : List (List ℕ)) → times_for command words ≡ drop result words }
-    ensures small { result < 3 }
-    ensures within { (words : List (List ℕ)) → wants_words command words ≡ true →
-        result + 1 < length words }
+    ensures { result ≡ times_place command }
 {
     match command {
         Command::Arrival => 2,
@@ -30,32 +24,19 @@ fn times_at(command: Command) -> usize
     }
 }
 
-// The start that the words from a place on say.
-fn start_in(words: &Words, from: usize) -> Result<Micro, DecimalFault>
-    requires small { from < 3 }
-    requires within { from + 1 < length words.now }
-    ensures start { result ≡ start_in (drop from words.now) }
-    ensures early { IfOk result IsEarly }
-{
-    read_start(words.get(from), words.get(from + 1))
-}
-
 /// The start that an arrival line says, or the first rule that it breaks.
-pub fn start_on(command: Command, words: &Words) -> Result<Micro, BlifKind>
-    requires { IsArrivalLine command }
-    ensures start { result ≡ start_said_on command words.now }
-    ensures wanted { IfOk result (λ start. wants_words command words.now ≡ true) }
-    ensures said { IfOk result (λ start. start_in (times_for command words.now) ≡ Ok start) }
-    ensures early { IfOk result IsEarly }
+pub fn start_on(line: &ArrivalLine) -> Result<Micro, BlifKind>
+    ensures { result ≡ start_said_on line.now.command line.now.words.now }
 {
-    if !wants_words(command, words) {
+    let words = line.words;
+    if !wants_words(line.command, words) {
         return Err(BlifKind::WordCount);
     }
-    if !has_names(command, words) {
+    if !has_names(line.command, words) {
         return Err(BlifKind::BadName);
     }
-    let from = times_at(command);
-    match start_in(words, from) {
+    let from = times_at(line.command);
+    match read_start(words.get(from), words.get(from + 1)) {
         Ok(start) => Ok(start),
         Err(fault) => Err(BlifKind::Decimal(fault)),
     }
@@ -65,20 +46,16 @@ pub fn start_on(command: Command, words: &Words) -> Result<Micro, BlifKind>
 pub fn add_start(
     alloc: Global,
     arrivals: &mut Arrivals,
-    command: Command,
-    words: &Words,
+    line: &ArrivalLine,
     start: Micro,
 ) -> Result<(), AllocError>
-    requires arrival { IsArrivalLine command }
-    requires wanted { wants_words command words.now ≡ true }
-    requires said { start_in (times_for command words.now) ≡ Ok start }
-    requires early { IsEarly start }
+    requires { start_said_on line.now.command line.now.words.now ≡ Ok start }
     ensures { OnOk result ((lines : List starts.Arrival) → StandsFor arrivals.old lines →
-        StandsFor arrivals.new (lines ++ arrivals_for command words.now)) }
+        StandsFor arrivals.new (lines ++ arrivals_for line.now.command line.now.words.now)) }
 {
-    match command {
+    match line.command {
         Command::Arrival => {
-            let name = Name::from_slice(alloc, words.get(1))?;
+            let name = Name::from_slice(alloc, line.words.get(1))?;
             arrivals.set(name, start)?;
         }
         _ => arrivals.set_every(start),

@@ -1,6 +1,6 @@
-// Lines that have as many words as their commands want.
+// Lines that have as many words as their commands want, and lines of some commands.
 ghost use Rattle.std.specs.Prelude.{◌≡◌, ◌≤◌, true, length};
-ghost use Rattle.lw_blif.specs.LineFaults.{wants_words};
+ghost use Rattle.lw_blif.specs.LineFaults.{is_arrival_command, wants_words};
 
 use crate::Command;
 use lw_words::Words;
@@ -25,4 +25,12 @@ pub struct LongLine<'a> {
 pub struct LatchLine<'a> {
     pub words: &'a Words,
     ghost long: { 3 ≤ length words.now },
+}
+
+/// The words of an arrival line.
+#[derive(Drop)]
+pub struct ArrivalLine<'a> {
+    pub command: Command,
+    pub words: &'a Words,
+    ghost arrival: { is_arrival_command command ≡ true },
 }

@@ -7,7 +7,7 @@ use crate::defining::{
     add_all, add_latch, append_all, begin_node, define_all, define_one, name_or_second,
 };
 use crate::drafting::{Said, add_and_count, names_around, starts_of, with_last};
-use crate::lengths::{LatchLine, LongLine, NamesLine};
+use crate::lengths::{ArrivalLine, LatchLine, LongLine, NamesLine};
 use crate::naming::last_word;
 use crate::rows::row_fault;
 use crate::rules::names_fault;
@@ -43,7 +43,7 @@ impl Parts {
     ghost use Rattle.std.specs.Prelude.{unwrap_or, codes};
     ghost use Rattle.lw_frame.specs.Frames.{input_names};
     ghost use Rattle.lw_net.specs.Plain.{HasRisingDepths};
-    ghost use Rattle.lw_blif.specs.Keeping.{Keeps, IsSaidOf, IsArrivalLine, ReadsArrival, arrival_fault, IsOfSome, ReadsRow, DefinesNew, EndsNode, TakesNames, TakesModel, ReadsNamesLine};
+    ghost use Rattle.lw_blif.specs.Keeping.{Keeps, IsSaidOf, IsOfSome, ReadsRow, ReadsArrivalLine, DefinesNew, EndsNode, TakesNames, TakesModel, ReadsNamesLine};
     ghost use Rattle.lw_blif.specs.LineFaults.{command, defined_for, line_fault};
 
     pub fn new(alloc: Global) -> Self
@@ -154,8 +154,20 @@ impl Parts {
             Command::Unknown => Ok(Some(BlifKind::UnknownCommand)),
             Command::Unsupported => Ok(Some(BlifKind::Unsupported)),
             Command::Ignored => Ok(None),
-            Command::Arrival => self.read_arrival(Command::Arrival, words),
-            Command::DefaultArrival => self.read_arrival(Command::DefaultArrival, words),
+            Command::Arrival => {
+                let one = ArrivalLine {
+                    command: Command::Arrival,
+                    words,
+                };
+                self.read_arrival(&one)
+            }
+            Command::DefaultArrival => {
+                let every = ArrivalLine {
+                    command: Command::DefaultArrival,
+                    words,
+                };
+                self.read_arrival(&every)
+            }
             Command::End => unreachable!(),
             _ => self.read_names(asked, words),
         }
@@ -175,21 +187,15 @@ impl Parts {
     }
 
     // An arrival line, or the first rule that it breaks.
-    fn read_arrival(
-        &mut self,
-        command: Command,
-        words: &Words,
-    ) -> Result<Option<BlifKind>, AllocError>
-        requires { IsArrivalLine command }
-        ensures fault { IfOk result (λ fault. fault ≡ arrival_fault command words.now) }
-        ensures arrival { IfOk result (λ fault. fault ≡ None →
-            ReadsArrival self.old command words.now self.new) }
+    fn read_arrival(&mut self, line: &ArrivalLine) -> Result<Option<BlifKind>, AllocError>
+        ensures { IfOk result (ReadsArrivalLine self.old line.now.command line.now.words.now
+            self.new) }
     {
-        match start_on(command, words) {
+        match start_on(line) {
             Err(kind) => Ok(Some(kind)),
             Ok(start) => {
                 self.end_node()?;
-                add_start(self.alloc, &mut self.arrivals, command, words, start)?;
+                add_start(self.alloc, &mut self.arrivals, line, start)?;
                 Ok(None)
             }
         }

@@ -70,8 +70,8 @@ returns-in-Arrival-clause-fault c = λ lines k.
     let words = ap (λ (l : LogicalLine). l.words) c.line.view_is in
     let short = sym (ap (λ (l : LogicalLine). l.long) c.line.view_is) ∙ c.if-line.false in
     IfOk-weaker c.read_arrival.result _ _
-    (λ fault is. arrival-fault lines c.args.line.now asks.Arrival fault tt (sym c.in-Arrival.is ∙ c.requires.asked) short (is ∙ ap (arrival_fault asks.Arrival) words))
-    c.read_arrival.ensures.fault
+    (λ fault is. arrival-fault lines c.args.line.now asks.Arrival fault tt (sym c.in-Arrival.is ∙ c.requires.asked) short (is.fault ∙ ap (arrival_fault asks.Arrival) words))
+    c.read_arrival.ensures
 
 pub returns-in-Arrival-clause-keeps : goal.returns-in-Arrival-clause-keeps
 returns-in-Arrival-clause-keeps c = λ lines k.
@@ -79,16 +79,16 @@ returns-in-Arrival-clause-keeps c = λ lines k.
     IfOk-weaker c.read_arrival.result _ _
     (λ fault reads none.
     arrival-keeps c.args.self.now c.read_arrival.new.self lines c.args.line.now asks.Arrival tt (sym c.in-Arrival.is ∙ c.requires.asked)
-    (subst (λ (ws : List (List ℕ)). ReadsArrival c.args.self.now asks.Arrival ws c.read_arrival.new.self) words (reads none)) k)
-    c.read_arrival.ensures.arrival
+    (subst (λ (ws : List (List ℕ)). ReadsArrival c.args.self.now asks.Arrival ws c.read_arrival.new.self) words (reads.arrival none)) k)
+    c.read_arrival.ensures
 
 pub returns-in-DefaultArrival-clause-fault : goal.returns-in-DefaultArrival-clause-fault
 returns-in-DefaultArrival-clause-fault c = λ lines k.
     let words = ap (λ (l : LogicalLine). l.words) c.line.view_is in
     let short = sym (ap (λ (l : LogicalLine). l.long) c.line.view_is) ∙ c.if-line.false in
     IfOk-weaker c.read_arrival-in-DefaultArrival.result _ _
-    (λ fault is. arrival-fault lines c.args.line.now asks.DefaultArrival fault tt (sym c.in-DefaultArrival.is ∙ c.requires.asked) short (is ∙ ap (arrival_fault asks.DefaultArrival) words))
-    c.read_arrival-in-DefaultArrival.ensures.fault
+    (λ fault is. arrival-fault lines c.args.line.now asks.DefaultArrival fault tt (sym c.in-DefaultArrival.is ∙ c.requires.asked) short (is.fault ∙ ap (arrival_fault asks.DefaultArrival) words))
+    c.read_arrival-in-DefaultArrival.ensures
 
 pub returns-in-DefaultArrival-clause-keeps : goal.returns-in-DefaultArrival-clause-keeps
 returns-in-DefaultArrival-clause-keeps c = λ lines k.
@@ -96,5 +96,5 @@ returns-in-DefaultArrival-clause-keeps c = λ lines k.
     IfOk-weaker c.read_arrival-in-DefaultArrival.result _ _
     (λ fault reads none.
     arrival-keeps c.args.self.now c.read_arrival-in-DefaultArrival.new.self lines c.args.line.now asks.DefaultArrival tt (sym c.in-DefaultArrival.is ∙ c.requires.asked)
-    (subst (λ (ws : List (List ℕ)). ReadsArrival c.args.self.now asks.DefaultArrival ws c.read_arrival-in-DefaultArrival.new.self) words (reads none)) k)
-    c.read_arrival-in-DefaultArrival.ensures.arrival
+    (subst (λ (ws : List (List ℕ)). ReadsArrival c.args.self.now asks.DefaultArrival ws c.read_arrival-in-DefaultArrival.new.self) words (reads.arrival none)) k)
+    c.read_arrival-in-DefaultArrival.ensures
