@@ -90,8 +90,10 @@ kept-model lines model law is = by_fault (first_fault [] (lines_read lines)) ref
     by_fault (Some first) e h = absurd h
     by_fault None e h = law (draft_of (lines_read lines)) model.network (lines-draft (lines_read lines) e) h.network
 
-pub model-fits : (said : Said) (model : Parsed) → IsDraft said.draft → SaidFits said → input_names model.network ≡ said.draft.inputs → output_names model.network ≡ said.draft.outputs → model.network.inputs ≡ length said.draft.inputs → model.frame ≡ said.frame → model.starts ≡ said.starts → IsModel model
-model-fits said model draft fits ins outs count frame starts = record {
+pub model-fits : (said : Said) (model : Parsed) → IsNetwork model.network → IsDistinct bytes_eq model.network.names → IsDraft said.draft → SaidFits said → input_names model.network ≡ said.draft.inputs → output_names model.network ≡ said.draft.outputs → model.network.inputs ≡ length said.draft.inputs → model.frame ≡ said.frame → model.starts ≡ said.starts → IsModel model
+model-fits said model kept differ draft fits ins outs count frame starts = record {
+  network = kept;
+  names = differ;
   frame =
       subst (λ (f : Frame). Fits f (input_names model.network) (output_names model.network)) (sym frame)
       (subst (λ (l : List (List ℕ)). Fits said.frame l (output_names model.network)) (sym ins) (subst (λ (l : List (List ℕ)). Fits said.frame said.draft.inputs l) (sym outs) fits.frame));

@@ -63,7 +63,7 @@ module _ (lines : List LogicalLine) (model : Parsed) (none : first_fault [] line
   read_fits : IsModel model
   unfolding said
   read_fits =
-      model-fits said model draft fits (closed_inputs (draft_of lines) model.network draft is.network) (closed_outputs (draft_of lines) model.network draft is.network)
+      model-fits said model (closed_kept (draft_of lines) model.network draft is.network) (closed_distinct (draft_of lines) model.network draft is.network) draft fits (closed_inputs (draft_of lines) model.network draft is.network) (closed_outputs (draft_of lines) model.network draft is.network)
       (ap (λ (n : NetworkParts). n.inputs) is.network.network) is.frame is.starts
 
 module _ (lines : List LogicalLine) (model : Parsed) where

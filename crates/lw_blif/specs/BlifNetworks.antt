@@ -4,7 +4,7 @@ use Rattle.lw_words.specs.Lines.{LogicalLine}
 use Rattle.lw_net.specs.declared.draft.Draft.{Draft}
 use Rattle.lw_net.specs.declared.fault.NetFault.{NetFault}
 use Rattle.lw_net.specs.declared.fault.NetFault.TheVariants as whole
-use Rattle.lw_net.specs.Networks.{input_names, output_names}
+use Rattle.lw_net.specs.Networks.{IsNetwork, input_names, output_names}
 use Rattle.lw_net.specs.Closing.{IsClosed, HasFault}
 use Rattle.std.specs.List.{IsDistinct}
 use Rattle.std.specs.Str.{bytes_eq}
@@ -56,8 +56,10 @@ ComesTo None lines result = ClosesTo lines result
 abbrev pub IsBlifNetwork : List LogicalLine → Result Parsed BlifFault → Type 0
 IsBlifNetwork lines result = ComesTo (first_fault [] (lines_read lines)) (lines_read lines) result
 
--- The frame and the starts of a model fit its network, whose inputs differ, and whose outputs do.
+-- The network of a model is one whose names differ, also those of its outputs, and the frame and the starts fit it.
 pub record IsModel (model : Parsed) : Type 0 where
+  pub network : IsNetwork model.network
+  pub names : IsDistinct bytes_eq model.network.names
   pub frame : Fits model.frame (input_names model.network) (output_names model.network)
   pub starts : StartsFit model.frame model.network.inputs model.starts
   pub inputs : IsDistinct bytes_eq (input_names model.network)

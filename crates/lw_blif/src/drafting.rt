@@ -143,9 +143,11 @@ pub fn names_around(
     latches: &Latches,
     roots: &IndexSet<Name>,
 ) -> Result<Around, AllocError>
-    ensures model { IfOk result (λ r. r.model ≡ unwrap_or model (codes "unnamed")) }
-    ensures inputs { IfOk result (λ r. r.inputs ≡ input_names inputs latches.now) }
-    ensures outputs { IfOk result (λ r. r.outputs ≡ roots.now.keys) }
+    ensures { IfOk result (λ r. r ≡ record {
+      model = unwrap_or model (codes "unnamed");
+      inputs = input_names inputs latches.now;
+      outputs = roots.now.keys;
+    }) }
 {
     Ok(Around {
         model: name_or_unnamed(alloc, model)?,

@@ -26,5 +26,7 @@ returns-clause-model c =
     let said = c.in_ok-said.said in
     let closed = c.in_ok-network.ensures.closed in
     let draft = may-close c.args.self said c.requires c.in_ok-said.ensures.said in
-    model-fits said _ draft c.in_ok-said.ensures.fits (c.closed_is_network.ensures.inputs said.draft c.in_ok-network.network draft closed)
+    let net = c.in_ok-network.network in
+    let law = c.closed_is_network.ensures in
+    model-fits said _ (law.network said.draft net draft closed) (law.names said.draft net draft closed) draft c.in_ok-said.ensures.fits (c.closed_is_network.ensures.inputs said.draft c.in_ok-network.network draft closed)
     (c.closed_is_network.ensures.outputs said.draft c.in_ok-network.network draft closed) (ap (λ (n : NetworkParts). n.inputs) closed.network) refl refl
