@@ -1,9 +1,10 @@
 -- Reading expressions from tokens: how what was read grows.
-use Rattle.std.proofs.Common.{ℕ, zero, suc, ◌+◌, ◌-◌, ◌<◌, ◌≤◌, ◌≡◌, ◌^◌, Bool, true, false, not, ◌&&◌, ◌||◌, eqb, List, [], ◌∷◌, ◌++◌, length, refl, sym, ap, ap₂, ◌∙◌, subst, arith, append_assoc, append-nil, length-append, inl, inr, add-one}
+use Rattle.std.proofs.Common.{ℕ, zero, suc, ◌+◌, ◌-◌, ◌<◌, ◌≤◌, ◌≡◌, ◌^◌, Bool, true, false, not, ◌&&◌, ◌||◌, cond, eqb, List, [], ◌∷◌, ◌++◌, length, drop, refl, sym, ap, ap₂, ◌∙◌, subst, arith, append_assoc, append-nil, length-append, inl, inr, add-one}
 use Rattle.std.proofs.lemmas.List.{replicate_more}
 use Rattle.std.proofs.lemmas.Bool.Decides.{nat_tests}
 use Rattle.std.specs.Prelude.{replicate}
-use Rattle.std.proofs.lemmas.Bool.{and_parts, or_from}
+use Rattle.std.specs.List.{prefix_len}
+use Rattle.std.proofs.lemmas.Bool.{and_parts, or_from, eqb-true}
 use Rattle.lw_laws.specs.Expressions.{Expr}
 use Rattle.lw_laws.specs.Expressions.Expr.{expr_not}
 use Rattle.lw_genlib.specs.declared.token.Token.{Token}
@@ -358,6 +359,33 @@ all_complemented pins depth (suc count) operand rest old mid new r grown =
 pub bangs_go_on : (depth count : ℕ) (operand : List Token) → go_on true depth (replicate count bang_token ++ operand) ≡ true → go_on true depth operand ≡ true
 bangs_go_on depth zero operand ok = ok
 bangs_go_on depth (suc count) operand ok = bangs_go_on depth count operand ok
+
+-- the `!` that stand first, and what stands behind them
+
+one_more : (n : ℕ) → suc n ≡ 1 + n
+one_more n = omega arith
+
+pub bangs_whole : (tokens : List Token) → tokens ≡ replicate (prefix_len (is_punct 33) tokens) bang_token ++ drop (prefix_len (is_punct 33) tokens) tokens
+bangs_whole [] = refl
+bangs_whole (Name m ∷ tokens) = refl
+bangs_whole (Punct b ∷ tokens) = at (eqb b 33) refl (bangs_whole tokens)
+  where
+    at : (t : Bool) → eqb b 33 ≡ t → tokens ≡ replicate (prefix_len (is_punct 33) tokens) bang_token ++ drop (prefix_len (is_punct 33) tokens) tokens
+        → Punct b ∷ tokens ≡ replicate (cond t (1 + prefix_len (is_punct 33) tokens) 0) bang_token ++ drop (cond t (1 + prefix_len (is_punct 33) tokens) 0) (Punct b ∷ tokens)
+    at true e others =
+        let bang : b ≡ 33 = eqb-true b 33 e in
+        subst (λ n. Punct b ∷ tokens ≡ replicate n bang_token ++ drop n (Punct b ∷ tokens)) (one_more (prefix_len (is_punct 33) tokens)) (ap₂ (λ m ts. Punct m ∷ ts) bang others)
+    at false e others = refl
+
+pub bangs_stop : (tokens : List Token) → begins_with (is_punct 33) (drop (prefix_len (is_punct 33) tokens) tokens) ≡ false
+bangs_stop [] = refl
+bangs_stop (Name m ∷ tokens) = refl
+bangs_stop (Punct b ∷ tokens) = at (eqb b 33) refl (bangs_stop tokens)
+  where
+    at : (t : Bool) → eqb b 33 ≡ t → begins_with (is_punct 33) (drop (prefix_len (is_punct 33) tokens) tokens) ≡ false
+        → begins_with (is_punct 33) (drop (cond t (1 + prefix_len (is_punct 33) tokens) 0) (Punct b ∷ tokens)) ≡ false
+    at true e others = subst (λ n. begins_with (is_punct 33) (drop n (Punct b ∷ tokens)) ≡ false) (one_more (prefix_len (is_punct 33) tokens)) others
+    at false e others = e
 
 -- What is read next is no longer than what is left.
 pub record IsWithin (depth : ℕ) (tokens next : List Token) : Type 0 where

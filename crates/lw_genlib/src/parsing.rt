@@ -1,12 +1,13 @@
 // Parses an expression from tokens that may stand one after the other.
 ghost use Rattle.std.specs.Prelude.{◌≡◌, ◌+◌, ◌≤◌, ◌^◌, ◌||◌, ◌∷◌, [], true, false, IfOk, OnOk, MatchOption, length, unwrap_or, replicate, ◌++◌};
-ghost use Rattle.std.specs.List.{position};
+ghost use Rattle.std.specs.List.{position, prefix_len};
 ghost use Rattle.std.specs.Str.{bytes_eq};
 ghost use Rattle.lw_genlib.specs.declared.token.Token.TheVariants.{Punct};
 ghost use Rattle.lw_genlib.specs.Grammar as grammar;
 ghost use Rattle.lw_genlib.specs.Grammar.{Reads, IsAtom, IsFactor, SpellsProduct, SpellsSum, go_on, begins_with, names_in};
 ghost use Rattle.lw_genlib.specs.Postfix.{postfix};
 
+use crate::function_check::is_punct;
 use crate::{Expr, ExprOp, Token};
 use lw_pool::Name;
 use std::alloc::{AllocError, Global};
@@ -94,7 +95,8 @@ fn factor<'a>(
         (IsFactor pins.now) grammar.after_factor depth tokens.now rest.now ops.old.items
         ops.new.items) }
 {
-    let (bangs, operand) = without_bangs(tokens);
+    let bangs = bangs_first(tokens);
+    let (_, operand) = tokens.split_at(bangs);
     let rest = quoted(operand, depth, pins, ops)?;
     push_complements(ops, bangs)?;
     Ok(rest)
@@ -191,18 +193,14 @@ fn push_complements(ops: &mut Vec<ExprOp>, count: usize) -> Result<(), AllocErro
     Ok(())
 }
 
-// How many `!` stand first, and what stands behind them.
-fn without_bangs(tokens: &[Token]) -> (usize, &[Token])
-    ensures whole { tokens.now ≡ replicate result.0 (Punct 33) ++ result.1.now }
-    ensures stops { begins_with (grammar.is_punct 33) result.1.now ≡ false }
+// How many `!` stand first.
+fn bangs_first(tokens: &[Token]) -> usize
+    ensures { result ≡ prefix_len (grammar.is_punct 33) tokens.now }
 {
-    let mut bangs = 0;
-    let mut rest = tokens;
-    while let Some(behind) = behind_punct(b'!', rest) {
-        bangs += 1;
-        rest = behind;
-    }
-    (bangs, rest)
+    tokens
+        .iter()
+        .take_while(|token| is_punct(b'!', *token))
+        .count()
 }
 
 fn next_factor(rest: &[Token]) -> Option<&[Token]>

@@ -1,7 +1,11 @@
-use Rattle.std.proofs.Common.{◌≤◌, List, sym, ap, ◌∙◌, subst, arith, rules}
+use Rattle.std.proofs.Common.{◌≡◌, ◌≤◌, ◌++◌, List, length, drop, sym, ap, ◌∙◌, subst, arith, rules}
 use Rattle.lw_genlib.specs.declared.token.Token.{Token}
-use Rattle.lw_genlib.specs.Grammar.{IsFactor, Reads, after_factor}
-use Rattle.lw_genlib.proofs.Spelling.{grouped, named, quoted, all_complemented, atom_is_factor, bangs_within, within, count_fits, plus_shorter, product_begins, product_goes_on, product_ends, product_stops, sum_begins, sum_goes_on, sum_ends, sum_stops, next_goes_on, next_shorter, plus_goes_on}
+use Rattle.std.specs.Prelude.{replicate}
+use Rattle.std.specs.List.{prefix_len}
+use Rattle.std.proofs.lemmas.List.Sums.{prefix_len-le-length}
+use Rattle.lw_genlib.specs.declared.op.ExprOp.TheVariants.{Not}
+use Rattle.lw_genlib.specs.Grammar.{IsFactor, Reads, after_factor, bang_token, begins_with, is_punct}
+use Rattle.lw_genlib.proofs.Spelling.{grouped, named, quoted, all_complemented, atom_is_factor, bangs_whole, bangs_stop, bangs_within, within, count_fits, plus_shorter, product_begins, product_goes_on, product_ends, product_stops, sum_begins, sum_goes_on, sum_ends, sum_stops, next_goes_on, next_shorter, plus_goes_on}
 use Rattle.std.specs.Global.{Vec}
 use Rattle.lw_genlib.specs.declared.op.ExprOp.{ExprOp}
 use Rattle.lw_genlib.proofs.parsing.+expression.Goals as goal
@@ -13,16 +17,23 @@ atom-returns-in-Some t c = grouped c.args.pins.now c.args.depth _ _ c.args.token
 pub atom-returns : goal.atom-returns
 atom-returns t c = named c.args.pins.now c.args.depth _ _ c.args.tokens.now _ c.first_name.result.0.now c.literal_of.result c.first_name.ensures c.requires.fits c.literal_of.ensures c.in_ok-push.ensures.items
 
+pub factor-split_at-requires : goal.factor-split_at-requires
+factor-split_at-requires t c = subst (λ n. n ≤ length c.args.tokens.now) (sym c.bangs_first-bangs.ensures) (prefix_len-le-length (is_punct 33) c.args.tokens.now)
+
 pub factor-quoted-requires : goal.factor-quoted-requires
 factor-quoted-requires t c =
-    let operand = bangs_within c.args.depth c.without_bangs-bangs.result.0 c.args.tokens.now c.without_bangs-bangs.result.1.now c.without_bangs-bangs.ensures.whole c.requires.fits in
-    (omega arith, (operand.0, (c.without_bangs-bangs.ensures.stops, (omega arith, (omega arith, c.requires.pins)))))
+    let behind : c.split_at.result.1.now ≡ drop (prefix_len (is_punct 33) c.args.tokens.now) c.args.tokens.now = c.split_at.ensures.back ∙ ap (λ n. drop n c.args.tokens.now) c.bangs_first-bangs.ensures in
+    let whole : c.args.tokens.now ≡ replicate (prefix_len (is_punct 33) c.args.tokens.now) bang_token ++ c.split_at.result.1.now = bangs_whole c.args.tokens.now ∙ ap (λ s. replicate (prefix_len (is_punct 33) c.args.tokens.now) bang_token ++ s) (sym behind) in
+    let operand = bangs_within c.args.depth (prefix_len (is_punct 33) c.args.tokens.now) c.args.tokens.now c.split_at.result.1.now whole c.requires.fits in
+    (omega arith, (operand.0, (ap (begins_with (is_punct 33)) behind ∙ bangs_stop c.args.tokens.now, (omega arith, (omega arith, c.requires.pins)))))
 
 pub factor-returns : goal.factor-returns
 factor-returns t c =
-    subst (λ (tokens : List Token). Reads (IsFactor c.args.pins.now) after_factor c.args.depth tokens c.in_ok-rest.rest.now c.args.ops.now.items c.push_complements.new.ops.items) (sym c.without_bangs-bangs.ensures.whole)
-    (all_complemented c.args.pins.now c.args.depth c.without_bangs-bangs.result.0 c.without_bangs-bangs.result.1.now c.in_ok-rest.rest.now _ _ _
-    (atom_is_factor c.args.pins.now c.args.depth _ _ _ _ c.in_ok-rest.ensures) c.in_ok-push_complements.ensures)
+    let behind : c.split_at.result.1.now ≡ drop (prefix_len (is_punct 33) c.args.tokens.now) c.args.tokens.now = c.split_at.ensures.back ∙ ap (λ n. drop n c.args.tokens.now) c.bangs_first-bangs.ensures in
+    let whole : c.args.tokens.now ≡ replicate (prefix_len (is_punct 33) c.args.tokens.now) bang_token ++ c.split_at.result.1.now = bangs_whole c.args.tokens.now ∙ ap (λ s. replicate (prefix_len (is_punct 33) c.args.tokens.now) bang_token ++ s) (sym behind) in
+    subst (λ (tokens : List Token). Reads (IsFactor c.args.pins.now) after_factor c.args.depth tokens c.in_ok-rest.rest.now c.args.ops.now.items c.push_complements.new.ops.items) (sym whole)
+    (all_complemented c.args.pins.now c.args.depth (prefix_len (is_punct 33) c.args.tokens.now) c.split_at.result.1.now c.in_ok-rest.rest.now _ _ _
+    (atom_is_factor c.args.pins.now c.args.depth _ _ _ _ c.in_ok-rest.ensures) (c.in_ok-push_complements.ensures ∙ ap (λ n. c.quoted.new.ops.items ++ replicate n Not) c.bangs_first-bangs.ensures))
 
 pub product-loop-behind-init : goal.product-loop-behind-init
 product-loop-behind-init t c = product_begins c.args.pins.now c.args.depth c.args.tokens.now _ _ _ c.in_ok-rest.ensures
