@@ -1,5 +1,5 @@
 // The trees of an expression.
-ghost use Rattle.std.specs.Prelude.{◌≡◌, ◌-◌, ◌≤◌, ◌++◌, ◌∷◌, [], vec_len, length, map, take, drop, OnOk, IfOk};
+ghost use Rattle.std.specs.Prelude.{◌≡◌, ◌-◌, ◌≤◌, ◌++◌, ◌∷◌, [], vec_len, map, take, drop, OnOk, IfOk};
 ghost use Rattle.lw_genlib.specs.Postfix.{arity, stepped, run, postfix};
 ghost use Rattle.lw_laws.specs.Patterns.{trees_of_expr, inverted};
 ghost use Rattle.lw_pattern.specs.Steps.{law_operator};
@@ -103,7 +103,6 @@ fn joined(
     first: Shapes,
     rest: &[Shapes],
 ) -> Result<Shapes, AllocError>
-    requires { 1 ≤ length rest.now }
     ensures { IfOk result (λ trees. trees
         ≡ joined_by way (law_operator operator) (first ∷ rest.now)) }
 {
