@@ -3,7 +3,6 @@ ghost use Rattle.std.specs.Prelude.{◌≡◌, ◌<◌, MatchResult, Ok, Some, N
 ghost use Rattle.std.specs.List.{list_any, IsDistinct};
 ghost use Rattle.std.specs.Str.{bytes_eq};
 ghost use Rattle.lw_genlib.specs.Cells.{CellParts, IsCell, IsListed, form_count};
-ghost use Rattle.lw_genlib.specs.Expects.{HasRoom};
 ghost use Rattle.lw_genlib.specs.Merging as merging;
 ghost use Rattle.lw_genlib.specs.Libraries as library;
 ghost use Rattle.lw_genlib.specs.Tells.{TellsErr};
@@ -51,18 +50,17 @@ pub(crate) fn close_entry(
         (λ new. library.entry_ended (library.with_open before.so_far (Some entry)) ≡ Ok new)
         (TellsErr (library.entry_ended (library.with_open before.so_far (Some entry)))) }
 {
-    let CellsWithRoom { so_far } = before;
     let Ok(found) = delays(alloc, &entry.named, entry.every) else {
         drop(entry);
-        drop(so_far);
+        drop(before);
         return Err(LibFault::Memory);
     };
     match found {
-        Some(delays) => add_cell_or_form(alloc, so_far, entry, delays),
+        Some(delays) => add_cell_or_form(alloc, before, entry, delays),
         None => {
             let line = entry.line;
             drop(entry);
-            drop(so_far);
+            drop(before);
             Err(LibFault::Line(line, LibKind::PinMissing))
         }
     }
@@ -71,25 +69,25 @@ pub(crate) fn close_entry(
 // The cells so far with the entry, whose pins have these delays: a new cell, or one more form.
 fn add_cell_or_form(
     alloc: Global,
-    so_far: CellsSoFar,
+    before: CellsWithRoom,
     entry: Entry,
     delays: Micros,
 ) -> Result<CellsSoFar, LibFault>
-    requires room { HasRoom so_far.cells }
-    requires delays { delays ≡ merging.delays_of entry }
+    requires { delays ≡ merging.delays_of entry }
     ensures cells { MatchResult result
-        (λ new. merging.merged_at so_far.cells entry (merging.place_of so_far.cells entry)
-        ≡ Ok new.cells)
-        (TellsErr (merging.merged_at so_far.cells entry (merging.place_of so_far.cells entry))) }
+        (λ new. merging.merged_at before.so_far.cells entry
+        (merging.place_of before.so_far.cells entry) ≡ Ok new.cells)
+        (TellsErr (merging.merged_at before.so_far.cells entry
+        (merging.place_of before.so_far.cells entry))) }
     ensures whole { IfOk result (λ new. new.entry ≡ None) }
 {
-    match place_of(&so_far.cells, entry.name.as_bytes()) {
+    match place_of(&before.so_far.cells, entry.name.as_bytes()) {
         None => {
-            let so_far = with_new(alloc, so_far, entry, delays)?;
+            let so_far = with_new(alloc, before, entry, delays)?;
             Ok(so_far)
         }
         Some(place) => {
-            let more = with_form(alloc, so_far, place, &entry, &delays);
+            let more = with_form(alloc, before, place, &entry, &delays);
             drop(entry);
             drop(delays);
             more
@@ -100,30 +98,29 @@ fn add_cell_or_form(
 // The cells so far and the cell of an entry of a new name.
 fn with_new(
     alloc: Global,
-    so_far: CellsSoFar,
+    before: CellsWithRoom,
     entry: Entry,
     delays: Micros,
 ) -> Result<CellsSoFar, AllocError>
-    requires room { HasRoom so_far.cells }
     requires delays { delays ≡ merging.delays_of entry }
-    requires new_name { merging.place_of so_far.cells entry ≡ None }
+    requires new_name { merging.place_of before.so_far.cells entry ≡ None }
     ensures { IfOk result (λ new. new
-        ≡ record { cells = so_far.cells ++ merging.cell_of entry ∷ []; entry = None }) }
+        ≡ record { cells = before.so_far.cells ++ merging.cell_of entry ∷ []; entry = None }) }
 {
     let cell = new_cell(alloc, entry, delays)?;
-    with_cell(so_far, cell)
+    with_cell(before, cell)
 }
 
 // The cells so far and one more cell.
-fn with_cell(so_far: CellsSoFar, cell: Cell) -> Result<CellsSoFar, AllocError>
-    requires room { HasRoom so_far.cells }
+fn with_cell(before: CellsWithRoom, cell: Cell) -> Result<CellsSoFar, AllocError>
     requires cell { IsListed cell }
     requires one_form { form_count cell ≡ 1 }
-    requires new_name { list_any (λ (other : CellParts). bytes_eq cell.name other.name) so_far.cells
-        ≡ false }
+    requires new_name { list_any (λ (other : CellParts). bytes_eq cell.name other.name)
+        before.so_far.cells ≡ false }
     ensures { IfOk result (λ new. new
-        ≡ record { cells = so_far.cells ++ cell ∷ []; entry = None }) }
+        ≡ record { cells = before.so_far.cells ++ cell ∷ []; entry = None }) }
 {
+    let CellsWithRoom { so_far } = before;
     let CellsSoFar { mut cells, entries } = so_far;
     cells.push(cell)?;
     Ok(CellsSoFar {
@@ -135,19 +132,19 @@ fn with_cell(so_far: CellsSoFar, cell: Cell) -> Result<CellsSoFar, AllocError>
 // The cells so far, where the cell at an index has the entry's form too.
 fn with_form(
     alloc: Global,
-    so_far: CellsSoFar,
+    before: CellsWithRoom,
     place: usize,
     entry: &Entry,
     delays: &Micros,
 ) -> Result<CellsSoFar, LibFault>
-    requires room { HasRoom so_far.cells }
     requires delays { delays.now ≡ merging.delays_of entry.now }
-    requires place { place < length so_far.cells }
+    requires place { place < length before.so_far.cells }
     ensures cells { MatchResult result
-        (λ new. merging.merged_at so_far.cells entry.now (Some place) ≡ Ok new.cells)
-        (TellsErr (merging.merged_at so_far.cells entry.now (Some place))) }
+        (λ new. merging.merged_at before.so_far.cells entry.now (Some place) ≡ Ok new.cells)
+        (TellsErr (merging.merged_at before.so_far.cells entry.now (Some place))) }
     ensures whole { IfOk result (λ new. new.entry ≡ None) }
 {
+    let CellsWithRoom { so_far } = before;
     let CellsSoFar { mut cells, entries } = so_far;
     match merge_into(alloc, &mut cells[place], entry, delays) {
         Ok(()) => Ok(CellsSoFar {

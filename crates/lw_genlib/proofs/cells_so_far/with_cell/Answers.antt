@@ -10,7 +10,7 @@ use Rattle.lw_genlib.proofs.cells_so_far.with_cell.Goals as goal
 
 pub invariant_of-result : goal.invariant_of-result
 invariant_of-result c =
-    let cells : c.args.so_far.cells ≡ c.so_far.inside.cells.items = sym (ap (λ (b : library.CellsSoFar). b.cells) c.so_far.view_is) in
+    let cells : c.args.before.so_far.cells ≡ c.so_far.inside.cells.items = sym (ap (λ (b : library.CellsSoFar). b.cells) c.so_far.view_is) in
     subst (λ (cs : List CellParts). AreCells cs (c.so_far.inside.entries + 1)) (sym c.in_ok-push.ensures.items)
-    (cells-more c.so_far.inside.cells.items c.so_far.inside.entries c.args.cell c.so_far.invariant (subst HasRoom cells c.requires.room) c.requires.cell c.requires.one_form
+    (cells-more c.so_far.inside.cells.items c.so_far.inside.entries c.args.cell c.so_far.invariant (subst HasRoom cells c.args.before.room) c.requires.cell c.requires.one_form
     (subst (λ (cs : List CellParts). list_any (λ (other : CellParts). bytes_eq c.args.cell.name other.name) cs ≡ false) cells c.requires.new_name))

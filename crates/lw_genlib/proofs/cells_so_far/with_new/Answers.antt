@@ -7,5 +7,5 @@ use Rattle.lw_genlib.proofs.cells_so_far.with_new.Goals as goal
 
 pub with_cell-requires-clause-new_name : goal.with_cell-requires-clause-new_name
 with_cell-requires-clause-new_name c =
-    subst (λ (cell : CellParts). list_any (λ (other : CellParts). bytes_eq cell.name other.name) c.args.so_far.cells ≡ false) (sym c.in_ok-cell.ensures.cell)
-    (no-place (λ (cell : CellParts). bytes_eq c.args.entry.name cell.name) c.args.so_far.cells c.requires.new_name)
+    subst (λ (cell : CellParts). list_any (λ (other : CellParts). bytes_eq cell.name other.name) c.args.before.so_far.cells ≡ false) (sym c.in_ok-cell.ensures.cell)
+    (no-place (λ (cell : CellParts). bytes_eq c.args.entry.name cell.name) c.args.before.so_far.cells c.requires.new_name)
