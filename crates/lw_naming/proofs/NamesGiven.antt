@@ -1,6 +1,9 @@
 -- The names of the gates, one after another.
-use Rattle.std.proofs.Common.{ℕ, suc, ◌+◌, ◌<◌, ◌≤◌, ◌==◌, ◌≡◌, Bool, true, false, if◌then◌else◌, cond, MatchOption, Option, Some, None, List, [], ◌∷◌, ◌++◌, length, drop, get_or, slice_get, refl, ap, sym, ◌∙◌, subst, arith, append_assoc}
-use Rattle.std.proofs.lemmas.List.{get_or_default, length-map}
+use Rattle.std.proofs.Common.{ℕ, suc, ◌+◌, ◌<◌, ◌≤◌, ◌==◌, ◌≡◌, Bool, true, false, if◌then◌else◌, cond, All, MatchOption, Option, Some, None, List, [], ◌∷◌, ◌++◌, length, drop, get_or, slice_get, refl, ap, sym, ◌∙◌, subst, arith, append_assoc}
+use Rattle.std.proofs.Math.Decide.{dec_lt}
+use Rattle.std.proofs.lemmas.Bool.{eqb-true}
+use Rattle.std.proofs.lemmas.List.{get_or_past, length-map}
+use Rattle.std.proofs.lemmas.List.Elements.{All-head, All-tail}
 use Rattle.std.specs.List.{position_from}
 use Rattle.lw_pool.specs.declared.id.ClassId.{ClassId}
 use Rattle.lw_laws.specs.Names.{output_name, gate_names}
@@ -34,9 +37,30 @@ names_by (n ∷ outputs) (r ∷ roots) c first long = by_test (r.0 == c) (later 
     by_test true after = (0, omega arith, omega arith, refl)
     by_test false after = after
 
-module _ (firsts : List (Option ℕ)) (outputs : List Name) (roots : List ClassId) (are : AreFirstPlaces firsts roots) (long : length roots ≡ length outputs) (c : ℕ) (within : c < length firsts) (read : Option ℕ) (at : read ≡ get_or firsts c read) where
+-- past the classes of the roots no class has a place
+nowhere : (roots : List ClassId) (c first n : ℕ) → All (λ (root : ClassId). root.0 < n) roots → n ≤ c → position_from (λ (root : ClassId). root.0 == c) first roots ≡ None
+nowhere [] c first n all high = refl
+nowhere (r ∷ roots) c first n all high =
+    let below : r.0 < n = All-head (λ (root : ClassId). root.0 < n) r roots all in
+    by_test (r.0 == c) (λ e. omega (arith, below, high, eqb-true r.0 c e)) (nowhere roots c (first + 1) n (All-tail (λ (root : ClassId). root.0 < n) r roots all) high)
+  where
+    by_test : (t : Bool) → (t ≡ true → ⊥) → position_from (λ (root : ClassId). root.0 == c) (first + 1) roots ≡ None → cond t (Some first) (position_from (λ (root : ClassId). root.0 == c) (first + 1) roots) ≡ None
+    by_test true apart after = absurd (apart refl)
+    by_test false apart after = after
+
+-- the first places of all classes, by those of the classes of the roots
+pub all_places : (firsts : List (Option ℕ)) (roots : List ClassId) (n : ℕ) → length firsts ≡ n → All (λ (root : ClassId). root.0 < n) roots → ((c : ℕ) → c < n → get_or firsts c None ≡ position_from (λ (root : ClassId). root.0 == c) 0 roots) → AreFirstPlaces firsts roots
+all_places firsts roots n one_each all are c = by_order (dec_lt c n)
+  where
+    by_order : Dec (c < n) → get_or firsts c None ≡ position_from (λ (root : ClassId). root.0 == c) 0 roots
+    by_order (yes below) = are c below
+    by_order (no past) =
+        let high : n ≤ c = omega (arith, past) in
+        get_or_past firsts c None (omega (arith, high, one_each)) ∙ sym (nowhere roots c 0 n all high)
+
+module _ (firsts : List (Option ℕ)) (outputs : List Name) (roots : List ClassId) (are : AreFirstPlaces firsts roots) (long : length roots ≡ length outputs) (c : ℕ) (read : Option ℕ) (at : read ≡ get_or firsts c None) where
   by_read : NamesBy outputs roots c 0 read
-  by_read = subst (NamesBy outputs roots c 0) (sym (at ∙ get_or_default firsts c read None within ∙ are c within)) (names_by outputs roots c 0 long)
+  by_read = subst (NamesBy outputs roots c 0) (sym (at ∙ are c)) (names_by outputs roots c 0 long)
 
   pub no_owner : read ≡ None → output_name outputs (numbers roots) c ≡ None
   no_owner e = subst (NamesBy outputs roots c 0) e by_read

@@ -31,7 +31,7 @@ IsNextFree old name new = (last : ℕ) → 0 < length (still_free old last) → 
 abbrev pub IsGivenOrFree : Option (List ℕ) → FreeNames → List ℕ → FreeNames → Type 0
 IsGivenOrFree given old name new = MatchOption given (IsNextFree old name new) (λ other. (name ≡ other) × (new ≡ old))
 
--- each class below the length of the list has there the first of its places among the roots
+-- each class has there the first of its places among the roots, and past the list no class has one
 abbrev pub AreFirstPlaces : List (Option ℕ) → List ClassId → Type 0
 AreFirstPlaces firsts roots =
-    (c : ℕ) → c < length firsts → slice_index_or firsts c None ≡ position_from (λ (root : ClassId). root.0 == c) 0 roots
+    (c : ℕ) → slice_index_or firsts c None ≡ position_from (λ (root : ClassId). root.0 == c) 0 roots

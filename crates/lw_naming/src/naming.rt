@@ -15,8 +15,7 @@ fn gate_name(
     free: &mut FreeNames,
     class: ClassId,
 ) -> Result<Name, AllocError>
-    requires class { class.0 < length owners.now.firsts.items }
-    requires free { HasFree free.old 1 }
+    requires { HasFree free.old 1 }
     ensures { IfOk result (λ name. IsGivenOrFree
         (output_name owners.now.outputs.now (numbers owners.now.roots.now) class.0)
         free.old name free.new) }
@@ -35,8 +34,7 @@ fn push_each(
     free: &mut FreeNames,
     gates: &[ClassId],
 ) -> Result<(), AllocError>
-    requires gates { All (λ gate. gate.0 < length owners.now.firsts.items) gates.now }
-    requires free { HasFree free.old (length gates.now) }
+    requires { HasFree free.old (length gates.now) }
     ensures { OnOk result ((last : ℕ) → length gates.now ≤ length (still_free free.old last) →
         names.new.items ≡ names.old.items
         ++ gate_names owners.now.outputs.now (numbers owners.now.roots.now)
@@ -62,7 +60,6 @@ fn push_gate_names(
     requires few_outputs { length outputs.now < 2 ^ 32 }
     requires one_root { length roots.now ≡ length outputs.now }
     requires roots { All (λ root. root.0 < classes) roots.now }
-    requires gates { All (λ gate. gate.0 < classes) gates.now }
     ensures { OnOk result (names.new.items ≡ names.old.items
         ++ gate_names outputs.now (numbers roots.now)
         (free_names (inputs.now ++ outputs.now) (length gates.now)) (numbers gates.now)) }

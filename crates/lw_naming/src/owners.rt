@@ -15,8 +15,7 @@ fn first_places(
 ) -> Result<Vec<Option<u32>>, AllocError>
     requires few { length roots.now < 2 ^ 32 }
     requires in_range { All (λ root. root.0 < classes) roots.now }
-    ensures one_each { IfOk result (λ firsts. length firsts.items ≡ classes) }
-    ensures are { IfOk result (λ firsts. AreFirstPlaces firsts.items roots.now) }
+    ensures { IfOk result (λ firsts. AreFirstPlaces firsts.items roots.now) }
 {
     let mut firsts = vec![in alloc; None; classes]?;
     for place in (0..roots.len()).rev() {
@@ -46,7 +45,6 @@ impl<'a> Owners<'a> {
         requires few { length outputs.now < 2 ^ 32 }
         requires one_root { length roots.now ≡ length outputs.now }
         requires in_range { All (λ root. root.0 < classes) roots.now }
-        ensures one_each { IfOk result (λ owners. length owners.firsts.items ≡ classes) }
         ensures outputs { IfOk result (λ owners. owners.outputs.now ≡ outputs.now) }
         ensures roots { IfOk result (λ owners. owners.roots.now ≡ roots.now) }
     {
@@ -60,11 +58,11 @@ impl<'a> Owners<'a> {
 
     // The name of the first output of a class.
     pub(crate) fn name(&self, class: ClassId) -> Option<&Name>
-        requires { class.0 < length self.now.firsts.items }
         ensures { let name = output_name self.now.outputs.now (numbers self.now.roots.now) class.0 in
             MatchOption result (name ≡ None) (λ first. name ≡ Some first.now) }
     {
-        let output = self.firsts[class.0 as usize]?;
+        let first = self.firsts.get(class.0 as usize)?;
+        let output = (*first)?;
         Some(self.outputs.get(output as usize))
     }
 }

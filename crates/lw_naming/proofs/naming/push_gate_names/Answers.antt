@@ -5,8 +5,8 @@ use Rattle.lw_naming.proofs.FreeNames.{enough_free}
 use Rattle.lw_naming.proofs.naming.push_gate_names.Goals as goal
 use Rattle.lw_pool.specs.Numbers.{numbers}
 
-pub push_each-requires-clause-free : goal.push_each-requires-clause-free
-push_each-requires-clause-free c =
+pub push_each-requires : goal.push_each-requires
+push_each-requires c =
     let count = length c.args.gates.now in
     let names = c.args.inputs.now ++ c.args.outputs.now in
     let long = length-append c.args.inputs.now c.args.outputs.now in
