@@ -1,5 +1,5 @@
 // When nets arrive.
-ghost use Rattle.std.specs.Prelude.{◌≡◌, ◌+◌, ◌*◌, ◌<◌, ◌≤◌, max, ℕ, Some, length, take, slice_get, All};
+ghost use Rattle.std.specs.Prelude.{◌≡◌, ◌+◌, ◌*◌, ◌<◌, ◌≤◌, max, ℕ, Some, length, slice_get, All};
 ghost use Rattle.lw_laws.specs.Covers.{latest};
 ghost use Rattle.lw_genlib.specs.Cells.{IsListed};
 ghost use Rattle.lw_netlist.specs.Netlists.{IsGateAt, most_gates};
@@ -33,14 +33,6 @@ fn arrival_of(cell: &Cell, pins: &[NetId], nets: &[Micro]) -> Micro
         latest = later(latest, nets[pins[k].0 as usize].0 + delay.0);
     }
     Micro(latest)
-}
-
-// Copies the starts of the inputs to the front.
-pub(crate) fn copy_starts(starts: &[Micro], nets: &mut [Micro])
-    requires { length starts.now ≤ length nets.old }
-    ensures { take (length starts.now) nets.new ≡ starts.now }
-{
-    nets[..starts.len()].copy_from_slice(starts);
 }
 
 // Fills in the arrivals of the nets that the gates drive, which are those from `first` on, behind

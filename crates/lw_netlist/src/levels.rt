@@ -2,7 +2,7 @@
 ghost use Rattle.std.specs.Prelude.{◌≡◌, ◌+◌, ◌<◌, ◌≤◌, length, replicate, slice_set, IfOk, All};
 ghost use Rattle.std.specs.List.{range_with_len};
 ghost use Rattle.lw_dag.specs.Graphs.{AreHeights, IsGraph, IsOrdered, most_signals};
-ghost use Rattle.lw_netlist.specs.Numbered.{AreSettled, deepest, first_start, own_start, step_of};
+ghost use Rattle.lw_netlist.specs.Numbered.{AreSettled, deepest, own_start, step_of};
 
 use lw_dag::Levels;
 use lw_pool::Numbers;
@@ -27,18 +27,6 @@ fn deepest_of(needs: &[u32], depths: &[u32]) -> u32
     most
 }
 
-// Where the first of some names starts.
-fn first_of(needs: &[u32], starts: &[u32], own: u32) -> u32
-    requires { All (λ s. s < length starts.now) needs.now }
-    ensures { result ≡ first_start starts.now own needs.now }
-{
-    if needs.is_empty() {
-        own
-    } else {
-        starts[needs[0] as usize]
-    }
-}
-
 // What a node adds to a depth.
 fn step(gates: usize, j: usize) -> u32
     ensures { result ≡ step_of gates j }
@@ -46,15 +34,15 @@ fn step(gates: usize, j: usize) -> u32
     if j < gates { 1 } else { 0 }
 }
 
-// Where a node starts.
+// Where a node starts: a gate at itself, and a wire where its source does.
 fn start_of(gates: usize, j: usize, own: u32, needs: &[u32], starts: &[u32]) -> u32
     requires { All (λ s. s < length starts.now) needs.now }
     ensures { result ≡ own_start gates j starts.now own needs.now }
 {
-    if j < gates {
+    if j < gates || needs.is_empty() {
         own
     } else {
-        first_of(needs, starts, own)
+        starts[needs[0] as usize]
     }
 }
 
@@ -79,17 +67,18 @@ fn place(found: &mut Starts, inputs: usize, gates: usize, j: usize, needs: &[u32
     found.starts[own] = start;
 }
 
-// All places below a number.
+// All places below a number. For more of them than there are numbers there is no memory.
 pub(crate) fn places_below(alloc: Global, count: usize) -> Result<Vec<u32>, AllocError>
-    requires { count ≤ most_signals }
     ensures { IfOk result (λ places. places.items ≡ range_with_len 0 count) }
 {
-    (0..count as u32).collect(alloc)
+    let Ok(end) = u32::try_from(count) else {
+        return Err(AllocError);
+    };
+    (0..end).collect(alloc)
 }
 
 // No depth, and each name at itself.
 fn start(alloc: Global, names: usize) -> Result<Starts, AllocError>
-    requires { names ≤ most_signals }
     ensures depths { IfOk result (λ l. l.depths.items ≡ replicate names 0) }
     ensures starts { IfOk result (λ l. l.starts.items ≡ range_with_len 0 names) }
 {

@@ -1,7 +1,7 @@
 ghost use Rattle.std.specs.Prelude.{◌≡◌, ◌≤◌, ◌<◌, ◌^◌, All, length, map};
 
-use crate::arrivals::{copy_starts, fill_arrivals};
-use crate::values::{copy_front, fill_values};
+use crate::arrivals::fill_arrivals;
+use crate::values::fill_values;
 use crate::{Gate, Gates, Port, PortList};
 use lw_fixed::{Micro, Micros};
 use lw_genlib::Library;
@@ -111,7 +111,7 @@ impl Netlist {
             (given x.now) nets.new }
     {
         let gates = self.gates();
-        copy_front(x, nets);
+        nets[..x.len()].copy_from_slice(x);
         fill_values(gates, lib, x.len(), nets);
     }
 
@@ -128,7 +128,8 @@ impl Netlist {
         ensures low { All (λ net. net.0 < 2 ^ 63) nets.new }
     {
         let gates = self.gates();
-        copy_starts(starts.as_slice(), nets);
+        let starts = starts.as_slice();
+        nets[..starts.len()].copy_from_slice(starts);
         fill_arrivals(gates, lib, self.inputs() as usize, nets);
     }
 }

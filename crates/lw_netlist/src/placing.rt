@@ -20,8 +20,7 @@ use std::alloc::{AllocError, Global};
 
 // The places of gates with these depths, by depth and, at one depth, in order.
 pub(crate) fn places_by(alloc: Global, depths: &[u32]) -> Result<Vec<u32>, AllocError>
-    requires few { length depths.now ≤ most_signals }
-    requires least { All (λ d. 1 ≤ d) depths.now }
+    requires { All (λ d. 1 ≤ d) depths.now }
     ensures permutation { IfOk result (λ places. IsPermutation
         (range_with_len 0 (length depths.now)) places.items) }
     ensures rising { IfOk result (λ places. (depth : ℕ → ℕ) →

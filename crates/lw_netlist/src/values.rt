@@ -63,11 +63,3 @@ pub(crate) fn fill_values(gates: &[Gate], lib: &Library, first: usize, nets: &mu
         nets[first + j] = value_of(cell_of(lib, gate), gate.pins.as_slice(), nets);
     }
 }
-
-// Copies values to the front.
-pub(crate) fn copy_front(x: &[bool], nets: &mut [bool])
-    requires { length x.now ≤ length nets.old }
-    ensures { take (length x.now) nets.new ≡ x.now }
-{
-    nets[..x.len()].copy_from_slice(x);
-}

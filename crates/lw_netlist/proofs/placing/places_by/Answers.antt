@@ -6,7 +6,7 @@ pub in_order-requires-clause-same : goal.in_order-requires-clause-same
 in_order-requires-clause-same c = ap length c.in_ok-all.ensures ∙ length-range_with_len 0 (length c.args.depths.now)
 
 pub in_order-requires-clause-least : goal.in_order-requires-clause-least
-in_order-requires-clause-least c = c.requires.least
+in_order-requires-clause-least c = c.requires
 
 pub returns-clause-permutation : goal.returns-clause-permutation
 returns-clause-permutation c = rw c.in_ok-all.ensures at c.in_order.ensures.permutation

@@ -4,22 +4,8 @@ use Rattle.lw_netlist.proofs.Moving.{cells_many}
 use Rattle.lw_netlist.proofs.Closed.{slice_is, slice_length, slice_least, is_placed, is_closed, is_over}
 use Rattle.lw_netlist.proofs.netlist.Netlist.close.Goals as goal
 
-pub places_by-requires-clause-few : goal.places_by-requires-clause-few
-places_by-requires-clause-few c =
-    let draft = c.args.draft in
-    let graph = c.in_ok-graph.graph in
-    let made = c.in_ok-graph.ensures in
-    let depths = c.in_ok-found.found.depths.items in
-    let starts = c.in_ok-found.found.starts.items in
-    let right = c.in_ok-found.ensures draft made in
-    let counted : c.len.result ≡ length graph.cells.items = omega (arith, c.len.ensures, graph.cells.ok.0) in
-    let many : c.len.result ≡ length draft.gates = counted ∙ cells_many draft graph made in
-    let slice = take (graph.inputs + c.len.result - graph.inputs) (drop graph.inputs c.deref.result.now) in
-    let sliced = slice_is draft depths c.deref.result.now graph.inputs c.len.result made.inputs many c.deref.ensures.value in
-    omega (arith, slice_length draft graph made depths starts right slice sliced, c.requires.few)
-
-pub places_by-requires-clause-least : goal.places_by-requires-clause-least
-places_by-requires-clause-least c =
+pub places_by-requires : goal.places_by-requires
+places_by-requires c =
     let draft = c.args.draft in
     let graph = c.in_ok-graph.graph in
     let made = c.in_ok-graph.ensures in
