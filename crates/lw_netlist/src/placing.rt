@@ -178,6 +178,7 @@ fn named(
         TellNets graph.signals nets.now net → named.2 ≡ map (port_at net) graph.outputs) }
 {
     let (inputs, signals) = (graph.inputs, graph.signals);
+    let _ = signals.len();
     drop(graph.cells);
     drop(graph.rows);
     let first = graph.first.into_vec();

@@ -62,8 +62,7 @@ impl Signals {
 
     /// The names, in the order of their numbers.
     pub(crate) fn names(&self) -> &SpelledNames
-        ensures names { result.now ≡ self.now }
-        ensures distinct { IsDistinct bytes_eq self.now }
+        ensures { result.now ≡ self.now }
     {
         &self.names
     }

@@ -30,7 +30,7 @@ returns-in-Some c = λ draft made.
     let item = c.get-name.result.now in
     fault_cycle draft graph.signals graph.rows.items graph.inputs made.graph made.inputs c.in-Some.place item c.in_ok-name.name
     (rw (c.in-Some.is, c.deref-2.ensures.value) at c.in_ok-first.ensures.some)
-    (sym (get_or_from_slice_get c.names.result.now (graph.inputs + c.in-Some.place) item item c.get-name.ensures.name) ∙ ap (λ l. get_or l (graph.inputs + c.in-Some.place) item) c.names.ensures.names)
+    (sym (get_or_from_slice_get c.names.result.now (graph.inputs + c.in-Some.place) item item c.get-name.ensures.name) ∙ ap (λ l. get_or l (graph.inputs + c.in-Some.place) item) c.names.ensures)
     c.in_ok-name.ensures
 
 pub returns : goal.returns
