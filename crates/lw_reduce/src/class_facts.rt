@@ -4,6 +4,7 @@ ghost use Rattle.lw_reduce.specs.Representatives.{IsFactIn};
 ghost use Rattle.lw_reduce.specs.Settling.{canonical_fact};
 
 use crate::facts::Fact;
+use crate::known_facts::KnownFact;
 use crate::rounds::canonical_fact;
 
 // Replaces the forms of each fact by their classes.
@@ -12,7 +13,11 @@ fn canonicalize_all(facts: &mut [Fact], forms: &[u32])
     ensures { facts.new ≡ map (canonical_fact forms.now) facts.old }
 {
     for fact in facts.iter_mut() {
-        *fact = canonical_fact(forms, *fact);
+        let known = KnownFact {
+            reps: forms,
+            fact: *fact,
+        };
+        *fact = canonical_fact(&known);
     }
 }
 

@@ -1,20 +1,17 @@
 // Whether all facts have different operands, so that no two facts make their forms equivalent.
-ghost use Rattle.std.specs.Prelude.{◌≡◌, length, map, IfOk, IsTrue};
+ghost use Rattle.std.specs.Prelude.{◌≡◌, map, IfOk, IsTrue};
 ghost use Rattle.std.specs.List.Sorted.{IsStrictlyIncreasing};
-ghost use Rattle.lw_reduce.specs.Representatives.{IsFactIn};
 ghost use Rattle.lw_reduce.specs.Settling.{HaveDistinctOperands, operands_key};
 
-use crate::facts::Fact;
-use crate::known_facts::KnownFacts;
+use crate::known_facts::{KnownFact, KnownFacts};
 use crate::rounds::canonical_fact;
 use std::alloc::{AllocError, Global};
 
 // The representatives of a fact's operands as one number.
-fn key_of(reps: &[u32], fact: Fact) -> u64
-    requires { IsFactIn (length reps.now) fact }
-    ensures { result ≡ operands_key reps.now fact }
+fn key_of(known: &KnownFact) -> u64
+    ensures { result ≡ operands_key known.now.reps.now known.now.fact }
 {
-    let canonical = canonical_fact(reps, fact);
+    let canonical = canonical_fact(known);
     canonical.left as u64 * 0x1_0000_0000 + canonical.right as u64
 }
 
@@ -24,8 +21,10 @@ fn keys_of(alloc: Global, facts: &KnownFacts) -> Result<Vec<u64>, AllocError>
         keys.items ≡ map (operands_key facts.now.reps.now) facts.now.nands.now) }
 {
     let mut keys = Vec::with_capacity(alloc, facts.nands.len())?;
+    let reps = facts.reps;
     for fact in facts.nands {
-        keys.push(key_of(facts.reps, *fact))?;
+        let known = KnownFact { reps, fact: *fact };
+        keys.push(key_of(&known))?;
     }
     Ok(keys)
 }

@@ -1,11 +1,12 @@
 // Passes over the facts whose operands have new representatives, with a hash table of facts by the
 // representatives of their operands.
-ghost use Rattle.std.specs.Prelude.{◌<◌, length, All, IfOk, IfSome, IsTrue};
+ghost use Rattle.std.specs.Prelude.{◌<◌, ◌≤◌, length, All, IfOk, IfSome, IsTrue};
 ghost use Rattle.lw_reduce.specs.Representatives.{AreRepresentatives, HasOperands, IsFactIn, StayRepresentatives};
 ghost use Rattle.lw_reduce.specs.Lookups.{AreFreeSlots, CanInsert, CanVisit, CanVisitAll, HaveSlots, KeepSlots, LooksUp, StandAt};
 ghost use Rattle.lw_reduce.specs.Settling.{IsImplied};
 
 use crate::facts::{Fact, Link};
+use crate::known_facts::KnownFact;
 use crate::representatives::{find, rep_of, unify};
 use std::alloc::{AllocError, Global};
 
@@ -67,24 +68,22 @@ fn has_operands(
     own.low == operands.low && own.high == operands.high
 }
 
-// The slot where the search for these operands starts.
+// The slot where the search for these operands starts, up to the last slot.
 #[tactic(auto, using(std::proofs::lemmas::Nat::and_le_r))]
-fn slot_of(operands: Operands, slots: usize) -> usize
-    requires { 0 < slots }
-    ensures { result < slots }
+fn slot_of(operands: Operands, last: usize) -> usize
+    ensures { result ≤ last }
 {
     let key = ((operands.low as u64) << 32) | operands.high as u64;
     let mixed = key.wrapping_mul(0x9E37_79B9_7F4A_7C15) >> 32;
-    mixed as usize & (slots - 1)
+    mixed as usize & last
 }
 
 // The slot after this one; after the last comes the first.
 #[tactic(auto, using(std::proofs::lemmas::Nat::and_le_r))]
-fn next_slot(slot: usize, slots: usize) -> usize
-    requires within { slot < slots }
-    ensures { result < slots }
+fn next_slot(slot: usize, last: usize) -> usize
+    ensures { result ≤ last }
 {
-    (slot + 1) & (slots - 1)
+    slot.wrapping_add(1) & last
 }
 
 // Looks up a fact with these operands.
@@ -99,7 +98,8 @@ fn look_up(
     ensures { LooksUp (length reps.old) nands.now links.now reps.old reps.new
         slots.now operands result }
 {
-    let mut slot = slot_of(operands, slots.len());
+    let last = slots.len() - 1;
+    let mut slot = slot_of(operands, last);
     for _step in 0..slots.len() {
         let entry = slots[slot];
         if entry == 0 {
@@ -109,15 +109,14 @@ fn look_up(
         if has_operands(reps, nands, links, fact, operands) {
             return Lookup::Form(fact.form);
         }
-        slot = next_slot(slot, slots.len());
+        slot = next_slot(slot, last);
     }
     Lookup::Full
 }
 
 // Whether a fact's operands are their own representatives.
-fn has_root_operands(reps: &[u32], fact: Fact) -> bool
-    requires { IsFactIn (length reps.now) fact }
-{
+fn has_root_operands(known: &KnownFact) -> bool {
+    let KnownFact { reps, fact } = *known;
     rep_of(reps, fact.left) == fact.left && rep_of(reps, fact.right) == fact.right
 }
 
@@ -177,7 +176,8 @@ fn visit(
         slots.old slots.new }
 {
     let fact = nands[place];
-    if has_root_operands(reps, fact) {
+    let known = KnownFact { reps, fact };
+    if has_root_operands(&known) {
         return;
     }
     let operands = operands_of(reps, nands, links, fact);

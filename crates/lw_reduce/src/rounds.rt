@@ -1,12 +1,12 @@
 // Rounds that unify forms, until one changes nothing.
 ghost use Rattle.std.specs.Prelude.{◌≡◌, ◌^◌, ◌<◌, ◌≤◌, ℕ, length, map, All, IfOk, OnOk, IsTrue};
-ghost use Rattle.lw_reduce.specs.Representatives.{AreRepresentatives, IsFactIn, LinkAgrees, Unifies};
-ghost use Rattle.lw_reduce.specs.Sorting.{AreSortedFrom};
+ghost use Rattle.lw_facts.specs.Sorting.{AreSortedFrom};
+ghost use Rattle.lw_reduce.specs.Representatives.{AreRepresentatives, LinkAgrees, Unifies};
 ghost use Rattle.lw_reduce.specs.Settling.{AgreesAt, AreSettled, CanUnifyAt, IsImplied, IsRoundOutcome, fact_key, canonical_fact};
 
 use crate::distinct_operands::have_distinct_operands;
 use crate::facts::{Fact, Link};
-use crate::known_facts::KnownFacts;
+use crate::known_facts::{KnownFact, KnownFacts};
 use crate::propagate::propagate;
 use crate::representatives::{flatten, rep_of, unify};
 use std::alloc::{AllocError, Global};
@@ -35,10 +35,10 @@ fn unify_linked(reps: &mut [u32], nands: &[Fact], links: &[Link]) -> bool
 }
 
 // A fact over representatives, the lower operand first.
-pub(crate) fn canonical_fact(reps: &[u32], fact: Fact) -> Fact
-    requires { IsFactIn (length reps.now) fact }
-    ensures { result ≡ canonical_fact reps.now fact }
+pub(crate) fn canonical_fact(known: &KnownFact) -> Fact
+    ensures { result ≡ canonical_fact known.now.reps.now known.now.fact }
 {
+    let KnownFact { reps, fact } = *known;
     let left = rep_of(reps, fact.left);
     let right = rep_of(reps, fact.right);
     Fact {
@@ -54,8 +54,10 @@ fn canonical_facts(alloc: Global, facts: &KnownFacts) -> Result<Vec<Fact>, Alloc
         canonical.items ≡ map (canonical_fact facts.now.reps.now) facts.now.nands.now) }
 {
     let mut canonical = Vec::with_capacity(alloc, facts.nands.len())?;
+    let reps = facts.reps;
     for fact in facts.nands {
-        canonical.push(canonical_fact(facts.reps, *fact))?;
+        let known = KnownFact { reps, fact: *fact };
+        canonical.push(canonical_fact(&known))?;
     }
     Ok(canonical)
 }

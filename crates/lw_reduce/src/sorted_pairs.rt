@@ -1,10 +1,10 @@
 // Sorts the pairs of each class and drops repeats.
-ghost use Rattle.std.specs.Prelude.{◌≡◌, ◌+◌, ◌-◌, ◌^◌, ◌<◌, ◌≤◌, ◌++◌, [], length, slice_index, IfOk, OnOk};
+ghost use Rattle.std.specs.Prelude.{◌≡◌, ◌+◌, ◌-◌, ◌^◌, ◌<◌, ◌++◌, [], length, slice_index, IfOk, OnOk};
 ghost use Rattle.std.specs.List.{slice_range};
+ghost use Rattle.lw_facts.specs.Sorting.{AreSortedFrom};
 ghost use Rattle.lw_graph.specs.Index.{pair_key};
 ghost use Rattle.lw_graph.specs.Rows.{AreEnds, start_at};
 ghost use Rattle.lw_reduce.specs.Rows.{HasRowMore, AreSortedRows, IsFilledRow};
-ghost use Rattle.lw_reduce.specs.Sorting.{AreSortedFrom};
 
 use lw_graph::Pair;
 use lw_pool::{Numbers, PairId, Pool};

@@ -8,14 +8,14 @@ use Rattle.lw_reduce.proofs.class_facts.canonicalize_all.Goals as goal
 pub loop-fact-init : goal.loop-fact-init
 loop-fact-init c = in_place_none (canonical_fact c.args.forms.now) c.args.facts.now
 
-pub canonical_fact-requires : goal.canonical_fact-requires
-canonical_fact-requires c =
+pub invariant_of-known : goal.invariant_of-known
+invariant_of-known c =
     let none : Fact = record { form = 0; left = 0; right = 0 } in
     let f = canonical_fact c.args.forms.now in
     let l = c.loop-fact in
     let i = l.fact-index in
     let at : get_or l.facts i none ≡ get_or c.args.facts.now i none = ap (λ rs. get_or rs i none) l.invariant ∙ in_place_at f c.args.facts.now i none c.loop-fact-test.true in
-    subst (IsFactIn (length c.args.forms.now)) (sym at) (c.requires i none c.loop-fact-test.true)
+    record { known = subst (IsFactIn (length c.args.forms.now)) (sym at) (c.requires i none c.loop-fact-test.true) }
 
 pub loop-fact-preserved : goal.loop-fact-preserved
 loop-fact-preserved c =

@@ -3,8 +3,8 @@ use Rattle.std.proofs.lemmas.List.{map_more}
 use Rattle.lw_reduce.specs.Settling.{operands_key, no_fact}
 use Rattle.lw_reduce.proofs.distinct_operands.keys_of.Goals as goal
 
-pub key_of-requires : goal.key_of-requires
-key_of-requires c = c.args.facts.now.known c.loop-fact.fact-index no_fact c.loop-fact-test.true
+pub invariant_of-known : goal.invariant_of-known
+invariant_of-known c = record { known = c.args.facts.now.known c.loop-fact.fact-index no_fact c.loop-fact-test.true }
 
 pub loop-fact-preserved : goal.loop-fact-preserved
 loop-fact-preserved c =

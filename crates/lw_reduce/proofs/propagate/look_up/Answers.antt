@@ -1,4 +1,4 @@
-use Rattle.std.proofs.Common.{◌-◌, length, get_or, slice_index, sym, subst}
+use Rattle.std.proofs.Common.{◌-◌, length, get_or, slice_index, sym, subst, arith}
 use Rattle.std.proofs.lemmas.List.Elements.{All-get_or}
 use Rattle.lw_reduce.specs.declared.facts.Fact.{Fact}
 use Rattle.lw_reduce.specs.Representatives.{IsFactIn}
@@ -9,7 +9,7 @@ use Rattle.lw_reduce.proofs.propagate.look_up.Goals as goal
 pub loop-step-init : goal.loop-step-init
 loop-step-init c = record {
   kept = stay_none (length c.args.reps.now) c.args.nands.now c.args.links.now c.args.reps.now c.requires.valid;
-  within = c.slot_of-slot.ensures;
+  within = let le = c.slot_of-slot.ensures in let some = c.requires.some in omega (arith, le, some);
 }
 
 pub returns-then-entry-eq0 : goal.returns-then-entry-eq0
@@ -44,7 +44,7 @@ returns-then-has_operands c = record {
 pub loop-step-preserved : goal.loop-step-preserved
 loop-step-preserved c = record {
   kept = stay_then (length c.args.reps.now) c.args.nands.now c.args.links.now c.args.reps.now c.loop-step.reps c.has_operands.new.reps c.loop-step.invariant.kept c.has_operands.ensures.kept;
-  within = c.next_slot-slot.ensures;
+  within = let le = c.next_slot-slot.ensures in let some = c.requires.some in omega (arith, le, some);
 }
 
 pub returns : goal.returns

@@ -6,8 +6,8 @@ use Rattle.lw_reduce.proofs.EqualOperands.{operands_at, row_alike}
 use Rattle.lw_reduce.proofs.RepSteps.{stay_none, stay_then, stay_progress, valid_at}
 use Rattle.lw_reduce.proofs.propagate.visit.Goals as goal
 
-pub has_root_operands-requires : goal.has_root_operands-requires
-has_root_operands-requires c = All-get_or (IsFactIn (length c.args.reps.now)) c.args.nands.now c.args.place no_fact c.requires.within c.requires.valid.nands_in
+pub invariant_of-known : goal.invariant_of-known
+invariant_of-known c = record { known = All-get_or (IsFactIn (length c.args.reps.now)) c.args.nands.now c.args.place no_fact c.requires.within c.requires.valid.nands_in }
 
 pub returns-then-has_root_operands : goal.returns-then-has_root_operands
 returns-then-has_root_operands c = record {

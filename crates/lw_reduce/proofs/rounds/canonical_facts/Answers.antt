@@ -3,8 +3,8 @@ use Rattle.std.proofs.lemmas.List.{map_more}
 use Rattle.lw_reduce.specs.Settling.{canonical_fact, no_fact}
 use Rattle.lw_reduce.proofs.rounds.canonical_facts.Goals as goal
 
-pub canonical_fact-requires : goal.canonical_fact-requires
-canonical_fact-requires c = c.args.facts.now.known c.loop-fact.fact-index no_fact c.loop-fact-test.true
+pub invariant_of-known : goal.invariant_of-known
+invariant_of-known c = record { known = c.args.facts.now.known c.loop-fact.fact-index no_fact c.loop-fact-test.true }
 
 pub loop-fact-preserved : goal.loop-fact-preserved
 loop-fact-preserved c =
