@@ -1,5 +1,5 @@
 -- The And of forms that are not true, differ and don't clash.
-use Rattle.std.proofs.Common.{◌≡◌, ◌+◌, ◌-◌, ◌*◌, ◌<◌, ◌≤◌, ℕ, zero, suc, Bool, true, false, leb, List, [], ◌∷◌, length, map, take, drop, refl, ap, sym, ◌∙◌, arith, leb-true, leb-false, length-drop}
+use Rattle.std.proofs.Common.{◌≡◌, ◌+◌, ◌*◌, ◌<◌, ◌≤◌, ℕ, zero, suc, Bool, true, false, leb, List, [], ◌∷◌, length, map, take, drop, refl, ap, sym, ◌∙◌, arith, leb-true, leb-false, length-drop}
 use Rattle.std.proofs.lemmas.Bool.{le-leb}
 use Rattle.std.proofs.lemmas.List.{length-map}
 use Rattle.lw_laws.specs.Forms.{Form, and_of, kept, has_clash, runs, runs_within, joined, joined_many, conjunction}

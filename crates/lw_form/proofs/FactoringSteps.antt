@@ -15,7 +15,7 @@ use Rattle.lw_form.specs.declared.factoring.Task.{Task}
 use Rattle.lw_form.specs.declared.factoring.Task.TheVariants.{Factor, Join}
 use Rattle.lw_form.specs.Factoring.{plain_literal, PlainTask, plain_task, turned, outcome, TaskFits, IsWorking, sign_count, signs_of_rows, weight, weights}
 use Rattle.lw_form.specs.Factoring.PlainTask.{factor_rows, join_under}
-use Rattle.lw_form.specs.Products.{HaveColumns, ReachColumn, signed_number}
+use Rattle.lw_form.specs.Products.{HaveColumns, signed_number}
 use Rattle.lw_form.specs.Tables.{AreBelow, forms_at, AreMade, HasMore, Table, made, IsMadeAs}
 use Rattle.lw_form.proofs.Joining.{more_twice, more_length, form_kept, forms_kept, below_kept_more, below_append, below_other}
 use Rattle.lw_form.proofs.Rows.{signed_form}
@@ -23,15 +23,6 @@ use Rattle.lw_laws.specs.Forms.Form.{true_form}
 
 abbrev pub Rows : Type 0
 Rows = List (List (Option Bool))
-
-pub reach : (columns column : ℕ) (rows : List (List (Option Bool))) → column < columns → HaveColumns columns rows → ReachColumn column rows
-reach columns column [] lt h = tt
-reach columns column (row ∷ rows) lt (p, h) = (omega arith, reach columns column rows lt h)
-
-pub reach_at : (column : ℕ) (rows : List (List (Option Bool))) (i : ℕ) (row : List (Option Bool)) → ReachColumn column rows → i < length rows → row ≡ get_or rows i row → column < length row
-reach_at column [] i row h lt e = absurd (omega arith)
-reach_at column (r ∷ rows) zero row (p, h) lt e = let l = ap length e in omega arith
-reach_at column (r ∷ rows) (suc i) row (p, h) lt e = reach_at column rows i row h (omega arith) e
 
 -- counting
 
@@ -136,16 +127,14 @@ others_cons l row rows = by_test (has l row) where
   by_test false = refl
 
 pub record CutSoFar (l : laws.Literal) (all left kept_rows other_rows : List (List (Option Bool))) : Type 0 where
-  pub reaches : ReachColumn l.column left
   pub having_is : kept_rows ++ having l left ≡ having l all
   pub others_is : other_rows ++ others l left ≡ others l all
 
-pub cut_first : (l : laws.Literal) (all kept_rows other_rows : List (List (Option Bool))) → ReachColumn l.column all → kept_rows ≡ [] → other_rows ≡ [] → CutSoFar l all all kept_rows other_rows
-cut_first l all kept_rows other_rows r y n = record { reaches = r; having_is = ap (λ k. k ++ having l all) y; others_is = ap (λ k. k ++ others l all) n }
+pub cut_first : (l : laws.Literal) (all kept_rows other_rows : List (List (Option Bool))) → kept_rows ≡ [] → other_rows ≡ [] → CutSoFar l all all kept_rows other_rows
+cut_first l all kept_rows other_rows y n = record { having_is = ap (λ k. k ++ having l all) y; others_is = ap (λ k. k ++ others l all) n }
 
 pub cut_more : (l : laws.Literal) (all left kept_rows other_rows having_new others_new : List (List (Option Bool))) (row : List (Option Bool)) → CutSoFar l all (row ∷ left) kept_rows other_rows → having_new ≡ kept_rows ++ having l (row ∷ []) → others_new ≡ other_rows ++ others l (row ∷ []) → CutSoFar l all left having_new others_new
 cut_more l all left kept_rows other_rows having_new others_new row so y n = record {
-  reaches = so.reaches.1;
   having_is = ap (λ k. k ++ having l left) y ∙ (append_assoc kept_rows (having l (row ∷ [])) (having l left) ∙ (ap (λ k. kept_rows ++ k) (sym (having_cons l row left)) ∙ so.having_is));
   others_is = ap (λ k. k ++ others l left) n ∙ (append_assoc other_rows (others l (row ∷ [])) (others l left) ∙ (ap (λ k. other_rows ++ k) (sym (others_cons l row left)) ∙ so.others_is));
 }

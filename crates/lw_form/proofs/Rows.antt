@@ -31,6 +31,17 @@ has_none k sign signs o lt e s = sym (has_read k sign signs o lt e ∙ (ap (asks
   none true = refl
   none false = refl
 
+-- a row without the column has it not, and stays as it is where it is taken away
+pub has_past : (k : ℕ) (sign : Bool) (row : List (Option Bool)) → length row ≤ k → false ≡ has_at k sign row
+has_past k sign [] le = refl
+has_past zero sign (c ∷ row) le = absurd (omega arith)
+has_past (suc k) sign (c ∷ row) le = has_past k sign row (omega arith)
+
+pub cleared_past : (k : ℕ) (row : List (Option Bool)) → length row ≤ k → row ≡ cleared_at k row
+cleared_past k [] le = refl
+cleared_past zero (c ∷ row) le = absurd (omega arith)
+cleared_past (suc k) (c ∷ row) le = ap (λ l. c ∷ l) (cleared_past k row (omega arith))
+
 cleared : (k : ℕ) (signs : List ℕ) → map asked (slice_set signs k 45) ≡ cleared_at k (map asked signs)
 cleared k [] = refl
 cleared zero (c ∷ signs) = refl

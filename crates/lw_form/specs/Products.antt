@@ -1,5 +1,5 @@
 -- Literals over numbers of forms, and what holds of rows.
-use Rattle.std.specs.Prelude.{ℕ, ◌≡◌, ◌<◌, ◌≤◌, Bool, true, false, Option, Some, None, List, [], ◌∷◌, length, bit_xor}
+use Rattle.std.specs.Prelude.{ℕ, ◌≡◌, Bool, true, false, Option, Some, None, List, [], ◌∷◌, length, bit_xor}
 use Rattle.lw_form.specs.Limits.{IsWidth}
 use Rattle.lw_form.specs.Tables.{Table, made, AreBelow}
 
@@ -17,11 +17,6 @@ literal_numbers _ _ = []
 abbrev pub HaveColumns : ℕ → List (List (Option Bool)) → Type 0
 HaveColumns columns [] = Unit {0}
 HaveColumns columns (row ∷ rows) = (length row ≡ columns) × HaveColumns columns rows
-
--- each row reaches the column
-abbrev pub ReachColumn : ℕ → List (List (Option Bool)) → Type 0
-ReachColumn column [] = Unit {0}
-ReachColumn column (row ∷ rows) = (column < length row) × ReachColumn column rows
 
 -- forms can be made of these rows, which have a sign for each fan-in
 pub record AreRowsOver (width : ℕ) (table : Table) (fanins : List ℕ) (rows : List (List (Option Bool))) : Type 0 where

@@ -4,7 +4,7 @@ ghost use Rattle.lw_laws.specs.Forms.{Form};
 ghost use Rattle.lw_laws.specs.Signals.{factored as factored_form, count_having, has, cleared, most_common, shared_literal};
 ghost use Rattle.lw_form.specs.Factoring.{plain_literal, plain_choice, CanJoin, DoesTask, IsWorking, Joins};
 ghost use Rattle.lw_form.specs.Limits.{IsWidth};
-ghost use Rattle.lw_form.specs.Products.{AreRowsOver, HaveColumns, ReachColumn};
+ghost use Rattle.lw_form.specs.Products.{AreRowsOver};
 ghost use Rattle.lw_form.specs.Tables.{made, forms_at, IsMadeAs};
 
 use crate::conjunction::{conjunction, disjunction};
@@ -44,7 +44,6 @@ struct Cut {
 
 // How many rows have the literal.
 fn count(rows: &[Row], literal: Literal) -> usize
-    requires { ReachColumn literal.column rows.now }
     ensures { result ≡ count_having (plain_literal literal) rows.now }
 {
     let mut count = 0;
@@ -58,7 +57,6 @@ fn count(rows: &[Row], literal: Literal) -> usize
 
 // The literal, where it stands in more rows.
 fn better(rows: &[Row], choice: Choice, literal: Literal) -> Choice
-    requires { ReachColumn literal.column rows.now }
     ensures { (ls : List _) → most_common rows.now ls result.rows (plain_choice result.literal)
         ≡ most_common rows.now (plain_literal literal ∷ ls) choice.rows
         (plain_choice choice.literal) }
@@ -76,7 +74,6 @@ fn better(rows: &[Row], choice: Choice, literal: Literal) -> Choice
 
 // The first of the literals that stand in most rows, if in two at least.
 fn shared(rows: &[Row], columns: usize) -> Option<Literal>
-    requires { HaveColumns columns rows.now }
     ensures { plain_choice result ≡ shared_literal columns rows.now }
 {
     let mut choice = Choice {
@@ -99,7 +96,6 @@ fn shared(rows: &[Row], columns: usize) -> Option<Literal>
 
 // Whether a literal stands in two rows at least.
 pub(crate) fn have_shared(rows: &[Row], columns: usize) -> bool
-    requires { HaveColumns columns rows.now }
     ensures { result ≡ is_some (shared_literal columns rows.now) }
 {
     shared(rows, columns).is_some()
@@ -107,7 +103,6 @@ pub(crate) fn have_shared(rows: &[Row], columns: usize) -> bool
 
 // Puts a row on its side of the cut.
 fn put(cut: &mut Cut, row: Row, literal: Literal) -> Result<(), AllocError>
-    requires { literal.column < length row }
     ensures having { OnOk result (cut.new.having.items ≡ cut.old.having.items
         ++ map (cleared (plain_literal literal)) (filter (has (plain_literal literal)) (row ∷ []))) }
     ensures others { OnOk result (cut.new.others.items ≡ cut.old.others.items
@@ -125,7 +120,6 @@ fn put(cut: &mut Cut, row: Row, literal: Literal) -> Result<(), AllocError>
 
 // Cuts rows by a literal.
 fn cut_by(alloc: Global, rows: Vec<Row>, literal: Literal) -> Result<Cut, AllocError>
-    requires { ReachColumn literal.column rows.items }
     ensures having { IfOk result (λ cut. cut.having.items
         ≡ map (cleared (plain_literal literal)) (filter (has (plain_literal literal)) rows.items)) }
     ensures others { IfOk result (λ cut. cut.others.items

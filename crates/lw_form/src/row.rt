@@ -1,4 +1,4 @@
-ghost use Rattle.std.specs.Prelude.{◌≡◌, ◌<◌, length, map, IfOk};
+ghost use Rattle.std.specs.Prelude.{◌≡◌, map, IfOk};
 ghost use Rattle.lw_net.specs.Signs.{asked};
 
 use smallvec::SmallVec;
@@ -52,9 +52,11 @@ impl Row {
 
     // Whether the row has the column with this sign.
     pub(crate) fn has(&self, column: usize, sign: bool) -> bool
-        requires { column < length self.now }
         ensures { result ≡ has_at column sign self.now }
     {
+        if column >= self.signs.len() {
+            return false;
+        }
         match ask(self.signs[column]) {
             Some(asked) => asked == sign,
             None => false,
@@ -63,9 +65,10 @@ impl Row {
 
     // Takes the column away.
     pub(crate) fn clear(&mut self, column: usize)
-        requires { column < length self.old }
         ensures { self.new ≡ cleared_at column self.old }
     {
-        self.signs[column] = b'-';
+        if column < self.signs.len() {
+            self.signs[column] = b'-';
+        }
     }
 }

@@ -13,16 +13,15 @@ use std::alloc::{AllocError, Global};
 
 // The value of a form, by those of the base forms.
 fn value_of(samples: &[bool], form: u32) -> bool
-    requires { form / 2 < length samples.now }
     ensures { result ≡ sample_value samples.now form }
 {
-    let value = samples[(form / 2) as usize];
+    let base = (form / 2) as usize;
+    let value = base < samples.len() && samples[base];
     if form % 2 == 0 { value } else { !value }
 }
 
 // Whether all of these forms are true.
 fn are_true(samples: &[bool], forms: &[u32]) -> bool
-    requires { AreBelow (length samples.now) forms.now }
     ensures { result ≡ list_all (sample_value samples.now) forms.now }
 {
     for place in 0..forms.len() {
@@ -35,8 +34,6 @@ fn are_true(samples: &[bool], forms: &[u32]) -> bool
 
 // The value of a base form, by those before it.
 fn sample_of(samples: &[bool], base: &Base) -> bool
-    requires { (fs : List ℕ) → plain_base base.now ≡ base_and fs →
-        AreBelow (length samples.now) fs }
     ensures { result ≡ sample_base samples.now (plain_base base.now) }
 {
     match base {

@@ -1,4 +1,4 @@
-use Rattle.std.proofs.Common.{◌≡◌, ◌∙◌, sym, subst, ap}
+use Rattle.std.proofs.Common.{◌∙◌, sym, subst, ap}
 use Rattle.lw_form.proofs.Conjunctions.{KeepsSoFar, keeps_first, keeps_new, keeps_old, keeps_zero, keeps_all}
 use Rattle.lw_form.proofs.conjunction.few_kept.Goals as goal
 use Rattle.lw_form.proofs.conjunction.few_kept.Goals.{then-form-ne-TRUE+then-not-contains+in_ok-push, else-form-ne-TRUE, else-form-ne-TRUE-via-then-form-ne-TRUE+else-not-contains, else-form-ne-TRUE-via-else-form-ne-TRUE}

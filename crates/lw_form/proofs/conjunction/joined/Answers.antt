@@ -1,4 +1,4 @@
-use Rattle.std.proofs.Common.{◌≡◌, ◌<◌, ◌^◌, ◌∙◌, refl, sym, subst, ap, arith, length}
+use Rattle.std.proofs.Common.{refl, arith}
 use Rattle.lw_form.proofs.Joining.{joined_one, joined_more, place_fits}
 use Rattle.lw_form.proofs.conjunction.joined.Goals as goal
 

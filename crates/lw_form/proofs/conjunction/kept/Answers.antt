@@ -1,4 +1,4 @@
-use Rattle.std.proofs.Common.{◌≡◌, ◌∙◌, sym, subst, ap}
+use Rattle.std.proofs.Common.{◌∙◌, sym, subst, ap}
 use Rattle.std.proofs.lemmas.List.{nil_from_length}
 use Rattle.lw_form.proofs.Conjunctions.{KeepsSoFar, keeps_first, keeps_one, keeps_zero, keeps_all}
 use Rattle.lw_form.proofs.conjunction.kept.Goals as goal

@@ -4,7 +4,7 @@ use Rattle.lw_laws.specs.Signals.{shared_literal}
 use Rattle.lw_form.specs.Factoring.{plain_literal}
 use Rattle.lw_form.specs.Tables.{made}
 use Rattle.lw_form.proofs.Joining.{more_same}
-use Rattle.lw_form.proofs.FactoringSteps.{begun_none, begun_some, shared_column, reach, weight_cut}
+use Rattle.lw_form.proofs.FactoringSteps.{begun_none, begun_some, shared_column, weight_cut}
 use Rattle.lw_form.proofs.factoring.begin.Goals as goal
 
 pub returns-in-None : goal.returns-in-None
@@ -16,9 +16,6 @@ returns-in-None c = record {
 
 pub bounds-fanins-literal : goal.bounds-fanins-literal
 bounds-fanins-literal c = shared_column c.args.rows.items c.deref.result.now (length c.args.fanins.now) c.in-Some.literal c.deref.ensures.value c.in-Some.ensures
-
-pub cut_by-requires : goal.cut_by-requires
-cut_by-requires c = reach (length c.args.fanins.now) c.in-Some.literal.column c.args.rows.items (shared_column c.args.rows.items c.deref.result.now (length c.args.fanins.now) c.in-Some.literal c.deref.ensures.value c.in-Some.ensures) c.requires.columns
 
 pub returns : goal.returns
 returns c = on_ok_weaker c.push_cut.result (λ pushed. record {

@@ -1,7 +1,6 @@
 use Rattle.std.proofs.Common.{◌≡◌, ◌+◌, ◌≤◌, drop}
 use Rattle.lw_laws.specs.Signals.{count_having}
 use Rattle.lw_form.specs.Factoring.{plain_literal}
-use Rattle.lw_form.proofs.FactoringSteps.{Rows}
 use Rattle.lw_form.proofs.factoring.count.Given as goal
 
 abbrev pub invariant-loop-row : goal.invariant-loop-row

@@ -1,10 +1,9 @@
-use Rattle.std.proofs.Common.{◌≡◌, ◌∙◌, ◌∷◌, ◌++◌, ◌<◌, ◌+◌, [], sym, subst, ap, length, List, ℕ, arith, OnOk}
+use Rattle.std.proofs.Common.{◌∙◌, ◌∷◌, ◌++◌, [], subst, ap, arith}
 use Rattle.std.proofs.lemmas.List.{nil_from_length}
 use Rattle.lw_laws.specs.Signals.{factored}
-use Rattle.lw_form.specs.declared.factoring.Task.{Task}
-use Rattle.lw_form.specs.declared.factoring.Task.TheVariants.{Factor, Join}
+use Rattle.lw_form.specs.declared.factoring.Task.TheVariants.{Factor}
 use Rattle.lw_form.specs.Factoring.{IsWorking, weights}
-use Rattle.lw_form.specs.Tables.{made, forms_at, HasMore}
+use Rattle.lw_form.specs.Tables.{made, forms_at}
 use Rattle.lw_form.proofs.Joining.{more_same, more_twice}
 use Rattle.lw_form.proofs.FactoringSteps.{work_first, work_last, some_done, weights_last}
 use Rattle.lw_form.proofs.factoring.factored.Goals as goal

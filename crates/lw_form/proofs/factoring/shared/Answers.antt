@@ -1,14 +1,8 @@
-use Rattle.std.proofs.Common.{◌≡◌, ◌∙◌, ◌∷◌, ◌-◌, ◌+◌, sym, ap, false}
+use Rattle.std.proofs.Common.{◌∙◌, ◌∷◌, ◌-◌, ◌+◌, sym, ap, false}
 use Rattle.lw_laws.specs.Signals.{most_common, literals_from}
 use Rattle.lw_form.specs.Factoring.{plain_choice}
-use Rattle.lw_form.proofs.FactoringSteps.{reach, literal_at, literals_more, literals_end}
+use Rattle.lw_form.proofs.FactoringSteps.{literal_at, literals_more, literals_end}
 use Rattle.lw_form.proofs.factoring.shared.Goals as goal
-
-pub better-choice-requires : goal.better-choice-requires
-better-choice-requires c = reach c.args.columns c.loop-column.column c.args.rows.now c.loop-column-test.true c.requires
-
-pub better-choice-requires-in-loop-column : goal.better-choice-requires-in-loop-column
-better-choice-requires-in-loop-column c = reach c.args.columns c.loop-column.column c.args.rows.now c.loop-column-test.true c.requires
 
 pub loop-column-preserved : goal.loop-column-preserved
 loop-column-preserved c =

@@ -49,9 +49,6 @@ sum_of_products-requires c = record {
   columns = subst (HaveColumns (length c.args.fanins.now)) (sym (c.deref.ensures.value ∙ c.in_ok-rows.ensures)) c.requires.columns;
 }
 
-pub have_shared-requires : goal.have_shared-requires
-have_shared-requires c = subst (HaveColumns (length c.args.fanins.now)) (sym (c.deref-2.ensures.value ∙ c.in_ok-rows.ensures)) c.requires.columns
-
 pub factored-requires : goal.factored-requires
 factored-requires c = record {
   is_width = c.requires.is_width;

@@ -1,9 +1,8 @@
-use Rattle.std.proofs.Common.{◌≡◌, ◌∙◌, refl, ap, sym, subst, length, map, Some}
+use Rattle.std.proofs.Common.{◌∙◌, refl, ap, length, map, Some}
 use Rattle.std.proofs.lemmas.Option.{slice_get_read}
 use Rattle.lw_laws.proofs.Numbers.{slice_get_map}
 use Rattle.lw_form.specs.Bases.{plain_base}
 use Rattle.lw_form.specs.Sampled.{sample_base}
-use Rattle.lw_form.specs.Tables.{AreBelow}
 use Rattle.lw_form.proofs.SampleValues.{sampled_first, sampled_more, sampled_done}
 use Rattle.lw_form.proofs.sampling.samples.Goals as goal
 
@@ -14,11 +13,6 @@ loop-base-preserved c =
 
 pub loop-base-init : goal.loop-base-init
 loop-base-init c = sampled_first (map plain_base c.args.bases.now) c.in_ok-samples.samples.items c.in_ok-samples.ensures.items
-
-pub sample_of-sample-requires : goal.sample_of-sample-requires
-sample_of-sample-requires c =
-    let at = slice_get_map plain_base c.args.bases.now c.loop-base.base-index c.base-item.result (slice_get_read c.args.bases.now (length c.args.bases.now) c.loop-base.base-index c.base-item.result refl c.loop-base-test.true c.base-item.is) in
-    λ fs e. subst (λ n. AreBelow n fs) (sym (ap length c.deref.ensures.value ∙ c.loop-base.invariant.0)) (c.requires c.loop-base.base-index fs (at ∙ ap Some e))
 
 pub returns : goal.returns
 returns c = sampled_done c.args.bases.now c.loop-base.samples.items c.loop-base.base-index c.loop-base-test.false c.loop-base.auto.base-index-end c.loop-base.invariant

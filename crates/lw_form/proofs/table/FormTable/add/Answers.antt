@@ -1,6 +1,5 @@
-use Rattle.std.proofs.Common.{◌≡◌, ◌<◌, ◌^◌, ◌+◌, ◌≤◌, sym, ap, ◌∙◌, arith, length, subst, Some, slice_get}
-use Rattle.lw_laws.specs.Occurring.{appended}
-use Rattle.lw_form.specs.Tables.{Table, made, spelled, AreMade, AreBelow}
+use Rattle.std.proofs.Common.{◌<◌, ◌^◌, sym, arith, length, subst}
+use Rattle.lw_form.specs.Tables.{Table, made, AreBelow}
 use Rattle.lw_form.proofs.Tables.{IsAdded, added}
 use Rattle.lw_form.proofs.table.FormTable.add.Goals as goal
 

@@ -1,5 +1,4 @@
-use Rattle.std.proofs.Common.{sym, ap, ◌∙◌, arith, length}
-use Rattle.lw_form.specs.Tables.{Table, made, AreMade}
+use Rattle.std.proofs.Common.{arith}
 use Rattle.lw_form.proofs.Tables.{forms_count}
 use Rattle.lw_form.proofs.table.FormTable.len.Goals as goal
 
