@@ -102,15 +102,16 @@ pub(crate) fn ranks(alloc: Global, graph: &SmallGraph) -> Result<Vec<usize>, All
 
 // Whether a signal is an input, or a node below a rank.
 fn is_below(ranks: &[usize], inputs: usize, s: u32, rank: usize) -> bool
-    requires { s < inputs + length ranks.now }
     ensures { IsTrue result → (k : ℕ) → s ≡ inputs + k → rank_at ranks.now k < rank }
 {
-    (s as usize) < inputs || ranks[s as usize - inputs] < rank
+    let Some(node) = (s as usize).checked_sub(inputs) else {
+        return true;
+    };
+    node < ranks.len() && ranks[node] < rank
 }
 
 // Whether that is so of some signals.
 pub(crate) fn are_below(ranks: &[usize], inputs: usize, fanins: &[u32], rank: usize) -> bool
-    requires { All (λ s. s < inputs + length ranks.now) fanins.now }
     ensures { IsTrue result → (k : ℕ) → Contains fanins.now (inputs + k) →
         rank_at ranks.now k < rank }
 {

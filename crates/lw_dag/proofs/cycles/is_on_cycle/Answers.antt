@@ -1,7 +1,6 @@
-use Rattle.std.proofs.Common.{◌≡◌, ◌+◌, ◌<◌, [], All, length, refl, sym, subst, ◌∙◌, arith, Contains}
+use Rattle.std.proofs.Common.{◌≡◌, ◌+◌, [], refl, sym, subst, ◌∙◌, arith, Contains}
 use Rattle.std.proofs.lemmas.Bool.{false≢true}
 use Rattle.std.proofs.lemmas.List.{get_or_default}
-use Rattle.std.proofs.lemmas.List.Elements.{All-same}
 use Rattle.lw_dag.specs.Graphs.{fanins_at}
 use Rattle.lw_dag.proofs.Searching.{placed_no_cycle}
 use Rattle.lw_dag.proofs.Ranks.{clear_below}
@@ -23,14 +22,6 @@ bounds-heights-graph c = omega (arith, c.requires.heights.known.one_each, c.requ
 
 pub bounds-ranks-p : goal.bounds-ranks-p
 bounds-ranks-p c = omega (arith, c.requires.ranks.one_each, c.requires.within)
-
-pub are_below-requires : goal.are_below-requires
-are_below-requires c =
-    let graph = c.args.graph.now.nodes.now in
-    let p = c.args.p in
-    let ranks : length c.args.ranks.now ≡ length graph = c.requires.ranks.one_each in
-    let fanins = c.as_slice.ensures ∙ get_or_default graph p c.index-graph-p.result [] c.requires.within in
-    subst (λ n. All (λ s. s < c.args.graph.now.inputs + n) c.as_slice.result.now) (sym ranks) (All-same (λ s. s < c.args.graph.now.inputs + length graph) _ _ fanins (c.args.graph.now.small.graph p))
 
 pub returns : goal.returns
 returns c = c.leads_to_itself.ensures

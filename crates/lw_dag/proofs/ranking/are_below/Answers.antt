@@ -1,7 +1,7 @@
 use Rattle.std.proofs.Common.{◌≡◌, ◌+◌, ◌<◌, ◌⊎◌, ℕ, List, inl, inr, Contains, arith, get_or, length, refl, subst, sym, take}
 use Rattle.std.proofs.lemmas.Bool.{false≢true}
 use Rattle.std.proofs.lemmas.List.{take_all, take_more}
-use Rattle.std.proofs.lemmas.List.Elements.{All-get_or, Contains-push_cases}
+use Rattle.std.proofs.lemmas.List.Elements.{Contains-push_cases}
 use Rattle.lw_dag.specs.Ranking.{rank_at}
 use Rattle.lw_dag.proofs.ranking.are_below.Goals as goal
 
@@ -12,9 +12,6 @@ one_more P inputs fanins i below all next k among = by_last (Contains-push_cases
     by_last : Contains (take i fanins) (inputs + k) ⊎ (get_or fanins i 0 ≡ inputs + k) → P k
     by_last (inl old) = all k old
     by_last (inr same) = next k same
-
-pub is_below-requires : goal.is_below-requires
-is_below-requires c = All-get_or (λ s. s < c.args.inputs + length c.args.ranks.now) c.args.fanins.now c.loop-s.s-index 0 c.loop-s-test.true c.requires
 
 pub returns-then-not-is_below : goal.returns-then-not-is_below
 returns-then-not-is_below c = λ is. absurd (false≢true is)
