@@ -28,18 +28,8 @@ fn fill_row(row: &mut Vec<Pair>, pairs: &[Pair]) -> Result<(), AllocError>
     Ok(())
 }
 
-// Where the pairs of a class start: where those of the class before it end.
-fn start_of(ends: &[u32], class: usize) -> usize
-    requires { class < length ends.now }
-    ensures { result ≡ start_at 0 ends.now class }
-{
-    if class == 0 {
-        return 0;
-    }
-    ends[class - 1] as usize
-}
-
-// The pairs of a class, as they stand in the array.
+// The pairs of a class, as they stand in the array: they start where those of the class before it
+// end.
 fn pairs_at<'a>(pairs: &'a [Pair], ends: &[u32], class: usize) -> &'a [Pair]
     requires ends { AreEnds (length pairs.now) 0 ends.now }
     requires within { class < length ends.now }
@@ -47,7 +37,11 @@ fn pairs_at<'a>(pairs: &'a [Pair], ends: &[u32], class: usize) -> &'a [Pair]
         (slice_index ends.now class) }
     ensures size { start_at 0 ends.now class + length result.now ≡ slice_index ends.now class }
 {
-    let start = start_of(ends, class);
+    let start = if class == 0 {
+        0
+    } else {
+        ends[class - 1] as usize
+    };
     &pairs[start..ends[class] as usize]
 }
 
