@@ -1,6 +1,5 @@
 -- Tables: fan-ins at classes, and bits.
-use Rattle.std.specs.Prelude.{ℕ, ◌^◌, ◌<◌, ◌≤◌, ◌≡◌, ◌==◌, ◌↔◌, ◌⊎◌, ◌++◌, Bool, false, List, [], ◌∷◌, length, Contains, IsTrue, IsFalse, Some, if◌then◌else◌, slice_get}
-use Rattle.std.specs.List.Sorted.{IsNonDecreasingBy, IsPermutation}
+use Rattle.std.specs.Prelude.{ℕ, ◌^◌, ◌<◌, ◌≤◌, ◌≡◌, ◌==◌, ◌↔◌, ◌⊎◌, ◌++◌, Bool, false, List, [], ◌∷◌, length, Contains, Some, if◌then◌else◌, slice_get}
 use Rattle.lw_pool.specs.declared.id.ClassId.{ClassId}
 use Rattle.lw_laws.specs.Trees.{Tree, tree_value}
 use Rattle.lw_laws.specs.Graphs.{Graph, Stands}
@@ -21,16 +20,6 @@ pub record IsTableAt (g : Graph) (most c : ℕ) (fanins : List ℕ) (bits : ℕ)
   pub stands : Stands g pins tree c
   pub at : (q : ℕ) → Contains pins q ↔ Contains fanins q
   pub values : (v : ℕ → Bool) → is_set bits (spelled v fanins) ≡ tree_value (pin_value v pins) tree
-
--- whether the class is among the classes
-pub record TellsAmong (classes : List ClassId) (class : ClassId) (among : Bool) : Type 0 where
-  pub some : IsTrue among → Contains classes class
-  pub none : IsFalse among → Contains classes class → ⊥
-
--- the same classes, by their numbers
-pub record AreSortedClasses (old new : List ClassId) : Type 0 where
-  pub permutation : IsPermutation old new
-  pub sorted : IsNonDecreasingBy (λ (c : ClassId). c.0) new
 
 -- different, and in rising order
 abbrev pub AreRisingClasses : List ClassId → Type 0

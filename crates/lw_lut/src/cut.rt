@@ -42,9 +42,11 @@ pub(crate) fn numbers_of(pins: PinCount) -> u32
 
 // Whether a bit is set.
 pub(crate) fn is_set(bits: u64, place: u32) -> bool
-    requires { place < 64 }
     ensures { result ≡ is_set bits place }
 {
+    if place >= 64 {
+        return false;
+    }
     (bits >> place) & 1 == 1
 }
 
@@ -138,7 +140,6 @@ pub(crate) fn appended(bits: u64, value: bool) -> u64
 // class that holds them, where the pins of the first cut and then those of the second spell a
 // number.
 fn joined_value(x: &Cut, left: ClassId, y: &Cut, right: ClassId, class: ClassId, place: u32) -> bool
-    requires { place < 64 }
     ensures { result ≡ joined_value x.now left.0 y.now right.0 class.0 place }
 {
     let low = y.pins().len();

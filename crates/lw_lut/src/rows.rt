@@ -51,7 +51,6 @@ pub(crate) struct SmallTable<'a> {
 
 // The row of a number, where its bit is set.
 fn put_row_at<S: Sink>(sink: &mut S, waiting: &mut Waiting, small: &SmallTable, place: u32)
-    requires { place < 64 }
     ensures { let table = small.now.table.now in
         Puts (S.taken sink.old) (S.faults sink.old) waiting.old (S.taken sink.new)
         (S.faults sink.new) waiting.new

@@ -1,6 +1,7 @@
-ghost use Rattle.std.specs.Prelude.{◌≡◌, ◌≤◌, ◌^◌, length, IfOk, OnOk};
+ghost use Rattle.std.specs.Prelude.{◌≡◌, ◌≤◌, ◌^◌, ◌↔◌, length, Contains, IfOk, IsTrue, OnOk};
+ghost use Rattle.lw_facts.specs.Sorting.{AreSortedFrom};
 ghost use Rattle.lw_lut.specs.Packed.{packed};
-ghost use Rattle.lw_lut.specs.Tables.{AreRisingOf, AreSortedClasses, IsAdded, IsSpelledNumber, IsTableOf, TellsAmong, given, table_value};
+ghost use Rattle.lw_lut.specs.Tables.{AreRisingOf, IsAdded, IsSpelledNumber, IsTableOf, given, table_value};
 ghost use Rattle.lw_pool.specs.Numbers.{numbers};
 
 use crate::cut::{Cut, PinCount, appended, is_odd, is_set, numbers_of, turned};
@@ -18,7 +19,7 @@ pub struct Table {
 
 // Whether a class is among some.
 fn is_among(classes: &[ClassId], class: ClassId) -> bool
-    ensures { TellsAmong classes.now class result }
+    ensures { IsTrue result ↔ Contains classes.now class }
 {
     for at in classes {
         if at.0 == class.0 {
@@ -30,7 +31,7 @@ fn is_among(classes: &[ClassId], class: ClassId) -> bool
 
 // Sorts classes by their numbers.
 fn sort(classes: &mut Vec<ClassId>)
-    ensures { AreSortedClasses classes.old.items classes.new.items }
+    ensures { AreSortedFrom (λ class. class.0) classes.old.items classes.new.items }
 {
     classes.sort_unstable_by_key(|class| class.0);
 }
