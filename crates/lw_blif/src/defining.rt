@@ -1,5 +1,5 @@
 // Signals that a line defines, and the node that it begins.
-ghost use Rattle.std.specs.Prelude.{◌≡◌, ◌<◌, ◌++◌, [], ◌∷◌, length, take, drop, option_to_list, Some, IfOk, OnOk};
+ghost use Rattle.std.specs.Prelude.{◌≡◌, ◌++◌, [], ◌∷◌, take, drop, option_to_list, Some, IfOk, OnOk};
 ghost use Rattle.std.specs.List.{slice_range};
 ghost use Rattle.indexmap.specs.IndexSet.{insert_all};
 ghost use Rattle.std.specs.Str.{bytes_eq};
@@ -34,16 +34,10 @@ pub fn define_all(
     Ok(true)
 }
 
-/// Defines a word. Whether it was new.
-pub fn define_one(
-    alloc: Global,
-    defined: &mut IndexSet<Name>,
-    word: &[u8],
-) -> Result<bool, AllocError>
-    requires { 0 < length word.now }
-    ensures { IfOk result (AreDefined defined.old.keys (word.now ∷ []) defined.new.keys) }
+/// Defines a name. Whether it was new.
+pub fn define_one(defined: &mut IndexSet<Name>, name: Name) -> Result<bool, AllocError>
+    ensures { IfOk result (AreDefined defined.old.keys (name ∷ []) defined.new.keys) }
 {
-    let name = Name::from_slice(alloc, word)?;
     let is_new = defined.insert(name)?;
     Ok(is_new)
 }

@@ -219,8 +219,14 @@ impl Parts {
         let words = line.words;
         match line.command {
             Command::Inputs => define_all(self.alloc, &mut self.defined, words, 1),
-            Command::Names => define_one(self.alloc, &mut self.defined, last_word(words)),
-            Command::Latch => define_one(self.alloc, &mut self.defined, words.get(2)),
+            Command::Names => {
+                let name = Name::from_slice(self.alloc, last_word(words))?;
+                define_one(&mut self.defined, name)
+            }
+            Command::Latch => {
+                let output = Name::from_slice(self.alloc, words.get(2))?;
+                define_one(&mut self.defined, output)
+            }
             _ => Ok(true),
         }
     }

@@ -24,22 +24,22 @@ returns-in-Inputs c =
     record { fresh = all.fresh; defined = λ e. record { model = refl; inputs = refl; outputs = refl; defined = all.defined e; nodes = refl; latches = refl; arrivals = refl; node = refl } })
     c.define_all.ensures
 
-pub returns-in-Names : goal.returns-in-Names
-returns-in-Names c =
+pub returns-in_ok-name-in-Names : goal.returns-in_ok-name-in-Names
+returns-in_ok-name-in-Names c =
     let old = c.args.self.now.defined.keys in
     let words = c.args.line.now.words.now in
-    let names : c.last_word.result.now ∷ [] ≡ defined_for c.args.line.now.command words = ap (λ w. w ∷ []) c.last_word.ensures.word ∙ ap (λ k. defined_for k words) (sym c.in-Names.is) in
+    let names : c.in_ok-name-in-Names.name ∷ [] ≡ defined_for c.args.line.now.command words = ap (λ w. w ∷ []) (c.in_ok-name-in-Names.ensures ∙ c.last_word.ensures.word) ∙ ap (λ k. defined_for k words) (sym c.in-Names.is) in
     IfOk-weaker c.define_one.result _ _
     (λ b is.
     let all = subst (λ (ns : List (List ℕ)). AreDefined old ns c.define_one.new.defined.keys b) names is in
     record { fresh = all.fresh; defined = λ e. record { model = refl; inputs = refl; outputs = refl; defined = all.defined e; nodes = refl; latches = refl; arrivals = refl; node = refl } })
     c.define_one.ensures
 
-pub returns-in-Latch : goal.returns-in-Latch
-returns-in-Latch c =
+pub returns-in_ok-output-in-Latch : goal.returns-in_ok-output-in-Latch
+returns-in_ok-output-in-Latch c =
     let old = c.args.self.now.defined.keys in
     let words = c.args.line.now.words.now in
-    let names : c.get.result.now ∷ [] ≡ defined_for c.args.line.now.command words = third_word-get words c.get.result.now c.get.ensures.word ∙ ap (λ k. defined_for k words) (sym c.in-Latch.is) in
+    let names : c.in_ok-output-in-Latch.output ∷ [] ≡ defined_for c.args.line.now.command words = ap (λ w. w ∷ []) c.in_ok-output-in-Latch.ensures ∙ third_word-get words c.get.result.now c.get.ensures.word ∙ ap (λ k. defined_for k words) (sym c.in-Latch.is) in
     IfOk-weaker c.define_one-in-Latch.result _ _
     (λ b is.
     let all = subst (λ (ns : List (List ℕ)). AreDefined old ns c.define_one-in-Latch.new.defined.keys b) names is in
