@@ -1,6 +1,5 @@
 // The draft of what lines say.
-ghost use Rattle.std.specs.Prelude.{◌≡◌, ◌<◌, ◌+◌, ◌++◌, IfOk, OnOk, List, All, length, drop, replicate, Some, option_to_list, unwrap_or, codes, slice_get};
-ghost use Rattle.indexmap.specs.IndexSet.{index_set_len};
+ghost use Rattle.std.specs.Prelude.{◌≡◌, ◌+◌, ◌++◌, IfOk, OnOk, List, All, length, drop, replicate, option_to_list, unwrap_or, codes};
 ghost use Rattle.lw_frame.specs.Frames.{input_names, root_names};
 ghost use Rattle.std.specs.List.{IsDistinct};
 ghost use Rattle.std.specs.Str.{bytes_eq};
@@ -28,17 +27,10 @@ fn names_of(alloc: Global, set: &IndexSet<Name>) -> Result<Names, AllocError>
 {
     let mut names = Names::new(alloc);
     for i in 0..set.len() {
-        let name = name_at(set, i);
+        let name = set.get_index(i).unwrap();
         names.push(Name::from_slice(alloc, name.as_bytes())?)?;
     }
     Ok(names)
-}
-
-fn name_at(set: &IndexSet<Name>, place: usize) -> &Name
-    requires { place < index_set_len set.now }
-    ensures { slice_get set.now.keys place ≡ Some result.now }
-{
-    set.get_index(place).unwrap()
 }
 
 // The name, or that of a model without one.
