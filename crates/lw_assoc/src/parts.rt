@@ -1,6 +1,5 @@
 // The parts of an And by their masks, each found from one with an operand more.
-ghost use Rattle.std.specs.Prelude.{◌≡◌, ◌+◌, ◌^◌, ◌<◌, ◌≤◌, ℕ, List, Some, slice_get, length};
-ghost use Rattle.lw_laws.specs.NumberedForms.Base.{base_and};
+ghost use Rattle.std.specs.Prelude.{◌≡◌, ◌+◌, ◌<◌, ◌≤◌, length};
 ghost use Rattle.lw_form.specs.Kept.{HasPart};
 ghost use Rattle.lw_assoc.specs.Parts.{HasDrops, HasParts, IsFirstUnset};
 

@@ -1,6 +1,5 @@
 // A row more of a node.
-ghost use Rattle.std.specs.Prelude.{◌≡◌, ◌++◌, [], ◌∷◌, true, not, length, codes, IfOk, OnOk};
-ghost use Rattle.std.specs.Str.{bytes_eq};
+ghost use Rattle.std.specs.Prelude.{◌≡◌, true, length, IfOk, OnOk};
 ghost use Rattle.lw_blif.specs.LineFaults.{has_shape, last_word};
 ghost use Rattle.lw_blif.specs.Drafts.{columns_of};
 ghost use Rattle.lw_blif.specs.Readers.{row_added};

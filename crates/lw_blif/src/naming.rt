@@ -1,5 +1,5 @@
 // Words in places of names.
-ghost use Rattle.std.specs.Prelude.{◌≡◌, ◌+◌, ◌-◌, ◌<◌, ◌≤◌, length, drop, take, IfOk};
+ghost use Rattle.std.specs.Prelude.{◌≡◌, ◌-◌, ◌<◌, ◌≤◌, length, drop, IfOk};
 ghost use Rattle.std.specs.List.{list_all, slice_range};
 ghost use Rattle.lw_blif.specs.LineFaults.{last_word};
 ghost use Rattle.lw_words.specs.Words.{first_word, is_name};

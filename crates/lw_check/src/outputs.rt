@@ -1,5 +1,5 @@
 // Whether each output's net is at its class, and arrives at the label of the class.
-ghost use Rattle.std.specs.Prelude.{◌≡◌, ◌↔◌, ◌<◌, ◌≤◌, IfOk, IsTrue, Some, length, slice_get};
+ghost use Rattle.std.specs.Prelude.{◌≡◌, ◌↔◌, ◌<◌, IfOk, IsTrue, Some, length, slice_get};
 ghost use Rattle.lw_check.specs.Cases.{claim_of, IsAskable, PassesGates, Tells};
 ghost use Rattle.lw_check.specs.Claims.{AreAtRoots, AreOnTime, HasPotential, HasSamePorts};
 ghost use Rattle.lw_check.specs.Outputs.{AreArrivalsOf, FindsOffRoot, FindsOffTime, label_of_net};

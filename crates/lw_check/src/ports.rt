@@ -1,7 +1,6 @@
 // Whether a netlist has the ports of a network, and its frame.
 ghost use Rattle.std.specs.Prelude.{◌≡◌, ◌↔◌, ◌<◌, IsTrue, All, length, map};
 ghost use Rattle.lw_pool.specs.declared.id.NetId.{NetId};
-ghost use Rattle.lw_pool.specs.declared.latch.Latch.{Latch as LatchOfFrame};
 ghost use Rattle.lw_net.specs.Networks.{name_in};
 ghost use Rattle.lw_check.specs.Cases.{claim_of};
 ghost use Rattle.lw_check.specs.Claims.{HasSamePorts};

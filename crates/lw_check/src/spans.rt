@@ -1,6 +1,5 @@
 // Where the patterns of a cell stand among all.
-ghost use Rattle.std.specs.Prelude.{◌≡◌, ◌≤◌, ◌<◌, ◌+◌, All, IfOk, length};
-ghost use Rattle.lw_laws.specs.Covers.{Pattern as TreeOfCell};
+ghost use Rattle.std.specs.Prelude.{◌≤◌, ◌<◌, ◌+◌, IfOk};
 ghost use Rattle.lw_check.specs.Spans.{AreSpans, IsWith, HasCellsBelow};
 ghost use Rattle.lw_pool.specs.Numbers.{most_signals};
 

@@ -1,6 +1,6 @@
 // The first node that leads to itself.
-ghost use Rattle.std.specs.Prelude.{◌≡◌, ◌+◌, ◌*◌, ◌<◌, ◌≤◌, ◌↔◌, [], ℕ, false, length, drop, replicate, vec_len, IsTrue, IfOk, IfSome, IfNone, OnOk, MatchOption, Contains, All};
-ghost use Rattle.lw_dag.specs.Graphs.{most_signals, IsGraph, fanins_at, height_at, AreHeights, IsStuck, IsFirst};
+ghost use Rattle.std.specs.Prelude.{◌≡◌, ◌+◌, ◌<◌, ◌≤◌, ◌↔◌, [], ℕ, false, length, drop, vec_len, IsTrue, IfOk, IfSome, IfNone, OnOk, MatchOption, Contains, All};
+ghost use Rattle.lw_dag.specs.Graphs.{most_signals, IsGraph, height_at, AreHeights, IsStuck, IsFirst};
 ghost use Rattle.lw_dag.specs.Searching.{AreLookedAt};
 ghost use Rattle.lw_dag.specs.Ranking.{AreRanks};
 ghost use Rattle.lw_dag.specs.SmallGraphs.{AreHeightsIn, LeadsToItself, AreAllHigh, IsLowAt};

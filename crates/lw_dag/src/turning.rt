@@ -1,6 +1,6 @@
 // An order of the nodes: that in which a walk through the graph turned round, depth first, leaves
 // them.
-ghost use Rattle.std.specs.Prelude.{◌≡◌, ◌+◌, ◌<◌, ◌≤◌, [], length, replicate, vec_len, IfOk, OnOk, All};
+ghost use Rattle.std.specs.Prelude.{◌≡◌, ◌+◌, ◌<◌, [], length, replicate, vec_len, IfOk, OnOk, All};
 ghost use Rattle.lw_dag.specs.Ranking.{AreUserRows, AreWithin, IsWalk};
 
 use crate::graph::SmallGraph;

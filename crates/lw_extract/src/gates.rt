@@ -1,5 +1,5 @@
 // Gates and outputs over the nets of classes.
-ghost use Rattle.std.specs.Prelude.{◌≡◌, ◌≤◌, ◌+◌, ◌<◌, ◌^◌, All, IfOk, IsSome, Some, length, map};
+ghost use Rattle.std.specs.Prelude.{◌≡◌, ◌+◌, ◌<◌, ◌^◌, All, IfOk, Some, length, map};
 ghost use Rattle.lw_netlist.specs.declared.gate.Port.{Port as PlainPort};
 ghost use Rattle.lw_extract.specs.Gates.{AreGatesOf, HaveNets, IsGateOf};
 ghost use Rattle.lw_extract.specs.Nets.{net_in};

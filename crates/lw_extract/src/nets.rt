@@ -1,5 +1,5 @@
 // The nets of classes.
-ghost use Rattle.std.specs.Prelude.{◌≡◌, ◌≤◌, ◌+◌, ◌<◌, ◌^◌, All, IfOk, length};
+ghost use Rattle.std.specs.Prelude.{◌≡◌, ◌+◌, ◌<◌, ◌^◌, All, IfOk, length};
 ghost use Rattle.lw_extract.specs.Choosing.{chosen_classes};
 ghost use Rattle.lw_extract.specs.Nets.{AreInputNets, AreClassNets};
 

@@ -1,5 +1,5 @@
 // The values of base forms where every input is false.
-ghost use Rattle.std.specs.Prelude.{◌≡◌, ◌/◌, ◌<◌, ℕ, List, Some, slice_get, map, length, IfOk};
+ghost use Rattle.std.specs.Prelude.{◌≡◌, ◌/◌, ◌<◌, ℕ, List, Some, slice_get, map, IfOk};
 ghost use Rattle.std.specs.List.{list_all};
 ghost use Rattle.lw_laws.specs.NumberedForms.{NumberedForms};
 ghost use Rattle.lw_laws.specs.NumberedForms.Base.{base_and};

@@ -1,5 +1,5 @@
 // Entries of cells.
-ghost use Rattle.std.specs.Prelude.{◌≡◌, ◌<◌, ⊤, MatchResult, MatchOption, IfOk, true, false, None, Ok, length, replicate, map};
+ghost use Rattle.std.specs.Prelude.{◌≡◌, ◌<◌, MatchResult, MatchOption, IfOk, true, false, None, Ok, replicate, map};
 ghost use Rattle.std.specs.List.{list_any};
 ghost use Rattle.lw_genlib.specs.Entries as words;
 ghost use Rattle.lw_genlib.specs.Merging as merging;

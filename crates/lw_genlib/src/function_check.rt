@@ -1,5 +1,5 @@
 // What a check of a function's tokens keeps of those before, and tests of single tokens.
-ghost use Rattle.std.specs.Prelude.{◌≡◌, ◌||◌, OnOk, IfOk, true, false, not, ◌&&◌};
+ghost use Rattle.std.specs.Prelude.{◌≡◌, ◌||◌, true, false, ◌&&◌};
 ghost use Rattle.lw_genlib.specs.Cells.{ends_in_stroke};
 ghost use Rattle.lw_genlib.specs.Grammar as grammar;
 ghost use Rattle.lw_genlib.specs.Functions as function;

@@ -1,5 +1,5 @@
 // Merges an entry into the cell of its name: one more form.
-ghost use Rattle.std.specs.Prelude.{◌≡◌, ◌&&◌, ◌==◌, IfOk, length, true, List, ℕ};
+ghost use Rattle.std.specs.Prelude.{◌≡◌, ◌&&◌, ◌==◌, IfOk, true};
 ghost use Rattle.std.specs.List.{zip, list_all, position, IsDistinct};
 ghost use Rattle.std.specs.Str.{bytes_eq};
 ghost use Rattle.lw_genlib.specs.Cells.{CellParts, IsCell};

@@ -1,6 +1,6 @@
 // Reads one word, by what is expected next.
-ghost use Rattle.std.specs.Prelude.{◌≡◌, ◌<◌, ◌≤◌, ◌∷◌, ◌++◌, ⊤, MatchResult, Some, None, List, ℕ};
-ghost use Rattle.lw_genlib.specs.Cells.{IsWord, IsPart};
+ghost use Rattle.std.specs.Prelude.{◌≡◌, ◌<◌, ◌∷◌, ◌++◌, MatchResult, Some, None, List};
+ghost use Rattle.lw_genlib.specs.Cells.{IsWord};
 ghost use Rattle.lw_genlib.specs.Streams.{StreamItem, word_on, with_rest};
 ghost use Rattle.lw_genlib.specs.Entries as words;
 ghost use Rattle.lw_genlib.specs.Libraries as library;

@@ -1,5 +1,5 @@
 // Cuts words into tokens.
-ghost use Rattle.std.specs.Prelude.{◌≡◌, ◌+◌, ◌<◌, ◌^◌, ◌++◌, OnOk, replicate, length, not};
+ghost use Rattle.std.specs.Prelude.{◌≡◌, ◌+◌, ◌<◌, ◌^◌, ◌++◌, OnOk, not};
 ghost use Rattle.std.specs.List.{prefix_len};
 ghost use Rattle.lw_genlib.specs.Cells.{is_punct_byte};
 ghost use Rattle.lw_genlib.specs.Functions.{tokens_in};

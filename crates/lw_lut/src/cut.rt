@@ -1,5 +1,5 @@
 // Cuts with their bits.
-ghost use Rattle.std.specs.Prelude.{◌≡◌, ◌+◌, ◌*◌, ◌^◌, ◌<◌, ◌≤◌, ◌++◌, ◌&&◌, [], ◌∷◌, ℕ, not, length, if◌then◌else◌};
+ghost use Rattle.std.specs.Prelude.{◌≡◌, ◌+◌, ◌*◌, ◌^◌, ◌<◌, ◌≤◌, ◌++◌, ◌&&◌, [], ◌∷◌, not, length, if◌then◌else◌};
 ghost use Rattle.lw_lut.specs.Cuts.{ArePinsOfCut, CountsNumbers, IsConstantCut, IsPinCut, PlainCut, is_set, turned, is_odd};
 ghost use Rattle.lw_lut.specs.Packed.{joined_bits, joined_value};
 

@@ -1,5 +1,5 @@
 // Lines of words, and latches.
-ghost use Rattle.std.specs.Prelude.{◌≡◌, ◌∷◌};
+ghost use Rattle.std.specs.Prelude.{◌∷◌};
 ghost use Rattle.std.specs.List.{flat_map};
 ghost use Rattle.lw_io.specs.Waitings.{Puts};
 ghost use Rattle.lw_words.specs.Texts.{line};

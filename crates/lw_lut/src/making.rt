@@ -1,5 +1,4 @@
-ghost use Rattle.std.specs.Prelude.{◌≡◌, ◌<◌, ◌^◌, All, IfOk, length};
-ghost use Rattle.lw_pool.specs.declared.id.ClassId.{ClassId};
+ghost use Rattle.std.specs.Prelude.{◌≡◌, ◌<◌, All, IfOk};
 ghost use Rattle.lw_lut.specs.Depths.{AreLeastDepths};
 ghost use Rattle.lw_lut.specs.Nets.{AreFit, IsTableNetOf};
 ghost use Rattle.lw_lut.specs.Searches.{IsKnown};

@@ -1,5 +1,5 @@
 // The start of a search.
-ghost use Rattle.std.specs.Prelude.{◌≡◌, ◌≤◌, ◌<◌, ◌+◌, [], ℕ, length, replicate, None, IfOk};
+ghost use Rattle.std.specs.Prelude.{◌≡◌, ◌≤◌, ◌<◌, ◌+◌, length, replicate, None, IfOk};
 ghost use Rattle.lw_lut.specs.Searches.{AreCounts, AreDepthsUpTo, IsStarted};
 ghost use Rattle.lw_lut.specs.Sweeps.{IsAtDepth};
 

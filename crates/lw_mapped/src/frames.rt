@@ -1,5 +1,5 @@
 // What stands around a netlist: the arrivals of its inputs, and latches.
-ghost use Rattle.std.specs.Prelude.{◌≡◌, ◌≤◌, length};
+ghost use Rattle.std.specs.Prelude.{◌≤◌, length};
 ghost use Rattle.std.specs.List.{flat_map};
 ghost use Rattle.lw_mapped.specs.Texts.{arrival_line, optional_arrival, arrival_lines};
 ghost use Rattle.lw_io.specs.Waitings.{Puts};

@@ -1,9 +1,9 @@
 // Gates and wires.
-ghost use Rattle.std.specs.Prelude.{◌≡◌, ◌<◌, ◌∷◌, Some, length, map, All};
+ghost use Rattle.std.specs.Prelude.{◌≡◌, ◌<◌, Some, length, All};
 ghost use Rattle.std.specs.List.{flat_map};
 ghost use Rattle.lw_netlist.specs.Plain.{HasCell};
 ghost use Rattle.lw_frame.specs.Texts.{spaced};
-ghost use Rattle.lw_mapped.specs.Texts.{ties, net_name, gate_line, gate_text, wire, wire_text, HasNames};
+ghost use Rattle.lw_mapped.specs.Texts.{ties, gate_line, gate_text, wire, wire_text, HasNames};
 ghost use Rattle.lw_io.specs.Waitings.{Puts};
 
 use crate::lines::{name_of, put_tie, put_word};

@@ -1,5 +1,5 @@
 // Lines, one by one.
-ghost use Rattle.std.specs.Prelude.{◌≡◌, ◌++◌, [], ◌∷◌, ◌≤◌, List, None, Some, OnOk, if◌then◌else◌};
+ghost use Rattle.std.specs.Prelude.{◌≡◌, ◌++◌, [], ◌∷◌, List, None, Some, OnOk, if◌then◌else◌};
 ghost use Rattle.lw_mapped.specs.LineFaults.{is_row, is_names_command};
 
 use crate::command::Command;

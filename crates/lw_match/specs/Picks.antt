@@ -5,7 +5,6 @@ use Rattle.lw_laws.specs.Covers.{Pattern}
 use Rattle.lw_laws.specs.Costs.{Cost}
 use Rattle.lw_laws.specs.Marks.{Mark, Marks}
 use Rattle.lw_match.specs.declared.mark.Best.{Best}
-use Rattle.lw_match.specs.declared.mark.Mark.{Mark as MarkOfClass}
 use Rattle.lw_match.specs.declared.choosing.Pick.{Pick}
 use Rattle.lw_match.specs.declared.parts.Root.{Root}
 use Rattle.lw_match.specs.declared.query.Query.{Query}

@@ -1,4 +1,4 @@
-ghost use Rattle.std.specs.Prelude.{◌<◌, ◌≡◌, ◌↔◌, ℕ, length, IsTrue, MatchBool};
+ghost use Rattle.std.specs.Prelude.{◌<◌, ◌↔◌, IsTrue, MatchBool};
 ghost use Rattle.lw_laws.specs.Extracts.{IsListAtMost};
 ghost use Rattle.lw_pool.specs.Numbers.{numbers};
 

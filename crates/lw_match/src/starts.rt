@@ -1,5 +1,5 @@
 // Where the row of each class starts in the numbers of a table.
-ghost use Rattle.std.specs.Prelude.{◌≡◌, ◌*◌, ◌≤◌, IfOk, length};
+ghost use Rattle.std.specs.Prelude.{◌*◌, ◌≤◌, IfOk, length};
 ghost use Rattle.lw_match.specs.Numbers.{AreStarts, most_numbers};
 ghost use Rattle.lw_match.specs.Bounds.{AreApart, AreBare};
 

@@ -1,5 +1,5 @@
 // Names that are found by chains of the places of those in one bucket.
-ghost use Rattle.std.specs.Prelude.{◌≡◌, ◌≢◌, ◌<◌, ◌≤◌, ℕ, [], None, Some, length, replicate, take, IfOk, IfSome, IfNone, slice_index_or};
+ghost use Rattle.std.specs.Prelude.{◌≡◌, ◌≢◌, ◌<◌, ◌≤◌, ℕ, [], None, Some, length, IfSome, IfNone, slice_index_or};
 ghost use Rattle.lw_netlist.specs.Chains.{AreChains, bucket_in, hash_from, name_at};
 ghost use Rattle.lw_netlist.specs.Closing.{twice_after};
 

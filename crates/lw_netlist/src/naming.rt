@@ -1,5 +1,5 @@
 // Names in place of which numbers stand.
-ghost use Rattle.std.specs.Prelude.{◌≡◌, ◌<◌, ◌++◌, ◌∷◌, [], length, map, replicate, IfOk, MatchResult};
+ghost use Rattle.std.specs.Prelude.{◌≡◌, ◌<◌, ◌++◌, ◌∷◌, [], length, map, IfOk, MatchResult};
 ghost use Rattle.std.specs.List.{flat_map};
 ghost use Rattle.lw_netlist.specs.Closing.{drivers, gate_link, needs_of, out_of, wire_link};
 ghost use Rattle.lw_dag.specs.Names.{number_in};

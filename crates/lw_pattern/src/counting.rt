@@ -1,5 +1,5 @@
 // How many bracketings the operators of an expression have together.
-ghost use Rattle.std.specs.Prelude.{◌≡◌, ◌*◌, ◌≤◌, [], ◌∷◌, min, vec_len, length, OnOk, IfOk};
+ghost use Rattle.std.specs.Prelude.{◌≡◌, ◌*◌, ◌≤◌, min, vec_len, length, OnOk, IfOk};
 ghost use Rattle.lw_genlib.specs.Postfix.{arity, stepped};
 ghost use Rattle.lw_laws.specs.Patterns.{bracketed};
 ghost use Rattle.lw_pattern.specs.Growing.{capped, shape_count, count_by};

@@ -1,11 +1,10 @@
 // The patterns of a library.
-ghost use Rattle.std.specs.Prelude.{◌≡◌, ◌≤◌, ◌<◌, ◌++◌, map, All, OnOk, IfOk};
+ghost use Rattle.std.specs.Prelude.{◌≡◌, ◌<◌, ◌++◌, map, OnOk, IfOk};
 ghost use Rattle.lw_laws.specs.Covers.{ArePatterns};
 ghost use Rattle.lw_laws.specs.Netlists.{HaveCellTruths};
 ghost use Rattle.lw_laws.specs.Patterns.{patterns_of_cell, pattern_of_cell, trees_of_expr};
 ghost use Rattle.lw_pattern.specs.Libraries.{library_patterns, pin_counts, library_truth};
 ghost use Rattle.lw_pattern.specs.Listed.{listed};
-ghost use Rattle.lw_pattern.specs.Nodes.{node_count};
 
 use crate::growing::trees;
 use crate::placing::nodes;

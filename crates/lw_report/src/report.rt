@@ -1,5 +1,5 @@
 // The lines of a timing report.
-ghost use Rattle.std.specs.Prelude.{◌≡◌, ◌<◌, ◌++◌, Some, length, map, All, IfSome};
+ghost use Rattle.std.specs.Prelude.{◌≡◌, ◌<◌, Some, length, map, All, IfSome};
 ghost use Rattle.std.specs.List.{flat_map};
 ghost use Rattle.lw_genlib.specs.Tables.{millionths};
 ghost use Rattle.lw_netlist.specs.Plain.{IsOver};

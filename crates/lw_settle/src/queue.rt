@@ -1,4 +1,4 @@
-ghost use Rattle.std.specs.Prelude.{◌≡◌, ◌+◌, ◌*◌, ◌/◌, ◌^◌, ◌-◌, ◌<◌, ◌≤◌, ℕ, None, IfOk, length, drop, replicate, slice_set};
+ghost use Rattle.std.specs.Prelude.{◌≡◌, ◌+◌, ◌*◌, ◌/◌, ◌^◌, ◌-◌, ◌<◌, None, IfOk, length, drop, replicate, slice_set};
 ghost use Rattle.lw_settle.specs.Queues.{IsLowered, IsWonBut, TakesFirst};
 
 use crate::entry::{Entry, is_before, lesser, no_mark, with_mark};

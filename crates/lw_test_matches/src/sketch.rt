@@ -1,5 +1,5 @@
 // Graphs that are written down as the facts of a draft.
-ghost use Rattle.std.specs.Prelude.{◌≡◌, ◌≤◌, ◌∷◌, true, false, replicate, IfOk, OnOk, IfSome};
+ghost use Rattle.std.specs.Prelude.{◌≡◌, ◌∷◌, true, false, replicate, IfOk, OnOk, IfSome};
 ghost use Rattle.lw_reduce.specs.Drafting.{IsKnown, sample_of};
 
 use lw_graph::Graph;

@@ -1,5 +1,5 @@
 // What a run comes to.
-ghost use Rattle.std.specs.Prelude.{◌≡◌, ◌≤◌, ◌++◌, ◌↔◌, ℕ, None, IfSome};
+ghost use Rattle.std.specs.Prelude.{◌≡◌, ◌≤◌, ◌↔◌, None, IfSome};
 ghost use Rattle.lw_io.specs.Waitings.{Puts, IsTaken};
 ghost use Rattle.lw_top.specs.Words.{IsInRange};
 ghost use Rattle.lw_top.specs.Commands.{asked};

@@ -1,5 +1,5 @@
 // Pieces of a text, put one after another.
-ghost use Rattle.std.specs.Prelude.{◌++◌, codes, decimal};
+ghost use Rattle.std.specs.Prelude.{◌++◌, decimal};
 ghost use Rattle.lw_fixed.specs.Printed.{decimal_text};
 ghost use Rattle.lw_io.specs.Waitings.{Puts};
 

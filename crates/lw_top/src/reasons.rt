@@ -1,6 +1,4 @@
 // The texts of reasons.
-ghost use Rattle.std.specs.Prelude.{◌++◌, codes, decimal};
-ghost use Rattle.lw_fixed.specs.Printed.{decimal_text};
 ghost use Rattle.lw_io.specs.Waitings.{Puts};
 ghost use Rattle.lw_top.specs.Reasons.{label_text, label_reason, root_reason, value_reason, reason_text, no_verilog_text};
 

@@ -1,5 +1,5 @@
 // The line of each outcome.
-ghost use Rattle.std.specs.Prelude.{◌≡◌, ◌++◌, ◌∷◌, [], codes};
+ghost use Rattle.std.specs.Prelude.{◌++◌, codes};
 ghost use Rattle.lw_io.specs.Waitings.{Puts, IsTaken};
 ghost use Rattle.lw_top.specs.Words.{file_word};
 ghost use Rattle.lw_top.specs.Commands.{asked};

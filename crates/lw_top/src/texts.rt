@@ -1,7 +1,7 @@
 // The lines of a text, given to a reader.
 ghost use Rattle.std.specs.Prelude.{◌≡◌, ◌++◌, [], ◌∷◌, ◌≤◌, ℕ, Bool, List, All, length, OnOk};
 ghost use Rattle.lw_words.specs.Lines.{LogicalLine, logical_lines};
-ghost use Rattle.lw_words.specs.Standing.{is_finished, is_marked, fed_count};
+ghost use Rattle.lw_words.specs.Standing.{is_finished, fed_count};
 ghost use Rattle.lw_genlib.specs.Standing.{HasNoHash};
 ghost use Rattle.lw_top.specs.Texts.{IsGiven, IsGivenAll, IsGivenSome};
 ghost use Rattle.lw_words.specs.Limits.{most_bytes};

@@ -1,4 +1,4 @@
-ghost use Rattle.std.specs.Prelude.{◌≡◌, ◌<◌, ◌≤◌, ◌++◌, [], ◌∷◌, ℕ, All, IsTrue, MatchResult};
+ghost use Rattle.std.specs.Prelude.{◌≡◌, ◌<◌, ◌≤◌, ◌++◌, [], ◌∷◌, All, IsTrue, MatchResult};
 ghost use Rattle.lw_trade.specs.Queues.{Item, IsLaneTaken, IsMostLeft};
 
 use std::alloc::{AllocError, Global};

@@ -1,5 +1,5 @@
 // Some lanes together.
-ghost use Rattle.std.specs.Prelude.{◌≡◌, ◌++◌, ◌≤◌, ℕ, List, IfOk, MatchResult, [], length, option_map};
+ghost use Rattle.std.specs.Prelude.{◌≡◌, ◌++◌, ◌≤◌, List, IfOk, MatchResult, [], length, option_map};
 ghost use Rattle.lw_trade.specs.Queues.{Item, IsMostLeft, IsPushedBehind, IsTakenIn, flat};
 
 use crate::lane::Lane;

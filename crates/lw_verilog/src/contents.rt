@@ -96,7 +96,8 @@ fn push_wire(alloc: Global, wires: &mut Wires, names: &SpelledNames) -> Result<(
     }
     let to = Name::from_slice(alloc, names.get(0))?;
     let from = Name::from_slice(alloc, names.get(1))?;
-    wires.push(Wire { from, to })
+    wires.push(Wire { from, to })?;
+    Ok(())
 }
 
 // The number of the cell with a name, or this one.

@@ -1,11 +1,11 @@
 // Names and declarations.
-ghost use Rattle.std.specs.Prelude.{◌≡◌, ◌<◌, ◌≤◌, ◌∷◌, ◌++◌, [], codes, cond, length, map, All, MatchOption};
+ghost use Rattle.std.specs.Prelude.{◌≡◌, ◌<◌, ◌∷◌, ◌++◌, [], codes, cond, length, map, All, MatchOption};
 ghost use Rattle.std.specs.List.{flat_map, list_any};
 ghost use Rattle.std.specs.Str.{bytes_eq};
 ghost use Rattle.lw_netlist.specs.Closing.{is_among};
 ghost use Rattle.lw_mapped.specs.Texts.{net_name};
 ghost use Rattle.lw_io.specs.Waitings.{Puts};
-ghost use Rattle.lw_verilog.specs.Texts.{escaped, further, joined, declaration, wire_text, tie_text, pins_text, assignment, assignment_text};
+ghost use Rattle.lw_verilog.specs.Texts.{escaped, further, joined, declaration, wire_text, assignment, assignment_text};
 ghost use Rattle.lw_netlist.specs.Plain.{port_name};
 
 use crate::known::Known;

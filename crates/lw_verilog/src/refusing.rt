@@ -1,5 +1,5 @@
 // Which netlists have a Verilog text.
-ghost use Rattle.std.specs.Prelude.{◌≡◌, ◌<◌, ◌∷◌, [], None, Some, true, false, length, map, find, All, OnOk, IfOk, IfSome, IfNone, slice_get, option_map};
+ghost use Rattle.std.specs.Prelude.{◌≡◌, ◌<◌, ◌∷◌, [], None, Some, true, false, map, find, All, IfOk, option_map};
 ghost use Rattle.std.specs.List.{flat_map, list_all, list_any};
 ghost use Rattle.std.specs.Option.{option_or};
 ghost use Rattle.lw_netlist.specs.Closing.{is_among};

@@ -1,11 +1,11 @@
 // The Verilog text of a netlist.
-ghost use Rattle.std.specs.Prelude.{◌≡◌, ◌<◌, ◌≤◌, ◌+◌, ◌^◌, ◌++◌, drop, take, length, map, Some, All, OnOk, OnErr};
+ghost use Rattle.std.specs.Prelude.{◌≡◌, ◌<◌, ◌+◌, ◌^◌, ◌++◌, drop, length, map, Some, All, OnOk, OnErr};
 ghost use Rattle.std.specs.Io.KnownBytes.{Appends};
 ghost use Rattle.lw_io.specs.Causes.{HasCause};
 ghost use Rattle.lw_io.specs.Moves.{AppendsPrefix};
 ghost use Rattle.lw_io.specs.Waitings.{Puts};
 ghost use Rattle.lw_netlist.specs.Plain.{HasCell, IsOver, port_name};
-ghost use Rattle.lw_mapped.specs.Texts.{net_name, HasNames, names_of_inputs};
+ghost use Rattle.lw_mapped.specs.Texts.{HasNames, names_of_inputs};
 ghost use Rattle.lw_verilog.specs.Texts.{tie_text, pins_text, instance_name, gate_line, gate_text, gates_text, header_text, verilog_text};
 
 use crate::putting::{

@@ -1,4 +1,4 @@
-use Rattle.std.proofs.Common.{ℕ, ◌+◌, ◌*◌, ◌<◌, ◌≡◌, List, length, Some, slice_get, slice_index}
+use Rattle.std.proofs.Common.{ℕ, ◌+◌, ◌*◌, ◌<◌, ◌≡◌, List, Some, slice_get, slice_index}
 use Rattle.lw_laws.specs.NumberedForms.{IsPart}
 use Rattle.lw_laws.specs.NumberedForms.Base.{base_and}
 use Rattle.lw_assoc.specs.Parts.{HasDrops, without}

@@ -1,4 +1,4 @@
-use Rattle.std.proofs.Common.{◌≡◌, ◌<◌, ◌^◌, ◌∙◌, arith, length}
+use Rattle.std.proofs.Common.{◌<◌, ◌^◌, ◌∙◌, arith, length}
 use Rattle.lw_assoc.proofs.Overlapping.{overlap_makes, overlaps_next, overlaps_skip}
 use Rattle.lw_assoc.proofs.overlaps.add_overlap.Goals as goal
 

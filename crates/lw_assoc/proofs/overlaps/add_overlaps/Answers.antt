@@ -1,4 +1,4 @@
-use Rattle.std.proofs.Common.{◌≡◌, ◌-◌, ◌*◌, ◌^◌, ◌∙◌, ap, arith, length, refl, Some}
+use Rattle.std.proofs.Common.{◌≡◌, ◌-◌, ◌*◌, ◌^◌, ◌∙◌, ap, arith, length, Some}
 use Rattle.lw_form.specs.Bases.{plain_base}
 use Rattle.lw_assoc.proofs.Dropping.{twice_half}
 use Rattle.lw_assoc.proofs.Overlapping.{no_and, overlaps_none, overlaps_whole, whole_mask}

@@ -1,4 +1,3 @@
-use Rattle.std.proofs.Common.{arith}
 use Rattle.lw_assoc.proofs.Counts.{power_is}
 use Rattle.lw_assoc.proofs.splits.threes.Goals as goal
 

@@ -1,4 +1,4 @@
-use Rattle.std.proofs.Common.{◌≡◌, ◌∙◌, ◌+◌, ◌<◌, refl, sym, subst, ap, arith, length, map, take, Some, slice_get}
+use Rattle.std.proofs.Common.{◌≡◌, ◌+◌, ◌<◌, refl, sym, subst, arith, length, map, take}
 use Rattle.std.proofs.lemmas.Option.{slice_get_read}
 use Rattle.lw_laws.specs.Numbering.{numbered_base}
 use Rattle.lw_form.specs.Bases.{plain_base}

@@ -1,4 +1,3 @@
-use Rattle.std.proofs.Common.{◌≡◌, ap}
 use Rattle.lw_form.proofs.Numbers.{placed_at, renumbered_more, renumbered_done}
 use Rattle.lw_form.proofs.renumbering.renumbered_all.Goals as goal
 

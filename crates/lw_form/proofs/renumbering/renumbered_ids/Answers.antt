@@ -1,4 +1,4 @@
-use Rattle.std.proofs.Common.{◌≡◌, ap, arith, length, length-append}
+use Rattle.std.proofs.Common.{ap, arith, length, length-append}
 use Rattle.lw_form.proofs.Numbers.{placed_at, renumbered_more, renumbered_done}
 use Rattle.lw_form.proofs.renumbering.renumbered_ids.Goals as goal
 

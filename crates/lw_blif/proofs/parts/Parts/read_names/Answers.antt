@@ -1,4 +1,4 @@
-use Rattle.std.proofs.Common.{Bool, Option, Some, None, true, false, cond, length, ◌≡◌, ◌++◌, ap, sym, ◌∙◌, arith, length-append}
+use Rattle.std.proofs.Common.{Some, None, true, false, cond, length, ◌≡◌, ◌++◌, ap, sym, ◌∙◌, arith, length-append}
 use Rattle.lw_blif.specs.declared.fault.BlifKind.TheVariants as kind
 use Rattle.lw_blif.specs.LineFaults.{defined_for}
 use Rattle.lw_blif.specs.Readers.{fault_else, are_fresh, names_fault_of}

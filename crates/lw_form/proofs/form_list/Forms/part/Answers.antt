@@ -1,4 +1,4 @@
-use Rattle.std.proofs.Common.{◌≡◌, sym, ap, ◌∙◌, Some}
+use Rattle.std.proofs.Common.{sym, ap, ◌∙◌, Some}
 use Rattle.lw_laws.specs.NumberedForms.{NumberedForms}
 use Rattle.lw_form.specs.Bases.{plain_base}
 use Rattle.lw_form.proofs.Parts.{alone, listed, not_absent}

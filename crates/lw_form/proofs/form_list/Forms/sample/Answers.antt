@@ -1,5 +1,3 @@
-use Rattle.std.proofs.Common.{◌≡◌, sym, subst}
-use Rattle.lw_laws.specs.NumberedForms.{NumberOccurs}
 use Rattle.lw_form.proofs.Samples.{even_value, odd_value}
 use Rattle.lw_form.proofs.form_list.Forms.sample.Goals as goal
 
