@@ -2,7 +2,7 @@
 use Rattle.std.proofs.Common.{◌≡◌, ℕ, zero, suc, ◌+◌, ◌-◌, ◌*◌, ◌/◌, ◌%◌, ◌^◌, ◌<◌, ◌≤◌, ◌==◌, Bool, true, false, List, [], ◌∷◌, ◌++◌, length, if◌then◌else◌, refl, ap, ◌∙◌, arith, length-append}
 use Rattle.std.proofs.lemmas.Nat.Bits.{bit_at-suc, bit_at_lowest}
 use Rattle.std.proofs.lemmas.Nat.{pow-add}
-use Rattle.std.proofs.Math.Nat.{pow-le-pow_right, mod-le}
+use Rattle.std.proofs.Math.Nat.{pow-le-pow_right}
 use Rattle.lw_lut.specs.Cuts.{spelled, is_set}
 use Rattle.lw_lut.specs.Packed.{packed}
 
@@ -90,11 +90,8 @@ packed_fits f place count lt =
     let up : 2 ^ count ≤ 2 ^ 63 = pow-le-pow_right {n = 2} (omega arith) {i = count} {j = 63} (omega arith) in
     omega (arith, low, up)
 
-pub few_numbers : (n : ℕ) → n ≤ 6 → 1 * 2 ^ n % 4294967296 ≤ 64
-few_numbers n le =
-    let up : 2 ^ n ≤ 2 ^ 6 = pow-le-pow_right {n = 2} (omega arith) {i = n} {j = 6} le in
-    let low = mod-le (1 * 2 ^ n) 4294967296 in
-    omega (arith, up, low)
+pub few_numbers : (n : ℕ) → n ≤ 6 → 2 ^ n ≤ 64
+few_numbers n le = pow-le-pow_right {n = 2} (omega arith) {i = n} {j = 6} le
 
 -- one more value before those that are packed
 pub packed_before : (f : ℕ → Bool) (place all bits : ℕ) → 0 < place → place ≤ all → bits ≡ packed f place (all - place) → (value : Bool) → value ≡ f (place - 1) → (if value then 1 else 0) + 2 * bits ≡ packed f (place - 1) (all - (place - 1))

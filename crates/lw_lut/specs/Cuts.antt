@@ -34,11 +34,6 @@ pub record PlainCut : Type 0 where
   pub pins : List ClassId
   pub bits : ℕ
 
--- how many numbers so many bits spell, where they are six at most
-pub record CountsNumbers (bits n : ℕ) : Type 0 where
-  pub numbers : n ≡ 2 ^ bits
-  pub few : n ≤ 64
-
 -- no pin, and this value
 pub record IsConstantCut (value : Bool) (cut : PlainCut) : Type 0 where
   pub pins : cut.pins ≡ []

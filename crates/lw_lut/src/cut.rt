@@ -1,6 +1,6 @@
 // Cuts with their bits.
 ghost use Rattle.std.specs.Prelude.{◌≡◌, ◌+◌, ◌*◌, ◌^◌, ◌<◌, ◌≤◌, ◌++◌, ◌&&◌, [], ◌∷◌, not, length, if◌then◌else◌};
-ghost use Rattle.lw_lut.specs.Cuts.{ArePinsOfCut, CountsNumbers, IsConstantCut, IsPinCut, PlainCut, is_set, turned, is_odd};
+ghost use Rattle.lw_lut.specs.Cuts.{ArePinsOfCut, IsConstantCut, IsPinCut, PlainCut, is_set, turned, is_odd};
 ghost use Rattle.lw_lut.specs.Packed.{joined_bits, joined_value};
 
 use lw_pool::ClassId;
@@ -35,7 +35,7 @@ pub(crate) struct PinCount {
 
 // How many numbers so many pins spell.
 pub(crate) fn numbers_of(pins: PinCount) -> u32
-    ensures { CountsNumbers pins.count result }
+    ensures { result ≡ 2 ^ pins.count }
 {
     1 << pins.count
 }

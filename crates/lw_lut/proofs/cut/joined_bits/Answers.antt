@@ -1,6 +1,6 @@
 use Rattle.std.proofs.Common.{◌<◌, ◌≤◌, ◌≡◌, ◌-◌, ◌^◌, ◌+◌, ◌∙◌, length, ap₂, subst, sym, arith}
 use Rattle.lw_lut.specs.Packed.{joined_value}
-use Rattle.lw_lut.proofs.Bits.{packed_fits, packed_before}
+use Rattle.lw_lut.proofs.Bits.{few_numbers, packed_fits, packed_before}
 use Rattle.lw_lut.proofs.cut.joined_bits.Goals as goal
 
 pub appended-bits-requires : goal.appended-bits-requires
@@ -8,8 +8,7 @@ appended-bits-requires c =
     let f = joined_value c.args.of.now.x.now c.args.of.now.left.0 c.args.of.now.y.now c.args.of.now.right.0 c.args.of.now.class.0 in
     let all = 2 ^ (length c.args.of.now.x.now.pins + length c.args.of.now.y.now.pins) in
     let place = c.loop-place.place in
-    let same : c.numbers_of-place.result ≡ all = c.numbers_of-place.ensures.numbers ∙ ap₂ (λ xs ys. 2 ^ (length xs + length ys)) c.pins.ensures.pins c.pins-2.ensures.pins in
-    let few : all ≤ 64 = subst (λ n. n ≤ 64) same c.numbers_of-place.ensures.few in
+    let few : all ≤ 64 = few_numbers (length c.args.of.now.x.now.pins + length c.args.of.now.y.now.pins) c.args.of.now.few in
     subst (λ n. n < 2 ^ 63) (sym c.loop-place.invariant) (packed_fits f place (all - place) (omega (arith, few, c.loop-place-test.true)))
 
 pub loop-place-preserved : goal.loop-place-preserved
@@ -17,6 +16,6 @@ loop-place-preserved c =
     let f = joined_value c.args.of.now.x.now c.args.of.now.left.0 c.args.of.now.y.now c.args.of.now.right.0 c.args.of.now.class.0 in
     let all = 2 ^ (length c.args.of.now.x.now.pins + length c.args.of.now.y.now.pins) in
     let place = c.loop-place.place in
-    let same : c.numbers_of-place.result ≡ all = c.numbers_of-place.ensures.numbers ∙ ap₂ (λ xs ys. 2 ^ (length xs + length ys)) c.pins.ensures.pins c.pins-2.ensures.pins in
+    let same : c.numbers_of-place.result ≡ all = c.numbers_of-place.ensures ∙ ap₂ (λ xs ys. 2 ^ (length xs + length ys)) c.pins.ensures.pins c.pins-2.ensures.pins in
     let within : place ≤ all = subst (λ n. place ≤ n) same c.loop-place.auto.place in
     c.appended-bits.ensures ∙ packed_before f place all c.loop-place.bits c.loop-place-test.true within c.loop-place.invariant c.joined_value-value.result c.joined_value-value.ensures
