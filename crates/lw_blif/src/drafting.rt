@@ -1,14 +1,12 @@
 // The draft of what lines say.
-ghost use Rattle.std.specs.Prelude.{◌≡◌, ◌+◌, ◌++◌, IfOk, OnOk, List, All, length, drop, replicate, option_to_list, unwrap_or, codes};
+ghost use Rattle.std.specs.Prelude.{◌≡◌, ◌+◌, ◌++◌, IfOk, OnOk, length, option_to_list, unwrap_or, codes};
 ghost use Rattle.lw_frame.specs.Frames.{input_names, root_names};
 ghost use Rattle.std.specs.List.{IsDistinct};
 ghost use Rattle.std.specs.Str.{bytes_eq};
-ghost use Rattle.lw_frame.specs.Starts.{Arrival, IsEarly, starts_of, at_once};
-ghost use Rattle.lw_frame.specs.Standing.{StandsFor};
 
 use indexmap::IndexSet;
 use lw_fixed::Micros;
-use lw_frame::{Arrivals, add_roots};
+use lw_frame::add_roots;
 use lw_net::{Draft, DraftNode, DraftNodes};
 use lw_pool::{Frame, Latch, Latches, Name, Names};
 use std::alloc::{AllocError, Global};
@@ -80,23 +78,6 @@ fn count(names: usize) -> Result<u32, AllocError>
 pub struct Counts {
     pub inputs: u32,
     pub outputs: u32,
-}
-
-/// The starts of these inputs and of the outputs of latches behind them.
-pub fn starts_of(
-    alloc: Global,
-    arrivals: &Arrivals,
-    inputs: &Names,
-    latches: &Latches,
-) -> Result<Micros, AllocError>
-    ensures starts { (lines : List Arrival) → StandsFor arrivals.now lines →
-        IfOk result (λ starts. starts ≡ starts_of lines inputs.now (length latches.now)) }
-    ensures count { IfOk result (λ starts. length starts ≡ length inputs.now + length latches.now) }
-    ensures latches { IfOk result (λ starts. drop (length inputs.now) starts
-        ≡ replicate (length latches.now) at_once) }
-    ensures early { IfOk result (All IsEarly) }
-{
-    arrivals.starts(alloc, inputs.as_slice(), latches.len())
 }
 
 /// Makes the names of the outputs those of the roots: behind them come what the latches read. It

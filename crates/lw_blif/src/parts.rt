@@ -6,7 +6,7 @@ use crate::arrival::{add_start, start_on};
 use crate::defining::{
     add_all, add_latch, append_all, begin_node, define_all, define_one, name_or_second,
 };
-use crate::drafting::{Said, add_and_count, names_around, starts_of, with_last};
+use crate::drafting::{Said, add_and_count, names_around, with_last};
 use crate::lengths::{ArrivalLine, LatchLine, LongLine, NamesLine};
 use crate::naming::last_word;
 use crate::rows::row_fault;
@@ -78,7 +78,8 @@ impl Parts {
     {
         let alloc = self.alloc;
         let counts = add_and_count(alloc, &self.inputs, &mut self.outputs, &self.latches)?;
-        let starts = starts_of(alloc, &self.arrivals, &self.inputs, &self.latches)?;
+        let (inputs, latches) = (self.inputs.as_slice(), self.latches.len());
+        let starts = self.arrivals.starts(alloc, inputs, latches)?;
         let draft = self.draft()?;
         let latches = mem::replace(&mut self.latches, Latches::new(alloc));
         let frame = Frame {

@@ -21,13 +21,13 @@ returns c =
                 kept-draft parts.model parts.inputs parts.outputs.keys parts.defined.keys parts.nodes parts.node parts.latches parts.arrivals lines c.in_ok-draft.draft
                 draft.model draft.inputs (draft.outputs ∙ counts.roots) draft.nodes k.names k.around;
             frame = frame-again frame parts.inputs parts.outputs.keys parts.latches lines k.names.inputs_are k.names.outputs_are k.around.latches_are counts.inputs counts.outputs latches;
-            starts = starts-again c.in_ok-starts.starts parts.inputs parts.latches lines k.names.inputs_are k.around.latches_are (c.in_ok-starts.ensures.starts (flat_map arrivals_on lines) k.around.arrivals_are);
+            starts = starts-again c.in_ok-starts.starts parts.inputs parts.latches lines k.names.inputs_are k.around.latches_are (rw (c.as_slice-inputs.ensures, c.len-latches.ensures) at c.in_ok-starts.ensures.starts (flat_map arrivals_on lines) k.around.arrivals_are);
           };
       fits =
           record {
             frame =
                 said-frame frame parts.inputs parts.outputs.keys c.in_ok-draft.draft.inputs c.in_ok-draft.draft.outputs parts.latches counts.differ counts.inputs counts.outputs latches
                 draft.inputs (draft.outputs ∙ counts.roots);
-            starts = said-starts frame parts.inputs parts.outputs.keys c.in_ok-draft.draft.inputs parts.latches c.in_ok-starts.starts counts.differ counts.inputs counts.outputs latches draft.inputs starts.count starts.latches starts.early;
+            starts = said-starts frame parts.inputs parts.outputs.keys c.in_ok-draft.draft.inputs parts.latches c.in_ok-starts.starts counts.differ counts.inputs counts.outputs latches draft.inputs (rw (c.as_slice-inputs.ensures, c.len-latches.ensures) at starts.count) (rw (c.as_slice-inputs.ensures, c.len-latches.ensures) at starts.latches) starts.early;
           };
     }
