@@ -106,6 +106,6 @@ pub ok-then : {X E P Q : Type 0} (r : Result X E) → (P → Q) → OnOk r P →
 ok-then (Ok x) f p = f p
 ok-then (Err e) f p = tt
 
-pub match-then : {X E P Q R : Type 0} (r : Result X E) → (P → Q) → MatchResult r (λ _. P) (λ _. R) → OnOk r Q
-match-then (Ok x) f p = f p
-match-then (Err e) f p = tt
+pub match-then : {X E P Q : Type 0} (R : E → Type 0) (r : Result X E) → (P → Q) → MatchResult r (λ _. P) R → OnOk r Q
+match-then R (Ok x) f p = f p
+match-then R (Err e) f p = tt
