@@ -1,5 +1,5 @@
--- What the moves of the grammar keep to: only names do the tasks of names, and the end of the text does nothing.
-use Rattle.std.proofs.Common.{◌≡◌, ◌||◌, ◌&&◌, Bool, true, false, not, List, [], ◌∷◌, Option, Some, None, Contains, refl, ap, sym, ◌∙◌, arith}
+-- Only names do the tasks of names.
+use Rattle.std.proofs.Common.{◌≡◌, ◌||◌, Bool, true, false, not, List, [], ◌∷◌, Option, Some, None, Contains, refl, ap, sym, ◌∙◌, arith}
 use Rattle.std.specs.List.{list_all}
 use Rattle.std.proofs.lemmas.Bool.{false≢true}
 use Rattle.std.proofs.lemmas.List.Folds.{list_all_at}
@@ -10,7 +10,7 @@ use Rattle.lw_verilog.specs.declared.place.Place.{Place}
 use Rattle.lw_verilog.specs.declared.place.Place.TheVariants as place
 use Rattle.lw_verilog.specs.Grammar.{move_at}
 use Rattle.lw_verilog.specs.Readings.{is_word}
-use Rattle.lw_verilog.specs.Tokens.{is_end, is_name}
+use Rattle.lw_verilog.specs.Tokens.{is_name}
 
 abbrev places : List Place
 places = place.Begin ∷ place.ModelName ∷ place.BehindModel ∷ place.FirstPort ∷ place.NextPort ∷ place.BehindPort ∷ place.BehindPorts ∷ place.Item ∷ place.FirstInput ∷ place.NextInput ∷ place.BehindInput ∷ place.FirstOutput ∷ place.NextOutput ∷ place.BehindOutput ∷ place.NextWire ∷ place.BehindWire ∷ place.Target ∷ place.BehindTarget ∷ place.Source ∷ place.BehindSource ∷ place.InstanceName ∷ place.BehindInstance ∷ place.FirstTie ∷ place.NextTie ∷ place.Pin ∷ place.BehindPin ∷ place.Net ∷ place.BehindNet ∷ place.BehindTie ∷ place.BehindTies ∷ place.Done ∷ []
@@ -73,7 +73,7 @@ kind-among kind.End = (16, omega arith, refl)
 -- whether this move fits a token of this kind
 abbrev fits : Kind → Option Move → Bool
 fits k None = true
-fits k (Some m) = not (is_end k) && (not (is_word m.task) || is_name k)
+fits k (Some m) = not (is_word m.task) || is_name k
 
 all-fit : list_all (λ p. list_all (λ k. fits k (move_at p k)) kinds) places ≡ true
 unfolding move_at
@@ -93,18 +93,9 @@ fit p k m is =
 
 -- only a name does the task of a name
 pub word_named : (p : Place) (k : Kind) (m : Move) → Some m ≡ move_at p k → is_word m.task ≡ true → is_name k ≡ true
-word_named p k m is word = by_test (is_end k) (is_word m.task) (is_name k) word (fit p k m is)
+word_named p k m is word = by_test (is_word m.task) (is_name k) word (fit p k m is)
   where
-    by_test : (e w n : Bool) → w ≡ true → (not e && (not w || n)) ≡ true → n ≡ true
-    by_test e w true word fit = refl
-    by_test true true false word fit = fit
-    by_test false true false word fit = fit
-    by_test e false false word fit = word
-
--- nothing is done at the end of the text
-pub not_end : (p : Place) (k : Kind) (m : Move) → Some m ≡ move_at p k → is_end k ≡ false
-not_end p k m is = by_test (is_end k) _ (fit p k m is)
-  where
-    by_test : (e others : Bool) → (not e && others) ≡ true → e ≡ false
-    by_test false others fit = refl
-    by_test true others fit = sym fit
+    by_test : (w n : Bool) → w ≡ true → (not w || n) ≡ true → n ≡ true
+    by_test w true word both = refl
+    by_test true false word both = both
+    by_test false false word both = word

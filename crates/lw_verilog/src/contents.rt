@@ -254,7 +254,6 @@ impl Contents {
     }
 
     /// Takes a token of this kind and this name, or tells the first rule that it breaks.
-    #[tactic(auto, using(crate::proofs::NamedMoves::not_end))]
     pub(crate) fn take(&mut self, kind: Kind, name: &[u8], lib: &Library) -> Result<(), Refusal>
         requires { is_name kind ≡ true → 0 < length name.now }
         ensures fault { (r : Reading) → Keeps lib.now self.old r →

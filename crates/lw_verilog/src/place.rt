@@ -1,7 +1,8 @@
 // Where in the grammar a token stands.
-ghost use Rattle.std.specs.Prelude.{◌≡◌};
+ghost use Rattle.std.specs.Prelude.{◌≡◌, false, IfSome};
 ghost use Rattle.lw_verilog.specs.declared.kind.Kind.TheVariants as kind;
 ghost use Rattle.lw_verilog.specs.Grammar.{move_at, moved};
+ghost use Rattle.lw_verilog.specs.Tokens.{is_end};
 
 use crate::Kind;
 
@@ -201,7 +202,8 @@ fn move_by_close(place: Place) -> Option<Move>
 /// What a token of this kind does at this place, if one may stand there.
 #[tactic(auto, unfolding(crate::specs::Grammar::move_at))]
 pub(crate) fn move_at(place: Place, kind: Kind) -> Option<Move>
-    ensures { result ≡ move_at place kind }
+    ensures step { result ≡ move_at place kind }
+    ensures ended { IfSome result (λ step. is_end kind ≡ false) }
 {
     match (place, kind) {
         (_, Kind::Name) => move_by_name(place),

@@ -1,13 +1,14 @@
-use Rattle.std.proofs.Common.{◌≡◌, [], length, ap, ◌∙◌, subst, arith}
+use Rattle.std.proofs.Common.{◌≡◌, ◌<◌, [], length, refl, ap, sym, ◌∙◌, subst, arith}
 use Rattle.std.proofs.lemmas.List.{length-set, get_or_default}
 use Rattle.lw_verilog.specs.Chains.{AreChains, bucket_of}
+use Rattle.lw_verilog.proofs.Chains.{bucket_low}
 use Rattle.lw_netlist.proofs.Chains.{chains-more, chains-none}
 use Rattle.lw_verilog.proofs.known.link.Goals as goal
 
 pub loop-place-init : goal.loop-place-init
 loop-place-init c = record {
-  chains = chains-none bucket_of 32768 c.args.names.now c.clear.new.heads c.args.next.now (λ b lt. c.clear.ensures.none b (omega (arith, lt, c.requires.buckets)));
-  buckets = c.clear.ensures.many ∙ c.requires.buckets;
+  chains = chains-none bucket_of 32768 c.args.names.now c.fill.new.self c.args.next.now (λ b lt. c.fill.ensures.clones b 0 (omega (arith, lt, c.requires.buckets)) refl);
+  buckets = c.fill.ensures.len ∙ c.requires.buckets;
   places = c.requires.places;
 }
 
@@ -18,9 +19,10 @@ loop-place-preserved c =
     let heads = c.loop-place.heads in
     let next = c.loop-place.next in
     let bucket = c.bucket_of-bucket.result in
-    let own = c.bucket_of-bucket.ensures.bucket ∙ ap bucket_of (c.as_bytes.ensures.bytes ∙ (c.index-names-place.is ∙ get_or_default names place c.index-names-place.result [] c.loop-place-test.true)) in
+    let low : bucket < 32768 = subst (λ b. b < 32768) (sym c.bucket_of-bucket.ensures) (bucket_low c.as_bytes.result.now) in
+    let own = c.bucket_of-bucket.ensures ∙ ap bucket_of (c.as_bytes.ensures.bytes ∙ (c.index-names-place.is ∙ get_or_default names place c.index-names-place.result [] c.loop-place-test.true)) in
     record {
-      chains = chains-more bucket_of 32768 names place heads next bucket own (omega (arith, c.bucket_of-bucket.ensures.low, c.loop-place.invariant.buckets)) (omega (arith, c.loop-place-test.true, c.requires.few, c.loop-place.invariant.places)) c.loop-place.invariant.buckets c.loop-place.invariant.chains;
+      chains = chains-more bucket_of 32768 names place heads next bucket own (omega (arith, low, c.loop-place.invariant.buckets)) (omega (arith, c.loop-place-test.true, c.requires.few, c.loop-place.invariant.places)) c.loop-place.invariant.buckets c.loop-place.invariant.chains;
       buckets = length-set heads bucket _ ∙ c.loop-place.invariant.buckets;
       places = length-set next place _ ∙ c.loop-place.invariant.places;
     }
