@@ -1,4 +1,4 @@
-ghost use Rattle.std.specs.Prelude.{◌≡◌, ◌<◌, ◌/◌, ℕ, length, map, Some, [], slice_get, slice_index_or, All, IfOk, IfSome, IsNone};
+ghost use Rattle.std.specs.Prelude.{◌≡◌, ◌<◌, ◌/◌, ℕ, length, Some, [], slice_get, slice_index_or, All, IfOk, IfSome, IsNone};
 ghost use Rattle.lw_graph.specs.Ordered.{ordered_pair};
 
 use crate::Pair;

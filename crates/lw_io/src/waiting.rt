@@ -1,8 +1,5 @@
 // A sink with a room before it, so that short pieces go out together.
-ghost use Rattle.std.specs.Prelude.{◌≡◌, ◌≤◌, ◌+◌, ◌-◌, ◌++◌, [], false, length, take, OnOk, OnErr};
-ghost use Rattle.std.specs.Io.KnownBytes.{Appends};
-ghost use Rattle.lw_io.specs.Causes.{HasCause};
-ghost use Rattle.lw_io.specs.Moves.{AppendsPrefix};
+ghost use Rattle.std.specs.Prelude.{◌≡◌, ◌≤◌, ◌+◌, ◌-◌, ◌++◌, [], false, length, take};
 ghost use Rattle.lw_io.specs.Waitings.{Puts, Ends};
 ghost use Rattle.lw_io.specs.declared.waiting.TheConstants.{ROOM};
 

@@ -8,11 +8,9 @@ use Rattle.lw_laws.specs.Flip.{flip}
 use Rattle.lw_laws.specs.Trees.{Tree, leaf, const_one, const_zero, nand}
 use Rattle.lw_laws.specs.Families.{AreLinked, Derives}
 use Rattle.lw_laws.specs.Families.Derives.{by_input, by_top, by_bottom, by_complement, by_split, by_common, by_link}
-use Rattle.lw_laws.specs.NumberedForms.{Base, NumberedForms, IsCut, IsCovering, IsPart, IsCutOf, IsCoveringOf, IsTwice, IsSignal, IsSplitOf, family_of, IsBefore, IsListedAnd, AreNumberedForms}
+use Rattle.lw_laws.specs.NumberedForms.{NumberedForms, IsPart, IsCutOf, IsCoveringOf, IsTwice, IsSignal, IsSplitOf, family_of, IsBefore, IsListedAnd, AreNumberedForms}
 use Rattle.lw_laws.specs.NumberedForms.Base.{base_true, base_input, base_and}
 use Rattle.lw_laws.specs.Modes.Mode.{plain, idempotent}
-use Rattle.lw_laws.specs.NumberedForms.IsCut.{cut_none, cut_left, cut_right}
-use Rattle.lw_laws.specs.NumberedForms.IsCovering.{in_none, in_left, in_right, in_both}
 use Rattle.lw_laws.specs.Forms.{Form, FormList, items, form_list, and_of, complement, conjunction}
 use Rattle.lw_laws.specs.Forms.Form.{var_form, true_form, not_form, and_form}
 use Rattle.lw_laws.specs.Signals.{Signal}

@@ -1,6 +1,6 @@
 -- The names of the nets of a mapped netlist differ.
 use Rattle.std.proofs.Common.{ℕ, zero, suc, ◌+◌, ◌<◌, ◌≤◌, ◌==◌, ◌^◌, ◌≡◌, Bool, true, false, not, ◌||◌, if◌then◌else◌, cond, Option, Some, None, List, [], ◌∷◌, ◌++◌, length, filter, slice_get, refl, ap, sym, ◌∙◌, subst, arith}
-use Rattle.std.specs.List.{AllByRecursion, list_any}
+use Rattle.std.specs.List.{AllByRecursion}
 use Rattle.std.proofs.lemmas.Fmt.{decimal_injective}
 use Rattle.std.proofs.lemmas.Bool.{eqb-true, not-true}
 use Rattle.lw_laws.specs.Names.{same_name, is_name_among, numbered_name, numbered_names, free_names, output_name, gate_names, net_names, AreDifferent, AreNameable}

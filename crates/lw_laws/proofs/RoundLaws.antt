@@ -7,7 +7,7 @@ use Rattle.lw_laws.specs.Trees.{Tree, leaf, const_one, const_zero, inv, nand}
 use Rattle.lw_laws.specs.Graphs.{Graph, Stands}
 use Rattle.lw_laws.specs.Costs.{Cost}
 use Rattle.lw_laws.specs.Covers.{Pattern}
-use Rattle.lw_laws.specs.Choices.{Choices, HasCost, HaveLabels, HasLabelAtMost, Attains, IsInputClass, IsHeight}
+use Rattle.lw_laws.specs.Choices.{Choices, HasCost, HaveLabels, HasLabelAtMost, IsInputClass, IsHeight}
 use Rattle.lw_laws.specs.Choices.HasCost.{by_wire}
 use Rattle.lw_laws.specs.Matches.{choices_of, IsMatchAt, IsLeastCover}
 use Rattle.lw_laws.specs.Rounds.{labels_in, label_weight}

@@ -1,11 +1,11 @@
 // The values of nets.
-ghost use Rattle.std.specs.Prelude.{◌≡◌, ◌+◌, ◌<◌, ℕ, Bool, false, List, Some, length, map, slice_get, slice_index_or, All};
+ghost use Rattle.std.specs.Prelude.{◌≡◌, ◌+◌, ◌<◌, ℕ, false, Some, length, map, slice_get, slice_index_or, All};
 ghost use Rattle.std.specs.List.{list_any};
-ghost use Rattle.lw_laws.specs.Networks.{row_value, node_value, given, AreValues};
+ghost use Rattle.lw_laws.specs.Networks.{row_value, node_value};
 ghost use Rattle.lw_net.specs.Networks.{IsNodeAt};
 ghost use Rattle.lw_net.specs.Plain.{plain_node};
 ghost use Rattle.lw_net.specs.Signs.{asked, met_by};
-ghost use Rattle.lw_pool.specs.Numbers.{net_number, values_at};
+ghost use Rattle.lw_pool.specs.Numbers.{values_at};
 
 use crate::{Cube, Node};
 use lw_pool::NetId;

@@ -1,4 +1,4 @@
-ghost use Rattle.std.specs.Prelude.{◌≡◌, ◌+◌, ◌<◌, ◌++◌, [], ◌∷◌, ◌↔◌, List, ℕ, length, IsTrue, IfOk, IfSome, IfNone, MatchResult, Some, slice_get, All};
+ghost use Rattle.std.specs.Prelude.{◌≡◌, ◌+◌, ◌<◌, ◌++◌, [], ◌∷◌, ◌↔◌, List, ℕ, length, IsTrue, IfOk, MatchResult, Some, slice_get, All};
 ghost use Rattle.lw_net.specs.Signs.{IsSign};
 
 use lw_pool::{NetId, Nets};

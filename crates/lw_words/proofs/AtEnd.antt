@@ -6,7 +6,7 @@ use Rattle.lw_words.specs.declared.place.Place.{Place}
 use Rattle.lw_words.specs.declared.place.Place.TheVariants.{Start, Hash, Mark, Text, Stroke, Gap, Comment, ContinuedComment}
 use Rattle.lw_words.specs.Lines.{uncommented, trimmed, text_of, is_continued, with_blank, lines_among, continued_by, texts_from, lines_of, logical_lines, finished_lines}
 use Rattle.lw_words.specs.Gathering.{Gathered, nothing_gathered, ended, line_gathered}
-use Rattle.lw_words.specs.Reading.{Unfinished, unfinished, line_ended, behind_byte, goes_on, gathered_at_end, first_place, gathered_from, IsPlain, IsBehindStroke, IsContinued, IsFirst, HasNoComment, HasComment, Fits, IsReading, next_place, next_gathered, next_number, next_at, next_lines, ended_lines}
+use Rattle.lw_words.specs.Reading.{Unfinished, unfinished, line_ended, behind_byte, goes_on, gathered_at_end, first_place, gathered_from, IsPlain, IsContinued, IsFirst, HasNoComment, Fits, IsReading, next_place, next_gathered, next_number, next_at, next_lines, ended_lines}
 use Rattle.lw_words.proofs.GatheredWords.{over_bytes-append, ended-twice, ended-trimmed, lines_of-gathered}
 use Rattle.lw_words.proofs.Behind.{joined, joined-stop, lines_of-append, IsUnfinished-unfinished, finished_lines-are, logical_lines-are}
 use Rattle.lw_words.proofs.Fitting.{fits-byte, with_more}

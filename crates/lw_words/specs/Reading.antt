@@ -3,7 +3,7 @@ use Rattle.std.specs.Prelude.{ℕ, ◌+◌, ◌≡◌, Bool, true, false, ◌&&�
 use Rattle.lw_words.specs.declared.place.Place.{Place}
 use Rattle.lw_words.specs.declared.place.Place.TheVariants.{Start, Hash, Mark, Text, Stroke, Gap, Comment, ContinuedComment}
 use Rattle.lw_words.specs.Lines as lines
-use Rattle.lw_words.specs.Lines.{LogicalLine, is_blank, before_hash, uncommented, trimmed, text_of, is_continued, with_blank, logical_lines, finished_lines, lines_of}
+use Rattle.lw_words.specs.Lines.{LogicalLine, is_blank, before_hash, uncommented, trimmed, text_of, is_continued, with_blank}
 use Rattle.lw_words.specs.Gathering.{Gathered, nothing_gathered, mark_gathered, with_byte, ended, line_gathered}
 
 -- A place moves over a byte that is no line feed.

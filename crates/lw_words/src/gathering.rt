@@ -1,5 +1,5 @@
 // The words of a line, byte by byte.
-ghost use Rattle.std.specs.Prelude.{◌≡◌, ◌≢◌, ◌<◌, ◌≤◌, ◌+◌, ℕ, IfOk, OnOk};
+ghost use Rattle.std.specs.Prelude.{◌≡◌, ◌<◌, IfOk, OnOk};
 
 use crate::words::{Bytes, Ends};
 use crate::{Line, Words};
