@@ -1,5 +1,5 @@
 -- Pieces of a text, put one after another.
-use Rattle.std.proofs.Common.{◌≡◌, ◌≤◌, ℕ, ◌+◌, true, false, List, [], ◌∷◌, ◌++◌, ◌<◌, get_or, length, take, drop, Option, Result, sym, ◌∙◌, ap, subst, arith, append_assoc, append-nil, length-append, true≢false}
+use Rattle.std.proofs.Common.{◌≡◌, ◌≤◌, ℕ, ◌+◌, true, false, List, [], ◌∷◌, ◌++◌, ◌<◌, get_or, length, take, drop, Option, Result, sym, ◌∙◌, ap, subst, arith, append_assoc, append-nil, length-append, true≢false, refl}
 use Rattle.std.proofs.Math.Seq.{take-append_seam}
 use Rattle.std.proofs.lemmas.List.{take-append-drop, take-append-le}
 use Rattle.std.specs.Io.KnownBytes.{Appends}
@@ -10,7 +10,10 @@ use Rattle.std.proofs.lemmas.List.{take_more}
 use Rattle.lw_io.specs.declared.failed.Failed.{Failed}
 use Rattle.lw_io.specs.Causes.{Rose}
 use Rattle.lw_io.specs.Moves.{AppendsPrefix, IsWrittenUpTo}
-use Rattle.lw_io.specs.Waitings.{Pending, IsPut, Puts, IsTaken, Ends}
+use Rattle.lw_io.specs.Waitings.{Pending, IsPut, Puts, IsTaken}
+use Rattle.lw_io.specs.declared.writer.Writer.{Writer}
+use Rattle.std.specs.Borrow.{MutBor}
+use Rattle.lw_io.specs.Writers.{Begins, Writes, Ended}
 
 -- a piece waits behind what waits
 pub waits_more : (start taken : Option (List ℕ)) (text waiting piece : List ℕ) → IsWrittenUpTo start taken text waiting → IsWrittenUpTo start taken (text ++ piece) (waiting ++ piece)
@@ -53,9 +56,6 @@ Rose-earlier a b c earlier rose = omega (arith, earlier, rose)
 pub Puts-both : {a b c : Option (List ℕ)} {m n k : ℕ} {u v w : Pending} {p q : List ℕ} → Puts a m u b n v p → Puts b n v c k w q → Puts a m u c k w (p ++ q)
 Puts-both {a} {b} {c} {m} {n} {k} {u} {v} {w} {p} {q} first second = record { stands = λ start count text is. subst (λ l. IsPut start count c k w l) (append_assoc text p q) (second.stands start count (text ++ p) (first.stands start count text is)) }
 
-pub Puts-none : {a : Option (List ℕ)} {m : ℕ} {u : Pending} → Puts a m u a m u []
-Puts-none {a} {m} {u} = record { stands = λ start count text is. subst (λ l. IsPut start count a m u l) (sym (append-nil text)) is }
-
 pub true_is_false : {A : Type 0} → true ≡ false → A
 true_is_false e = absurd (true≢false e)
 
@@ -95,12 +95,6 @@ Puts-kept a m u v piece bytes failed = record {
 pub Puts-after : {a b c : Option (List ℕ)} {m n k : ℕ} {u v w : Pending} {p : List ℕ} → Puts a m u b n v [] → Puts b n v c k w p → Puts a m u c k w p
 Puts-after {a} {b} {c} {m} {n} {k} {u} {v} {w} {p} first second = record { stands = λ start count text is. second.stands start count text (subst (λ l. IsPut start count b n v l) (append-nil text) (first.stands start count text is)) }
 
--- one more part of a list
-pub Puts-more : {A : Type 0} (f : A → List ℕ) (xs : List A) (k : ℕ) (d : A) {a b c : Option (List ℕ)} {m n j : ℕ} {u v w : Pending} → k < length xs → Puts a m u b n v (flat_map f (take k xs)) → Puts b n v c j w (f (get_or xs k d)) → Puts a m u c j w (flat_map f (take (k + 1) xs))
-Puts-more f xs k d {a} {b} {c} {m} {n} {j} {u} {v} {w} below first second =
-    let parts : flat_map f (take (k + 1) xs) ≡ flat_map f (take k xs) ++ f (get_or xs k d) = ap (flat_map f) (take_more xs k d below) ∙ (flat_map-append f (take k xs) (get_or xs k d ∷ []) ∙ ap (λ l. flat_map f (take k xs) ++ l) (append-nil (f (get_or xs k d)))) in
-    subst (λ l. Puts a m u c j w l) (sym parts) (Puts-both first second)
-
 -- before anything is put
 pub nothing_put : (a : Option (List ℕ)) (m : ℕ) (u : Pending) → u.bytes ≡ [] → u.failed ≡ false → IsPut a m a m u []
 nothing_put a m u empty unfailed = record {
@@ -117,6 +111,28 @@ text_put a c m k w text unfailed empty is =
     let front : written.front ≡ text = sym (append-nil written.front) ∙ (ap (λ l. written.front ++ l) (sym empty) ∙ written.split) in
     subst (λ l. Appends a c l) front written.grown
 
--- what was put of a new text, when it ends
-pub text_ends : {a b c : Option (List ℕ)} {m n k : ℕ} {u v : Pending} {text : List ℕ} {result : Result (Unit {0}) Failed} → u.bytes ≡ [] → u.failed ≡ false → Puts a m u b n v text → Ends b n v c k result → IsTaken a m c k text result
-text_ends {a} {b} {c} {m} {n} {k} {u} {v} {text} empty unfailed puts ends = ends.stands a m text (puts.stands a m [] (nothing_put a m u empty unfailed))
+-- Pieces that are written one after another.
+pub Writes-both : {S : Type 0} {taken : S → Option (List ℕ)} {faults : S → ℕ} {u v w : Writer S} {p q : List ℕ} → Writes taken faults u v p → Writes taken faults v w q → Writes taken faults u w (p ++ q)
+Writes-both first second = record { same = second.same ∙ first.same; puts = Puts-both first.puts second.puts }
+
+pub Writes-none : {S : Type 0} {taken : S → Option (List ℕ)} {faults : S → ℕ} {w : Writer S} → Writes taken faults w w []
+Writes-none {S} {taken} {faults} {w} = record {
+  same = refl;
+  puts = record { stands = λ start count text is. subst (λ l. IsPut start count (taken w.sink.now) (faults w.sink.now) w.waiting l) (sym (append-nil text)) is };
+}
+
+-- one more part of a list
+pub Writes-more : {A : Type 0} (f : A → List ℕ) (xs : List A) (k : ℕ) (d : A) {S : Type 0} {taken : S → Option (List ℕ)} {faults : S → ℕ} {u v w : Writer S} → k < length xs → Writes taken faults u v (flat_map f (take k xs)) → Writes taken faults v w (f (get_or xs k d)) → Writes taken faults u w (flat_map f (take (k + 1) xs))
+Writes-more f xs k d {S} {taken} {faults} {u} {v} {w} below first second =
+    let parts : flat_map f (take (k + 1) xs) ≡ flat_map f (take k xs) ++ f (get_or xs k d) = ap (flat_map f) (take_more xs k d below) ∙ (flat_map-append f (take k xs) (get_or xs k d ∷ []) ∙ ap (λ l. flat_map f (take k xs) ++ l) (append-nil (f (get_or xs k d)))) in
+    subst (λ l. Writes taken faults u w l) (sym parts) (Writes-both first second)
+
+-- what was put of a new text, when it ends and the sink is given back
+pub text_ends : {S : Type 0} {taken : S → Option (List ℕ)} {faults : S → ℕ} {sink : MutBor S} {last : S} {u v w : Writer S} {text : List ℕ} {result : Result (Unit {0}) Failed} → Begins sink u → Writes taken faults u v text → Ended taken faults v w result → (sink.ghost_name ≡ w.sink.ghost_name → last ≡ w.sink.now) → IsTaken (taken sink.now) (faults sink.now) (taken last) (faults last) text result
+text_ends {S} {taken} {faults} {sink} {last} {u} {v} {w} {text} {result} begins writes ended back =
+    let start = taken u.sink.now in
+    let count = faults u.sink.now in
+    let put = writes.puts.stands start count [] (nothing_put start count u.waiting begins.empty begins.unfailed) in
+    let same : last ≡ w.sink.now = back (sym (ended.same ∙ (writes.same ∙ begins.same))) in
+    subst (λ s. IsTaken (taken sink.now) (faults sink.now) (taken s) (faults s) text result) (sym same)
+    (subst (λ s. IsTaken (taken s) (faults s) (taken w.sink.now) (faults w.sink.now) text result) begins.now (ended.ends.stands start count text put))

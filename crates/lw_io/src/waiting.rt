@@ -9,10 +9,10 @@ use std::marker::Model;
 // How many bytes wait at most.
 const ROOM: usize = 2048;
 
-/// Bytes that wait to go to a sink, and whether it has failed. After that nothing more is given to
-/// it.
+// Bytes that wait to go to a sink, and whether it has failed. After that nothing more is given to
+// it.
 #[derive(Debug, Drop)]
-pub struct Waiting {
+pub(crate) struct Waiting {
     bytes: [u8; ROOM],
     used: usize,
     failed: bool,
@@ -29,8 +29,8 @@ impl Model for Waiting {
 }
 
 impl Waiting {
-    /// Nothing waits.
-    pub fn new() -> Self
+    // Nothing waits.
+    pub(crate) fn new() -> Self
         ensures bytes { result.bytes ≡ [] }
         ensures failed { result.failed ≡ false }
     {
@@ -53,8 +53,8 @@ impl Waiting {
     }
 }
 
-/// Gives the sink what waits.
-pub fn flush<S: Sink>(sink: &mut S, waiting: &mut Waiting)
+// Gives the sink what waits.
+fn flush<S: Sink>(sink: &mut S, waiting: &mut Waiting)
     ensures puts { Puts (S.taken sink.old) (S.faults sink.old) waiting.old (S.taken sink.new)
         (S.faults sink.new) waiting.new [] }
     ensures empty { waiting.new.failed ≡ false → waiting.new.bytes ≡ [] }
@@ -68,9 +68,9 @@ pub fn flush<S: Sink>(sink: &mut S, waiting: &mut Waiting)
     }
 }
 
-/// Puts a piece behind what was put before. It takes no memory.
+// Puts a piece behind what was put before. It takes no memory.
 #[inline(always)]
-pub fn put<S: Sink>(sink: &mut S, waiting: &mut Waiting, piece: &[u8])
+pub(crate) fn put<S: Sink>(sink: &mut S, waiting: &mut Waiting, piece: &[u8])
     ensures { Puts (S.taken sink.old) (S.faults sink.old) waiting.old (S.taken sink.new)
         (S.faults sink.new) waiting.new piece.now }
 {
@@ -111,13 +111,12 @@ fn put_through<S: Sink>(sink: &mut S, waiting: &mut Waiting, piece: &[u8])
     }
 }
 
-/// Gives the sink what waits, and says whether it took all that was put.
-pub fn end<S: Sink>(sink: &mut S, waiting: Waiting) -> Result<(), Failed>
-    ensures { Ends (S.taken sink.old) (S.faults sink.old) waiting (S.taken sink.new)
+// Gives the sink what waits, and says whether it took all that was put.
+pub(crate) fn end<S: Sink>(sink: &mut S, waiting: &mut Waiting) -> Result<(), Failed>
+    ensures { Ends (S.taken sink.old) (S.faults sink.old) waiting.old (S.taken sink.new)
         (S.faults sink.new) result }
 {
-    let mut waiting = waiting;
-    flush(sink, &mut waiting);
+    flush(sink, waiting);
     if waiting.failed {
         return Err(Failed);
     }
