@@ -1,5 +1,5 @@
 -- Covers, and the depths that a search has found.
-use Rattle.std.proofs.Common.{◌≡◌, ◌+◌, ◌/◌, ◌%◌, ◌<◌, ◌≤◌, inl, inr, ℕ, zero, suc, Bool, false, List, [], ◌∷◌, length, Option, Some, None, slice_get, slice_index, refl, ap, ap₂, sym, ◌∙◌, subst, subst₂, arith, length-append, All, Contains}
+use Rattle.std.proofs.Common.{◌≡◌, ◌+◌, ◌/◌, ◌%◌, ◌<◌, ◌≤◌, inl, inr, ℕ, zero, suc, Bool, false, List, [], ◌∷◌, length, Option, Some, None, slice_get, slice_index, refl, ap, ap₂, sym, ◌∙◌, subst, subst₂, arith, length-append, All}
 use Rattle.std.specs.List.{slice_index_or, range_with_len}
 use Rattle.std.specs.List.Sorted.{IsPermutation}
 use Rattle.std.proofs.lemmas.List.Sorted.{IsPermutation-refl}
@@ -32,9 +32,6 @@ use Rattle.lw_laws.proofs.Shared.{pair_within}
 use Rattle.lw_lut.proofs.TableValues.{long}
 
 -- Each tree has a cover by tables of at most two pins.
-
-once_none : HasPinsOnce 0 const_one
-once_none = IsPermutation-refl []
 
 pub covered : (most : ℕ) → 2 ≤ most → (t : Tree) → (k : TableCover) × IsTableCover most k × (tree_of k ≡ t)
 covered most two (leaf i) = (wire i, tt, refl)
@@ -73,11 +70,6 @@ flip_below c n even lt = let h = half-flip c in omega (arith, h, even, lt)
 
 below_flip : (c n : ℕ) → n % 2 ≡ 0 → flip c < n → c < n
 below_flip c n even lt = let h = half-flip c in omega (arith, h, even, lt)
-
-row_in : {X : Type 0} (rows : List (List X)) (c : ℕ) (x : X) → Contains (slice_index_or rows c []) x → c < length rows
-row_in [] c x (k, lt, e) = absurd (omega arith)
-row_in (r ∷ rows) zero x h = omega arith
-row_in (r ∷ rows) (suc c) x h = let l = row_in rows c x h in omega (arith, l)
 
 get_all : (P : ℕ → Type 0) (xs : List ℕ) (i x : ℕ) → All P xs → slice_get xs i ≡ Some x → P x
 get_all P xs i x all e = subst P (get_or_from_slice_get xs i x x e) (all i x (slice_get_within xs i x e))

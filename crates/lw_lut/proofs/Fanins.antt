@@ -51,13 +51,6 @@ spelled_more v pins k n d b lt is value =
     one : (b : Bool) (m : ℕ) → (if b then 1 else 0) + 2 * m ≡ m * 2 + ((if b then 1 else 0) + 0)
     one b m = omega arith
 
-pub spelled_few : (v : ℕ → Bool) (pins : List ClassId) (n : ℕ) → n ≡ spelled v (numbers pins) → length pins ≤ 5 → n < 32
-spelled_few v pins n is le =
-    let low = spelled_low v (numbers pins) in
-    let l = long pins in
-    let up : 2 ^ length (numbers pins) ≤ 2 ^ 5 = pow-le-pow_right {n = 2} (omega arith) {i = length (numbers pins)} {j = 5} (omega (arith, l, le)) in
-    omega (arith, low, up, is)
-
 pub spelled_fits : (v : ℕ → Bool) (pins : List ClassId) (n : ℕ) → n ≡ spelled v (numbers pins) → length pins ≤ 6 → n < 64
 spelled_fits v pins n is le =
     let low = spelled_low v (numbers pins) in

@@ -1,13 +1,12 @@
 -- A place that takes the cut of a pair with fewer leaves.
-use Rattle.std.proofs.Common.{◌≡◌, ◌+◌, ◌*◌, ◌/◌, ◌<◌, ◌≤◌, ◌⊎◌, ◌++◌, inl, inr, ℕ, zero, suc, Bool, true, false, ◌||◌, true≢false, List, [], ◌∷◌, length, Some, slice_get, slice_index, slice_set, refl, ap, sym, ◌∙◌, subst, arith, length-append}
+use Rattle.std.proofs.Common.{◌≡◌, ◌+◌, ◌*◌, ◌/◌, ◌<◌, ◌≤◌, ◌⊎◌, ◌++◌, inl, inr, ℕ, zero, suc, List, [], ◌∷◌, length, Some, slice_get, slice_index, slice_set, refl, ap, sym, ◌∙◌, subst, arith, length-append}
 use Rattle.std.proofs.lemmas.List.{length-set}
-use Rattle.std.proofs.lemmas.Bool.{cases_eq}
 use Rattle.std.proofs.lemmas.Option.{slice_get_within}
 use Rattle.lw_pool.specs.declared.id.ClassId.{ClassId}
 use Rattle.lw_laws.specs.Graphs.{Graph, HoldsPair}
 use Rattle.lw_lut.specs.Cuts.{PlainCut}
 use Rattle.lw_lut.specs.Packed.{joined_bits}
-use Rattle.lw_lut.specs.Searches.{AreCounts, AreLists, IsKept, IsBelow, Falls, IsBoundedAt, count_at, total}
+use Rattle.lw_lut.specs.Searches.{AreCounts, AreLists, IsKept, IsBelow, count_at, total}
 use Rattle.lw_lut.specs.declared.search.Search.{Search}
 use Rattle.lw_lut.proofs.Places.{get_set, number_set, sum_set}
 use Rattle.lw_lut.proofs.Pairs.{half_below}
@@ -95,28 +94,3 @@ module _ (g : Graph) (most d : ℕ) (s : Search) (are : AreCounts g most d s) (c
   }
 
 -- Passes one after the other.
-
-pub falls_next : (g : Graph) (old mid new : Search) (k : ℕ) (one other : Bool) → Falls g old mid (λ c. c < k) one → Falls g mid new (λ c. c ≡ k) other → Falls g old new (λ c. c < k + 1) (other || one)
-falls_next g old mid new k true true a b = record {
-  falls = λ e. let p = a.falls refl in let q = b.falls refl in omega (arith, p, q);
-  same = λ e. absurd (true≢false e);
-  bounded = λ e. absurd (true≢false e);
-}
-falls_next g old mid new k true false a b = record {
-  falls = λ e. subst (λ (s : Search). total s.counts.items < total old.counts.items) (sym (b.same refl)) (a.falls refl);
-  same = λ e. absurd (true≢false e);
-  bounded = λ e. absurd (true≢false e);
-}
-falls_next g old mid new k false true a b = record {
-  falls = λ e. subst (λ (s : Search). total new.counts.items < total s.counts.items) (a.same refl) (b.falls refl);
-  same = λ e. absurd (true≢false e);
-  bounded = λ e. absurd (true≢false e);
-}
-falls_next g old mid new k false false a b = record {
-  falls = λ e. absurd (true≢false (sym e));
-  same = λ e. b.same refl ∙ a.same refl;
-  bounded = λ e c lt. elim (cases_eq c k) [
-    | inl here ↦ subst (λ (s : Search). IsBoundedAt g s.counts.items c) (a.same refl) (b.bounded refl c here)
-    | inr other ↦ a.bounded refl c (omega (arith, lt, other))
-  ];
-}

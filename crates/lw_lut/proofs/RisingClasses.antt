@@ -4,7 +4,7 @@ use Rattle.std.proofs.lemmas.Bool.{cases_eq}
 use Rattle.std.proofs.lemmas.List.{take_more, take_all, length-take, get_or-take}
 use Rattle.std.proofs.lemmas.List.Elements.{Contains-push, Contains-push_cases, Contains-append_left}
 use Rattle.std.proofs.lemmas.List.Sorted.{Contains-permutation, IsPermutation-sym, length_permutation}
-use Rattle.std.proofs.lemmas.Option.{none-some, same_Some, slice_get_within, slice_get-get_or}
+use Rattle.std.proofs.lemmas.Option.{same_Some, slice_get_within, slice_get-get_or}
 use Rattle.std.specs.List.Sorted.{IsPermutation, IsNonDecreasingBy}
 use Rattle.lw_facts.proofs.Lists.{at_contained, get_push_cases}
 use Rattle.lw_pool.specs.declared.id.ClassId.{ClassId}
@@ -16,14 +16,6 @@ pub record AreGathered (seen gathered : List ClassId) : Type 0 where
   pub from : (c : ClassId) → Contains gathered c → Contains seen c
   pub to : (c : ClassId) → Contains seen c → Contains gathered c
   pub few : length gathered ≤ length seen
-
-pub gathered_none : AreGathered [] []
-gathered_none = record {
-  rising = λ i j x y e f lt. absurd (none-some x e);
-  from = λ c k. k;
-  to = λ c k. k;
-  few = omega arith;
-}
 
 pub gathered_more : (seen gathered new : List ClassId) (c : ClassId) → ((x : ClassId) → Contains seen x → x.0 ≤ c.0) → IsAdded gathered c new → AreGathered seen gathered → AreGathered (seen ++ c ∷ []) new
 gathered_more seen gathered new c below (inl (there, same)) are = subst (λ xs. AreGathered (seen ++ c ∷ []) xs) (sym same) (record {

@@ -1,13 +1,13 @@
 // The rows of tables.
 ghost use Rattle.std.specs.Prelude.{◌≡◌, ◌+◌, ◌<◌, ◌≤◌, ◌^◌, [], length, take, if◌then◌else◌};
 ghost use Rattle.std.specs.Int.{bit_at};
-ghost use Rattle.lw_io.specs.Waitings.{Puts};
+ghost use Rattle.lw_io.specs.Writers.{Writes};
 ghost use Rattle.lw_lut.specs.Cuts.{is_set};
 ghost use Rattle.lw_lut.specs.Texts.{binary, row, rows_from, table_rows, is_buffer};
 
 use crate::cut::{PinCount, is_set, numbers_of};
 use crate::table::Table;
-use lw_io::{Sink, Waiting, put};
+use lw_io::{Sink, Writer};
 
 // The digit of a bit.
 fn digit(place: u32, bit: usize) -> u8
@@ -29,17 +29,16 @@ fn binary(bits: PinCount, place: u32) -> [u8; 6]
 }
 
 // The row of a number.
-fn put_row<S: Sink>(sink: &mut S, waiting: &mut Waiting, bits: PinCount, place: u32)
-    ensures { Puts (S.taken sink.old) (S.faults sink.old) waiting.old (S.taken sink.new)
-        (S.faults sink.new) waiting.new (row bits.count place) }
+fn put_row<S: Sink>(out: &mut Writer<'_, S>, bits: PinCount, place: u32)
+    ensures { Writes S.taken S.faults out.old out.new (row bits.count place) }
 {
     let count = bits.count;
     if count == 0 {
-        put(sink, waiting, b"1\n");
+        out.put(b"1\n");
         return;
     }
-    put(sink, waiting, &binary(bits, place)[..count]);
-    put(sink, waiting, b" 1\n");
+    out.put(&binary(bits, place)[..count]);
+    out.put(b" 1\n");
 }
 
 // A table with no more than six fan-ins.
@@ -50,28 +49,26 @@ pub(crate) struct SmallTable<'a> {
 }
 
 // The row of a number, where its bit is set.
-fn put_row_at<S: Sink>(sink: &mut S, waiting: &mut Waiting, small: &SmallTable, place: u32)
+fn put_row_at<S: Sink>(out: &mut Writer<'_, S>, small: &SmallTable, place: u32)
     ensures { let table = small.now.table.now in
-        Puts (S.taken sink.old) (S.faults sink.old) waiting.old (S.taken sink.new)
-        (S.faults sink.new) waiting.new
+        Writes S.taken S.faults out.old out.new
         (if is_set table.bits place then row (length table.fanins) place else []) }
 {
     let table = small.table;
     if is_set(table.bits, place) {
         let count = table.fanins.len();
-        put_row(sink, waiting, PinCount { count }, place);
+        put_row(out, PinCount { count }, place);
     }
 }
 
 // The rows where the table is true.
-fn put_true_rows<S: Sink>(sink: &mut S, waiting: &mut Waiting, small: &SmallTable)
+fn put_true_rows<S: Sink>(out: &mut Writer<'_, S>, small: &SmallTable)
     ensures { let table = small.now.table.now in
-        Puts (S.taken sink.old) (S.faults sink.old) waiting.old (S.taken sink.new)
-        (S.faults sink.new) waiting.new (rows_from table 0 (2 ^ length table.fanins)) }
+        Writes S.taken S.faults out.old out.new (rows_from table 0 (2 ^ length table.fanins)) }
 {
     let count = small.table.fanins.len();
     for place in 0..numbers_of(PinCount { count }) {
-        put_row_at(sink, waiting, small, place);
+        put_row_at(out, small, place);
     }
 }
 
@@ -82,14 +79,13 @@ fn is_buffer(table: &Table) -> bool
     table.fanins.len() == 1 && !is_set(table.bits, 0) && is_set(table.bits, 1)
 }
 
-pub(crate) fn put_rows<S: Sink>(sink: &mut S, waiting: &mut Waiting, small: &SmallTable)
-    ensures { Puts (S.taken sink.old) (S.faults sink.old) waiting.old (S.taken sink.new)
-        (S.faults sink.new) waiting.new (table_rows small.now.table.now) }
+pub(crate) fn put_rows<S: Sink>(out: &mut Writer<'_, S>, small: &SmallTable)
+    ensures { Writes S.taken S.faults out.old out.new (table_rows small.now.table.now) }
 {
     let table = small.table;
     if is_buffer(table) {
-        put(sink, waiting, b"0 0\n");
+        out.put(b"0 0\n");
     } else {
-        put_true_rows(sink, waiting, small);
+        put_true_rows(out, small);
     }
 }

@@ -1,13 +1,13 @@
 -- Decimals that are printed: their bytes, and that they are read as the number by any limit above it.
-use Rattle.std.proofs.Common.{ℕ, zero, suc, ◌≡◌, ◌<◌, ◌≤◌, ◌+◌, ◌-◌, ◌*◌, ◌/◌, ◌%◌, ◌^◌, ◌==◌, Bool, true, false, not, ◌&&◌, cond, nat_lt, nat_eq, eqb, List, [], ◌∷◌, ◌++◌, length, take, drop, get_or, replicate, reverse, Result, Ok, Err, refl, ap, ap₂, sym, ◌∙◌, arith, add-one, length-drop, length-take, length-append}
+use Rattle.std.proofs.Common.{ℕ, zero, suc, ◌≡◌, ◌<◌, ◌≤◌, ◌+◌, ◌-◌, ◌*◌, ◌/◌, ◌%◌, ◌^◌, ◌==◌, Bool, true, false, not, ◌&&◌, cond, nat_lt, nat_eq, eqb, List, [], ◌∷◌, ◌++◌, length, take, drop, get_or, reverse, Result, Ok, Err, refl, ap, ap₂, sym, ◌∙◌, arith, add-one, length-take, length-append}
 use Rattle.std.specs.Prelude.{decimal, nat_le}
 use Rattle.std.specs.Char.{is_ascii_digit, digit_value}
 use Rattle.std.specs.List.{list_all, list_any, suffix_len, position_or_len, before_first, after_first, AllByRecursion as Each}
 use Rattle.std.specs.Str.Parse.{digits_value}
-use Rattle.std.proofs.lemmas.Bool.{and_parts, eqb-true}
+use Rattle.std.proofs.lemmas.Bool.{and_parts}
 use Rattle.std.proofs.lemmas.Bool.Decides.{nat_tests}
 use Rattle.std.proofs.lemmas.Fmt.{length-decimal-le, digits_decimal, digits_value-decimal, decimal_nonempty}
-use Rattle.std.proofs.lemmas.List.{get_or-reverse, get_or-drop, get_or-replicate, ext_get_or, length-replicate, take_at, take_all, drop_all}
+use Rattle.std.proofs.lemmas.List.{get_or-reverse, take_at, take_all, drop_all}
 use Rattle.std.proofs.lemmas.List.Sums.{prefix_len_passes, suffix_len-le-length}
 use Rattle.std.proofs.lemmas.Str.Parse.{digits_value_short}
 use Rattle.lw_facts.proofs.Lists.{digits_take, drop_point, digits_value_split}
@@ -78,16 +78,6 @@ zero-behind xs k le lt =
     let same : length xs - 1 - (length xs - 1 - k) ≡ k = omega arith in
     let there : get_or (reverse xs) (length xs - 1 - k) 0 ≡ get_or xs (length xs - 1 - (length xs - 1 - k)) 0 = get_or-reverse xs (length xs - 1 - k) 0 (omega arith) in
     ap is_zero (sym (there ∙ ap (λ i. get_or xs i 0) same)) ∙ prefix_len_passes is_zero (reverse xs) (length xs - 1 - k) 0 near
-
-dropped-zeros : (xs : List ℕ) → drop (length xs - suffix_len is_zero xs) xs ≡ replicate (suffix_len is_zero xs) 48
-dropped-zeros xs =
-    let n : ℕ = suffix_len is_zero xs in
-    let most : suffix_len is_zero xs ≤ length xs = suffix_len-le-length is_zero xs in
-    let long : length (drop (length xs - n) xs) ≡ n = omega (arith, length-drop (length xs - n) xs) in
-    ext_get_or 0 (drop (length xs - n) xs) (replicate n 48) (long ∙ sym (length-replicate n 48))
-    (λ i lt. get_or-drop (length xs - n) xs i 0
-    ∙ (eqb-true _ _ (zero-behind xs (length xs - n + i) (omega arith) (omega arith))
-    ∙ sym (get_or-replicate n i 48 0 (omega arith))))
 
 -- Around the point.
 

@@ -28,6 +28,8 @@ pub use laws::{
     lines_have_one_meaning, read_netlists_are_kept, read_netlists_have_names,
     written_texts_read_back,
 };
+pub use lines::name_of;
+pub use parsing::are_digits;
 pub use parts::Parts;
 pub use reader::{MappedReader, Stop};
 pub use saying::Saying;

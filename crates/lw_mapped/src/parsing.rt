@@ -125,7 +125,8 @@ fn default_arrival(words: &Words) -> Result<Saying, Refusal>
     }
 }
 
-fn are_digits(bytes: &[u8]) -> bool
+/// Whether all bytes are digits.
+pub fn are_digits(bytes: &[u8]) -> bool
     ensures { result ≡ list_all is_ascii_digit bytes.now }
 {
     bytes.iter().all(|b| b.is_ascii_digit())

@@ -9,8 +9,8 @@ use Rattle.std.proofs.lemmas.List.{drop_all, drop_more, get_or-map, get_or-take,
 use Rattle.std.proofs.lemmas.List.FromFn.{map-range_with_len_more}
 use Rattle.std.proofs.lemmas.Grind.{flat_map-append}
 use Rattle.lw_pool.specs.declared.id.NetId.{NetId}
-use Rattle.lw_io.specs.Waitings.{Pending}
-use Rattle.lw_io.proofs.Putting.{Puts-both, Puts-none}
+use Rattle.lw_io.specs.declared.writer.Writer.{Writer}
+use Rattle.lw_io.proofs.Putting.{Writes-both, Writes-none}
 use Rattle.lw_laws.specs.Networks.{row_value, node_value, given}
 use Rattle.lw_laws.specs.Expressions.{Expr, expr_value}
 use Rattle.lw_net.specs.declared.node.Node.{Node}
@@ -27,7 +27,7 @@ use Rattle.lw_genlib.specs.Cells.{CellParts}
 use Rattle.lw_genlib.specs.Words.{bit, pins_at}
 use Rattle.lw_report.specs.declared.block.Block.{Block}
 use Rattle.lw_report.specs.Blocks.{bits_at, block_vectors, vectors_in}
-use Rattle.lw_report.specs.Puts.{PutsLines}
+use Rattle.lw_report.specs.Writes.{WritesLines}
 use Rattle.lw_report.specs.Reading.{words_of}
 use Rattle.lw_report.specs.Simulated.{AreLines, IsNetworkLine, IsNetlistLine, value_line, port_net}
 use Rattle.lw_report.specs.Simulated.AreLines.{no_lines, next_line}
@@ -161,12 +161,12 @@ pub vectors_more : (blocks : List Block) (i : ℕ) (d : Block) → i < length bl
 vectors_more blocks i d below =
     ap vectors_in (take_more blocks i d below) ∙ (flat_map-append block_vectors (take i blocks) (get_or blocks i d ∷ []) ∙ ap (λ (vs : List (List Bool)). vectors_in (take i blocks) ++ vs) (append-nil (block_vectors (get_or blocks i d))))
 
-pub puts_lines_none : {IsLine : List Bool → List ℕ → Type 0} {taken : Option (List ℕ)} {faults : ℕ} {pending : Pending} → PutsLines IsLine [] taken faults pending taken faults pending
-puts_lines_none = record { text = []; is = no_lines; puts = Puts-none }
+pub writes_lines_none : {IsLine : List Bool → List ℕ → Type 0} {S : Type 0} {taken : S → Option (List ℕ)} {faults : S → ℕ} {w : Writer S} → WritesLines IsLine [] taken faults w w
+writes_lines_none = record { text = []; is = no_lines; writes = Writes-none }
 
-pub puts_lines_more : {IsLine : List Bool → List ℕ → Type 0} {taken taken' taken'' : Option (List ℕ)} {faults faults' faults'' : ℕ} {pending pending' pending'' : Pending} (blocks : List Block) (i : ℕ) (d : Block) → i < length blocks → PutsLines IsLine (vectors_in (take i blocks)) taken faults pending taken' faults' pending' → PutsLines IsLine (block_vectors (get_or blocks i d)) taken' faults' pending' taken'' faults'' pending'' → PutsLines IsLine (vectors_in (take (i + 1) blocks)) taken faults pending taken'' faults'' pending''
-puts_lines_more {IsLine} blocks i d below first second = record {
+pub writes_lines_more : {IsLine : List Bool → List ℕ → Type 0} {S : Type 0} {taken : S → Option (List ℕ)} {faults : S → ℕ} {u v w : Writer S} (blocks : List Block) (i : ℕ) (d : Block) → i < length blocks → WritesLines IsLine (vectors_in (take i blocks)) taken faults u v → WritesLines IsLine (block_vectors (get_or blocks i d)) taken faults v w → WritesLines IsLine (vectors_in (take (i + 1) blocks)) taken faults u w
+writes_lines_more {IsLine} blocks i d below first second = record {
   text = first.text ++ second.text;
   is = subst (λ vs. AreLines IsLine vs (first.text ++ second.text)) (sym (vectors_more blocks i d below)) (lines_behind first.is second.is);
-  puts = Puts-both first.puts second.puts;
+  writes = Writes-both first.writes second.writes;
 }

@@ -2,7 +2,7 @@ pub mod Blocks
 pub mod Made
 pub mod Marking
 pub mod Pathways
-pub mod Puts
+pub mod Writes
 pub mod Reading
 pub mod Simulated
 pub mod Standing

@@ -3,7 +3,7 @@ ghost use Rattle.std.specs.Prelude.{◌≡◌, ◌<◌, Some, length, map, All, 
 ghost use Rattle.std.specs.List.{flat_map};
 ghost use Rattle.lw_genlib.specs.Tables.{millionths};
 ghost use Rattle.lw_netlist.specs.Plain.{IsOver};
-ghost use Rattle.lw_io.specs.Waitings.{Puts};
+ghost use Rattle.lw_io.specs.Writers.{Writes};
 ghost use Rattle.lw_report.specs.Made.{IsStepIn};
 ghost use Rattle.lw_report.specs.Timings as report;
 ghost use Rattle.lw_report.specs.Timings.{arrival_line, summary_text, cell_step_line, step_line};
@@ -13,51 +13,48 @@ use crate::lines::{put_last, put_word};
 use crate::totals::{cell_of, gate_numbered};
 use lw_fixed::Micro;
 use lw_genlib::{Cell, Library};
-use lw_io::{Sink, Waiting, put};
+use lw_io::{Sink, Writer};
 use lw_netlist::{Netlist, Port};
 
 // When an output arrives.
-fn put_arrival<S: Sink>(sink: &mut S, waiting: &mut Waiting, port: &Port, arrivals: &[Micro])
+fn put_arrival<S: Sink>(out: &mut Writer<'_, S>, port: &Port, arrivals: &[Micro])
     requires { port.now.net.0 < length arrivals.now }
-    ensures { Puts (S.taken sink.old) (S.faults sink.old) waiting.old (S.taken sink.new)
-        (S.faults sink.new) waiting.new (arrival_line (map millionths arrivals.now) port.now) }
+    ensures { Writes S.taken S.faults out.old out.new
+        (arrival_line (map millionths arrivals.now) port.now) }
 {
-    put(sink, waiting, b"arrival");
-    put_word(sink, waiting, port.name.as_bytes());
-    put_last(sink, waiting, arrivals[port.net.0 as usize]);
+    out.put(b"arrival");
+    put_word(out, port.name.as_bytes());
+    put_last(out, arrivals[port.net.0 as usize]);
 }
 
 // When the outputs arrive.
-fn put_arrivals<S: Sink>(sink: &mut S, waiting: &mut Waiting, ports: &[Port], arrivals: &[Micro])
+fn put_arrivals<S: Sink>(out: &mut Writer<'_, S>, ports: &[Port], arrivals: &[Micro])
     requires { All (λ port. port.net.0 < length arrivals.now) ports.now }
-    ensures { Puts (S.taken sink.old) (S.faults sink.old) waiting.old (S.taken sink.new)
-        (S.faults sink.new) waiting.new
+    ensures { Writes S.taken S.faults out.old out.new
         (flat_map (arrival_line (map millionths arrivals.now)) ports.now) }
 {
     for port in ports {
-        put_arrival(sink, waiting, port, arrivals);
+        put_arrival(out, port, arrivals);
     }
 }
 
 // When the outputs arrive, the greatest of these times, and the area.
 pub(crate) fn put_summary<S: Sink>(
-    sink: &mut S,
-    waiting: &mut Waiting,
+    out: &mut Writer<'_, S>,
     ports: &[Port],
     arrivals: &[Micro],
     latest: Micro,
     area: Micro,
 )
     requires { All (λ port. port.net.0 < length arrivals.now) ports.now }
-    ensures { Puts (S.taken sink.old) (S.faults sink.old) waiting.old (S.taken sink.new)
-        (S.faults sink.new) waiting.new
+    ensures { Writes S.taken S.faults out.old out.new
         (summary_text ports.now (map millionths arrivals.now) latest.0 area.0) }
 {
-    put_arrivals(sink, waiting, ports, arrivals);
-    put(sink, waiting, b"max");
-    put_last(sink, waiting, latest);
-    put(sink, waiting, b"area");
-    put_last(sink, waiting, area);
+    put_arrivals(out, ports, arrivals);
+    out.put(b"max");
+    put_last(out, latest);
+    out.put(b"area");
+    put_last(out, area);
 }
 
 // The name of a pin, if there is one.
@@ -73,28 +70,26 @@ fn pin_name(cell: &Cell, pin: Option<u8>) -> &[u8]
 
 // A step at a gate of this cell, whose net has this name.
 fn put_cell_step<S: Sink>(
-    sink: &mut S,
-    waiting: &mut Waiting,
+    out: &mut Writer<'_, S>,
     net: &[u8],
     arrival: Micro,
     pin: Option<u8>,
     cell: &Cell,
 )
     requires { IfSome pin (λ k. k < length cell.now.pins) }
-    ensures { Puts (S.taken sink.old) (S.faults sink.old) waiting.old (S.taken sink.new)
-        (S.faults sink.new) waiting.new (cell_step_line net.now arrival.0 pin (Some cell.now)) }
+    ensures { Writes S.taken S.faults out.old out.new
+        (cell_step_line net.now arrival.0 pin (Some cell.now)) }
 {
-    put(sink, waiting, b"step");
-    put_word(sink, waiting, net);
-    put_word(sink, waiting, cell.name().as_bytes());
-    put_word(sink, waiting, pin_name(cell, pin));
-    put_last(sink, waiting, arrival);
+    out.put(b"step");
+    put_word(out, net);
+    put_word(out, cell.name().as_bytes());
+    put_word(out, pin_name(cell, pin));
+    put_last(out, arrival);
 }
 
 // A step of the critical path.
 fn put_step<S: Sink>(
-    sink: &mut S,
-    waiting: &mut Waiting,
+    out: &mut Writer<'_, S>,
     netlist: &Netlist,
     lib: &Library,
     arrivals: &[Micro],
@@ -103,27 +98,18 @@ fn put_step<S: Sink>(
     requires over { IsOver lib.now netlist.now }
     requires one_each { length arrivals.now ≡ length netlist.now.names }
     requires step { IsStepIn netlist.now step }
-    ensures { Puts (S.taken sink.old) (S.faults sink.old) waiting.old (S.taken sink.new)
-        (S.faults sink.new) waiting.new
+    ensures { Writes S.taken S.faults out.old out.new
         (step_line lib.now netlist.now (map millionths arrivals.now) step) }
 {
     let gate = gate_numbered(netlist, step.gate);
     let net = gate.out.0 as usize;
     let name = netlist.names()[net].as_bytes();
-    put_cell_step(
-        sink,
-        waiting,
-        name,
-        arrivals[net],
-        step.pin,
-        cell_of(lib, gate),
-    );
+    put_cell_step(out, name, arrivals[net], step.pin, cell_of(lib, gate));
 }
 
 // The steps of the critical path.
 pub(crate) fn put_steps<S: Sink>(
-    sink: &mut S,
-    waiting: &mut Waiting,
+    out: &mut Writer<'_, S>,
     netlist: &Netlist,
     lib: &Library,
     arrivals: &[Micro],
@@ -132,11 +118,10 @@ pub(crate) fn put_steps<S: Sink>(
     requires over { IsOver lib.now netlist.now }
     requires one_each { length arrivals.now ≡ length netlist.now.names }
     requires steps { All (IsStepIn netlist.now) path.now }
-    ensures { Puts (S.taken sink.old) (S.faults sink.old) waiting.old (S.taken sink.new)
-        (S.faults sink.new) waiting.new
+    ensures { Writes S.taken S.faults out.old out.new
         (flat_map (step_line lib.now netlist.now (map millionths arrivals.now)) path.now) }
 {
     for step in path {
-        put_step(sink, waiting, netlist, lib, arrivals, *step);
+        put_step(out, netlist, lib, arrivals, *step);
     }
 }

@@ -3,7 +3,7 @@ ghost use Rattle.std.specs.Prelude.{◌≡◌, ◌≤◌, length, take, All, IfO
 ghost use Rattle.lw_netlist.specs.Plain.{IsOver};
 ghost use Rattle.lw_report.specs.Blocks.{IsBlock, block_vectors, vectors_in};
 ghost use Rattle.lw_report.specs.Made.{CanSimulate, places_of};
-ghost use Rattle.lw_report.specs.Puts.{PutsLines};
+ghost use Rattle.lw_report.specs.Writes.{WritesLines};
 ghost use Rattle.lw_report.specs.Simulated.{IsNetworkLine, IsNetlistLine, IsNetworkSimulation, IsNetlistSimulation};
 ghost use Rattle.lw_report.specs.Texts.{WritesValues};
 
@@ -13,7 +13,7 @@ use crate::gates::fill_gates;
 use crate::nodes::fill_nodes;
 use crate::outputs::{put_net_lines, put_port_lines};
 use lw_genlib::Library;
-use lw_io::{Failed, Sink, Waiting, end};
+use lw_io::{Failed, Sink, Writer};
 use lw_net::Network;
 use lw_netlist::Netlist;
 use std::alloc::{AllocError, Global};
@@ -54,9 +54,9 @@ impl Sim {
             (S.faults sink.old) (S.taken sink.new) (S.faults sink.new) result }
         ensures made { places_of self.new ≡ places_of self.old }
     {
-        let mut waiting = Waiting::new();
-        put_network(sink, &mut waiting, net, vectors.blocks(), &mut self.nets);
-        end(sink, waiting)
+        let mut out = Writer::new(sink);
+        put_network(&mut out, net, vectors.blocks(), &mut self.nets);
+        out.end()
     }
 
     /// Writes the values of the netlist's outputs, a line for each vector. It takes no memory.
@@ -74,16 +74,9 @@ impl Sim {
             (S.taken sink.old) (S.faults sink.old) (S.taken sink.new) (S.faults sink.new) result }
         ensures made { places_of self.new ≡ places_of self.old }
     {
-        let mut waiting = Waiting::new();
-        put_netlist(
-            sink,
-            &mut waiting,
-            netlist,
-            lib,
-            vectors.blocks(),
-            &mut self.nets,
-        );
-        end(sink, waiting)
+        let mut out = Writer::new(sink);
+        put_netlist(&mut out, netlist, lib, vectors.blocks(), &mut self.nets);
+        out.end()
     }
 }
 
@@ -97,45 +90,37 @@ fn copy_front(words: &[u64], nets: &mut [u64])
 
 // The lines of a block of vectors.
 fn put_network_block<S: Sink>(
-    sink: &mut S,
-    waiting: &mut Waiting,
+    out: &mut Writer<'_, S>,
     net: &Network,
     block: &Block,
     nets: &mut [u64],
 )
     requires made { length nets.old ≡ length net.now.names }
     requires block { IsBlock net.now.inputs block.now }
-    ensures { PutsLines (IsNetworkLine net.now) (block_vectors block.now) (S.taken sink.old)
-        (S.faults sink.old) waiting.old (S.taken sink.new) (S.faults sink.new) waiting.new }
+    ensures { WritesLines (IsNetworkLine net.now) (block_vectors block.now) S.taken S.faults
+        out.old out.new }
 {
     let nodes = net.nodes();
     copy_front(&block.words, nets);
     fill_nodes(nodes, block.words.len(), nets);
-    put_net_lines(sink, waiting, net.outputs(), nets, block.count);
+    put_net_lines(out, net.outputs(), nets, block.count);
 }
 
 // The lines of blocks of vectors.
-fn put_network<S: Sink>(
-    sink: &mut S,
-    waiting: &mut Waiting,
-    net: &Network,
-    blocks: &[Block],
-    nets: &mut [u64],
-)
+fn put_network<S: Sink>(out: &mut Writer<'_, S>, net: &Network, blocks: &[Block], nets: &mut [u64])
     requires made { length nets.old ≡ length net.now.names }
     requires blocks { All (IsBlock net.now.inputs) blocks.now }
-    ensures { PutsLines (IsNetworkLine net.now) (vectors_in blocks.now) (S.taken sink.old)
-        (S.faults sink.old) waiting.old (S.taken sink.new) (S.faults sink.new) waiting.new }
+    ensures { WritesLines (IsNetworkLine net.now) (vectors_in blocks.now) S.taken S.faults
+        out.old out.new }
 {
     for block in blocks {
-        put_network_block(sink, waiting, net, block, nets);
+        put_network_block(out, net, block, nets);
     }
 }
 
 // The lines of a block of vectors.
 fn put_netlist_block<S: Sink>(
-    sink: &mut S,
-    waiting: &mut Waiting,
+    out: &mut Writer<'_, S>,
     netlist: &Netlist,
     lib: &Library,
     block: &Block,
@@ -144,20 +129,18 @@ fn put_netlist_block<S: Sink>(
     requires made { length nets.old ≡ length netlist.now.names }
     requires over { IsOver lib.now netlist.now }
     requires block { IsBlock netlist.now.inputs block.now }
-    ensures { PutsLines (IsNetlistLine lib.now netlist.now) (block_vectors block.now)
-        (S.taken sink.old) (S.faults sink.old) waiting.old (S.taken sink.new)
-        (S.faults sink.new) waiting.new }
+    ensures { WritesLines (IsNetlistLine lib.now netlist.now) (block_vectors block.now) S.taken S.faults
+        out.old out.new }
 {
     let gates = netlist.gates();
     copy_front(&block.words, nets);
     fill_gates(gates, lib, block.words.len(), nets);
-    put_port_lines(sink, waiting, netlist.outputs(), nets, block.count);
+    put_port_lines(out, netlist.outputs(), nets, block.count);
 }
 
 // The lines of blocks of vectors.
 fn put_netlist<S: Sink>(
-    sink: &mut S,
-    waiting: &mut Waiting,
+    out: &mut Writer<'_, S>,
     netlist: &Netlist,
     lib: &Library,
     blocks: &[Block],
@@ -166,11 +149,10 @@ fn put_netlist<S: Sink>(
     requires made { length nets.old ≡ length netlist.now.names }
     requires over { IsOver lib.now netlist.now }
     requires blocks { All (IsBlock netlist.now.inputs) blocks.now }
-    ensures { PutsLines (IsNetlistLine lib.now netlist.now) (vectors_in blocks.now)
-        (S.taken sink.old) (S.faults sink.old) waiting.old (S.taken sink.new)
-        (S.faults sink.new) waiting.new }
+    ensures { WritesLines (IsNetlistLine lib.now netlist.now) (vectors_in blocks.now) S.taken S.faults
+        out.old out.new }
 {
     for block in blocks {
-        put_netlist_block(sink, waiting, netlist, lib, block, nets);
+        put_netlist_block(out, netlist, lib, block, nets);
     }
 }

@@ -1,6 +1,7 @@
 // The timing of a netlist.
 ghost use Rattle.std.specs.Prelude.{◌≡◌, ◌≤◌, length, All, IfOk};
-ghost use Rattle.lw_io.specs.Waitings.{Puts, IsTaken};
+ghost use Rattle.lw_io.specs.Waitings.{IsTaken};
+ghost use Rattle.lw_io.specs.Writers.{Writes};
 ghost use Rattle.lw_genlib.specs.Cells.{IsSmall};
 ghost use Rattle.lw_netlist.specs.Netlists.{most_gates};
 ghost use Rattle.lw_netlist.specs.Plain.{IsOver};
@@ -12,7 +13,7 @@ use crate::report::{put_steps, put_summary};
 use crate::totals::{area_of, latest_of};
 use lw_fixed::{Micro, Micros};
 use lw_genlib::Library;
-use lw_io::{Failed, Sink, Waiting, end};
+use lw_io::{Failed, Sink, Writer};
 use lw_netlist::Netlist;
 use std::alloc::{AllocError, Global};
 use std::marker::Model;
@@ -101,32 +102,24 @@ impl Timing {
         ensures { IsTaken (S.taken sink.old) (S.faults sink.old) (S.taken sink.new)
             (S.faults sink.new) (timing_text lib.now netlist.now self.now) result }
     {
-        let mut waiting = Waiting::new();
-        self.put_report(sink, &mut waiting, netlist, lib);
-        end(sink, waiting)
+        let mut out = Writer::new(sink);
+        self.put_report(&mut out, netlist, lib);
+        out.end()
     }
 
     // The whole text.
-    fn put_report<S: Sink>(
-        &self,
-        sink: &mut S,
-        waiting: &mut Waiting,
-        netlist: &Netlist,
-        lib: &Library,
-    )
+    fn put_report<S: Sink>(&self, out: &mut Writer<'_, S>, netlist: &Netlist, lib: &Library)
         requires over { IsOver lib.now netlist.now }
         requires made { IsTimingFor lib.now netlist.now self.now }
-        ensures { Puts (S.taken sink.old) (S.faults sink.old) waiting.old (S.taken sink.new)
-            (S.faults sink.new) waiting.new (timing_text lib.now netlist.now self.now) }
+        ensures { Writes S.taken S.faults out.old out.new (timing_text lib.now netlist.now self.now) }
     {
         put_summary(
-            sink,
-            waiting,
+            out,
             netlist.outputs(),
             &self.arrivals,
             self.latest,
             self.area,
         );
-        put_steps(sink, waiting, netlist, lib, &self.arrivals, &self.path);
+        put_steps(out, netlist, lib, &self.arrivals, &self.path);
     }
 }

@@ -60,5 +60,5 @@ ends told before now command step (Ok a) g says = record { says = says; reached 
 ends told before now command step (Err e) g says = record { says = says; reached = given_reaches told before now command step e g; not_words = given_words told before now command step e g; written = tt }
 
 -- a command is answered, and the files stay
-pub responds : {told told' : Option (List File)} {before now : ℕ} {command : Command} {r : Result Answer Refusal} → told' ≡ told → before ≤ now → IsAnswered told before now command r → Responds told told' before now command r
+pub responds : {F : Type 0} {told : F → Option (List File)} {faults : F → ℕ} {old new : F} {command : Command} {r : Result Answer Refusal} → told new ≡ told old → faults old ≤ faults new → IsAnswered (told old) (faults old) (faults new) command r → Responds told faults old new command r
 responds files later answered = record { answered = answered; later = later; files = files }

@@ -38,23 +38,23 @@ module _ {X A : Type 0} (view : X → A) (step : Step A) where
   blames which (Err other) c = tt
 
 -- A file's bytes, and then a step that reads no file.
-module _ {B X A : Type 0} (bytes_of_it : B → List ℕ) (view : X → A) (told told' : Option (List File)) (before now : ℕ) (which : Which) (name : List ℕ) (next : List ℕ → Step A) where
+module _ {B X A : Type 0} (bytes_of_it : B → List ℕ) (view : X → A) {F : Type 0} (told : F → Option (List File)) (faults : F → ℕ) (old new : F) (which : Which) (name : List ℕ) (next : List ℕ → Step A) where
   -- the file was not read
-  pub bytes_refused : (e : Refusal) → ReadsFile bytes_of_it told told' before now which (gives (text_of which name)) (Err e) → ReadsFile view told told' before now which (followed_by (gives (text_of which name)) next) (Err e)
+  pub bytes_refused : (e : Refusal) → ReadsFile bytes_of_it told faults old new which (gives (text_of which name)) (Err e) → ReadsFile view told faults old new which (followed_by (gives (text_of which name)) next) (Err e)
   bytes_refused e read = record {
     files = read.files;
     later = read.later;
     not_words = read.not_words;
     blames = read.blames;
-    reads = refused told (gives (text_of which name)) next before now e read.reads;
+    reads = refused (told old) (gives (text_of which name)) next (faults old) (faults new) e read.reads;
   }
 
   -- it was read
-  pub bytes_read : (b : B) (r : Result X Refusal) → ReadsFile bytes_of_it told told' before now which (gives (text_of which name)) (Ok b) → Comes view (next (bytes_of_it b)) r → ReadsFile view told told' before now which (followed_by (gives (text_of which name)) next) r
+  pub bytes_read : (b : B) (r : Result X Refusal) → ReadsFile bytes_of_it told faults old new which (gives (text_of which name)) (Ok b) → Comes view (next (bytes_of_it b)) r → ReadsFile view told faults old new which (followed_by (gives (text_of which name)) next) r
   bytes_read b r read c = record {
     files = read.files;
     later = read.later;
     not_words = not_words view (next (bytes_of_it b)) r c;
     blames = blames view (next (bytes_of_it b)) which r c;
-    reads = after_reading view told before now now (gives (text_of which name)) next (bytes_of_it b) r read.later read.reads (comes view told now now (next (bytes_of_it b)) r c);
+    reads = after_reading view (told old) (faults old) (faults new) (faults new) (gives (text_of which name)) next (bytes_of_it b) r read.later read.reads (comes view (told old) (faults new) (faults new) (next (bytes_of_it b)) r c);
   }

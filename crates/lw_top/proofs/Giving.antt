@@ -1,5 +1,5 @@
 -- What steps that read no file answer.
-use Rattle.std.proofs.Common.{ℕ, ◌≤◌, ◌≡◌, Bool, true, false, List, length, map, Option, Some, None, Ok, Err, ap, sym, ◌∙◌, subst, subst₂, arith}
+use Rattle.std.proofs.Common.{ℕ, ◌≡◌, Bool, true, false, List, length, map, Option, Some, None, Ok, Err, ap, sym, ◌∙◌, subst, subst₂, arith}
 use Rattle.std.proofs.lemmas.List.{length-map, length-take-le}
 use Rattle.std.proofs.lemmas.Slice.Zip.{AllZip-long}
 use Rattle.lw_fixed.specs.declared.micro.Micro.{Micro}
@@ -39,9 +39,6 @@ use Rattle.lw_top.specs.Mapped.{IsCertificateFor}
 use Rattle.lw_top.specs.Named.{map_refusal}
 use Rattle.lw_top.specs.Answered.{Gives}
 use Rattle.lw_top.specs.Checks.{HasVerdict}
-use Rattle.lw_lut.specs.Nets.{PlainTableNet}
-use Rattle.lw_map.specs.Tabled.{IsTabled}
-use Rattle.lw_top.specs.Tables.{Tabulates}
 use Rattle.lw_top.specs.Counts.{pair_total, counts_text, sizes_text, IsCountText, Counts, drawing_options, at_once, Draws}
 use Rattle.lw_net.specs.Ports.{output_port}
 
@@ -106,16 +103,6 @@ module _ (cells : List CellParts) (model : Parsed) (c : Choices) (m : Mapping) (
     },
     (over, framed, gate_classes certified certificate a),
   )
-
--- tables with the frame of the model
-pub tables_given : (leaves : ℕ) (model : Parsed) (c : Choices) (n : PlainTableNet) → IsModel model → AreChoicesOf model.network c → IsTabled (plain_options c.options) leaves model.network n → Gives (Tabulates leaves (plain_options c.options) model) (Ok (answer.Tables n model.frame))
-tables_given leaves model c n fits are is = (
-  λ text files says. record { within = are.within; net = n; tabled = is; says = says },
-  record {
-    inputs = subst (λ (names : List (List ℕ)). model.frame.inputs ≤ length names) (sym is.inputs) fits.frame.own_inputs;
-    outputs = subst (λ (names : List (List ℕ)). model.frame.outputs ≤ length names) (sym is.outputs) fits.frame.own_outputs;
-  },
-)
 
 -- the counts of a graph
 pub counts_given : (options : Options) (model : Parsed) (c : Choices) → plain_options c.options ≡ options → AreChoicesOf model.network c → Gives (Counts options model) (Ok (answer.Counts c.forms (length c.graph.pairs) (pair_total c.graph)))

@@ -13,17 +13,17 @@ use Rattle.lw_top.specs.Named.{IsTextOf}
 use Rattle.lw_top.specs.Reading.{Known, HasReason, Reaches}
 use Rattle.lw_top.specs.declared.outcome.Outcome.{Outcome}
 use Rattle.lw_top.specs.declared.outcome.Outcome.TheVariants.{Done, WriteFault, Refused}
-use Rattle.lw_top.specs.Outcome.{Writes, Meets, IsReachedBy}
+use Rattle.lw_top.specs.Outcome.{WritesAnswer, Meets, IsReachedBy}
 use Rattle.lw_top.proofs.Steps.{answered, refused_later}
 
 -- a text of the answer was written, or a part of it
-pub served : {O : Type 0} (told : Option (List File)) (before now : ℕ) (taken : O → Option (List ℕ)) (is_finished : O → Bool) (faults : O → ℕ) (old new : O) (step : Step (List ℕ)) (a : Answer) (o : Outcome) → ((text : List ℕ) → IsTextOf a text → Known told step (Ok text)) → Writes taken is_finished faults old new a o → Meets told before now taken is_finished faults old new step o
+pub served : {O : Type 0} (told : Option (List File)) (before now : ℕ) (taken : O → Option (List ℕ)) (is_finished : O → Bool) (faults : O → ℕ) (old new : O) (step : Step (List ℕ)) (a : Answer) (o : Outcome) → ((text : List ℕ) → IsTextOf a text → Known told step (Ok text)) → WritesAnswer taken is_finished faults old new a o → Meets told before now taken is_finished faults old new step o
 served told before now taken is_finished faults old new step a Done known (text, is, done) = (text, known text is, done)
 served told before now taken is_finished faults old new step a WriteFault known (text, is, cut) = (text, known text is, cut)
 served told before now taken is_finished faults old new step a (Refused r) known written = absurd written
 
 -- what was written is no refusal
-pub reached_written : {O : Type 0} (told : Option (List File)) (command : Option Command) (taken : O → Option (List ℕ)) (is_finished : O → Bool) (faults : O → ℕ) (old new : O) (a : Answer) (o : Outcome) → Writes taken is_finished faults old new a o → IsReachedBy told command o
+pub reached_written : {O : Type 0} (told : Option (List File)) (command : Option Command) (taken : O → Option (List ℕ)) (is_finished : O → Bool) (faults : O → ℕ) (old new : O) (a : Answer) (o : Outcome) → WritesAnswer taken is_finished faults old new a o → IsReachedBy told command o
 reached_written told None taken is_finished faults old new a o w = tt
 reached_written told (Some command) taken is_finished faults old new a Done w = tt
 reached_written told (Some command) taken is_finished faults old new a WriteFault w = tt

@@ -38,10 +38,10 @@ pub record IsAnswered (told : Option (List File)) (before now : ℕ) (command : 
   pub written : IfOk result CanBeWritten
 
 -- A command was answered, and the files stay.
-pub record Responds (told told' : Option (List File)) (before now : ℕ) (command : Command) (result : Result Answer Refusal) : Type 0 where
-  pub answered : IsAnswered told before now command result
-  pub later : before ≤ now
-  pub files : told' ≡ told
+pub record Responds {F : Type 0} (told : F → Option (List File)) (faults : F → ℕ) (old new : F) (command : Command) (result : Result Answer Refusal) : Type 0 where
+  pub answered : IsAnswered (told old) (faults old) (faults new) command result
+  pub later : faults old ≤ faults new
+  pub files : told new ≡ told old
 
 -- What a step that reads no file answers: its texts are what the step says, whatever the files. Running out of memory needs no reason,
 -- and of the words and the files nothing is refused.

@@ -32,10 +32,10 @@ pub record WritesText (start : Option (List ℕ)) (count : ℕ) (taken : Option 
   pub taken_is : IsTaken start count taken faults text result
 
 -- a text of the answer was written, or a part of it
-abbrev pub Writes : {O : Type 0} → (O → Option (List ℕ)) → (O → Bool) → (O → ℕ) → O → O → Answer → Outcome → Type 0
-Writes taken is_finished faults old new answer Done = (text : List ℕ) × IsTextOf answer text × IsDone taken is_finished old new text
-Writes taken is_finished faults old new answer WriteFault = (text : List ℕ) × IsTextOf answer text × IsCutShort taken faults old new text
-Writes taken is_finished faults old new answer (Refused r) = ⊥
+abbrev pub WritesAnswer : {O : Type 0} → (O → Option (List ℕ)) → (O → Bool) → (O → ℕ) → O → O → Answer → Outcome → Type 0
+WritesAnswer taken is_finished faults old new answer Done = (text : List ℕ) × IsTextOf answer text × IsDone taken is_finished old new text
+WritesAnswer taken is_finished faults old new answer WriteFault = (text : List ℕ) × IsTextOf answer text × IsCutShort taken faults old new text
+WritesAnswer taken is_finished faults old new answer (Refused r) = ⊥
 
 -- the text that the definition gives was written, or a part of it; or there is a reason to refuse, and the stream is as it was
 abbrev pub Meets : {O : Type 0} → Option (List File) → ℕ → ℕ → (O → Option (List ℕ)) → (O → Bool) → (O → ℕ) → O → O → Step (List ℕ) → Outcome → Type 0

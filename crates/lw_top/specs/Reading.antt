@@ -56,12 +56,12 @@ Blames which (Unread w) = w ≡ which
 Blames which other = Unit {0}
 
 -- A call that reads one file: what it answers is what the step says, words are not refused, and no other file is blamed. The files stay.
-pub record ReadsFile {X A : Type 0} (view : X → A) (told told' : Option (List File)) (before now : ℕ) (which : Which) (step : Step A) (result : Result X Refusal) : Type 0 where
-  pub files : told' ≡ told
-  pub later : before ≤ now
+pub record ReadsFile {X A : Type 0} (view : X → A) {F : Type 0} (told : F → Option (List File)) (faults : F → ℕ) (old new : F) (which : Which) (step : Step A) (result : Result X Refusal) : Type 0 where
+  pub files : told new ≡ told old
+  pub later : faults old ≤ faults new
   pub not_words : IfErr result (λ e. e ≢ Words)
   pub blames : IfErr result (Blames which)
-  pub reads : Reads view told before now step result
+  pub reads : Reads view (told old) (faults old) (faults new) step result
 
 -- A file that was not read is one of the command's, and its turn had come: over known files each file that the command reads before it is there, and within its limit
 -- and its grammar.

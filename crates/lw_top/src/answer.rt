@@ -52,6 +52,9 @@ pub enum Answer {
     Sizes(u32, u32, u32, Micro, Option<u64>),
 }
 
+/// The answer to a command, or why there is none.
+pub type Answered = Result<Answer, Refusal>;
+
 fn map_files<F: Shelf>(
     alloc: Global,
     options: Options,
@@ -59,9 +62,8 @@ fn map_files<F: Shelf>(
     library: &str,
     network: &str,
     shelf: &mut F,
-) -> Result<Answer, Refusal>
-    ensures { Responds (F.files shelf.old) (F.files shelf.new) (F.faults shelf.old)
-        (F.faults shelf.new)
+) -> Answered
+    ensures { Responds F.files F.faults shelf.old shelf.new
         (mapping (plain_options options) certified library.now network.now) result }
 {
     let library = read_library(alloc, shelf, library)?;
@@ -76,9 +78,8 @@ fn check_files<F: Shelf>(
     network: &str,
     mapped: &str,
     shelf: &mut F,
-) -> Result<Answer, Refusal>
-    ensures { Responds (F.files shelf.old) (F.files shelf.new) (F.faults shelf.old)
-        (F.faults shelf.new)
+) -> Answered
+    ensures { Responds F.files F.faults shelf.old shelf.new
         (checking (plain_options options) library.now network.now mapped.now) result }
 {
     let library = read_library(alloc, shelf, library)?;
@@ -104,28 +105,17 @@ fn check_files<F: Shelf>(
     answer
 }
 
-fn time_files<F: Shelf>(
-    alloc: Global,
-    library: &str,
-    mapped: &str,
-    shelf: &mut F,
-) -> Result<Answer, Refusal>
-    ensures { Responds (F.files shelf.old) (F.files shelf.new) (F.faults shelf.old)
-        (F.faults shelf.new) (timing library.now mapped.now) result }
+fn time_files<F: Shelf>(alloc: Global, library: &str, mapped: &str, shelf: &mut F) -> Answered
+    ensures { Responds F.files F.faults shelf.old shelf.new (timing library.now mapped.now) result }
 {
     let library = read_library(alloc, shelf, library)?;
     let mapped = read_mapped(alloc, &library, shelf, mapped)?;
     time_mapped(alloc, library, mapped)
 }
 
-fn simulate_files<F: Shelf>(
-    alloc: Global,
-    network: &str,
-    vectors: &str,
-    shelf: &mut F,
-) -> Result<Answer, Refusal>
-    ensures { Responds (F.files shelf.old) (F.files shelf.new) (F.faults shelf.old)
-        (F.faults shelf.new) (simulation network.now vectors.now) result }
+fn simulate_files<F: Shelf>(alloc: Global, network: &str, vectors: &str, shelf: &mut F) -> Answered
+    ensures { Responds F.files F.faults shelf.old shelf.new
+        (simulation network.now vectors.now) result }
 {
     let model = read_model(alloc, shelf, network)?;
     let vectors = read_vectors(alloc, model.network.inputs(), shelf, vectors)?;
@@ -138,9 +128,9 @@ fn simulate_gate_files<F: Shelf>(
     mapped: &str,
     vectors: &str,
     shelf: &mut F,
-) -> Result<Answer, Refusal>
-    ensures { Responds (F.files shelf.old) (F.files shelf.new) (F.faults shelf.old)
-        (F.faults shelf.new) (gate_simulation library.now mapped.now vectors.now) result }
+) -> Answered
+    ensures { Responds F.files F.faults shelf.old shelf.new
+        (gate_simulation library.now mapped.now vectors.now) result }
 {
     let library = read_library(alloc, shelf, library)?;
     let mapped = match read_mapped(alloc, &library, shelf, mapped) {
@@ -160,14 +150,9 @@ fn simulate_gate_files<F: Shelf>(
     }
 }
 
-fn count_files<F: Shelf>(
-    alloc: Global,
-    options: Options,
-    network: &str,
-    shelf: &mut F,
-) -> Result<Answer, Refusal>
-    ensures { Responds (F.files shelf.old) (F.files shelf.new) (F.faults shelf.old)
-        (F.faults shelf.new) (counting (plain_options options) network.now) result }
+fn count_files<F: Shelf>(alloc: Global, options: Options, network: &str, shelf: &mut F) -> Answered
+    ensures { Responds F.files F.faults shelf.old shelf.new
+        (counting (plain_options options) network.now) result }
 {
     let model = read_model(alloc, shelf, network)?;
     count_model(alloc, &model, options)
@@ -179,10 +164,10 @@ fn table_files<F: Shelf>(
     options: Options,
     network: &str,
     shelf: &mut F,
-) -> Result<Answer, Refusal>
+) -> Answered
     requires { AreLeaves leaves }
-    ensures { Responds (F.files shelf.old) (F.files shelf.new) (F.faults shelf.old)
-        (F.faults shelf.new) (tabling leaves (plain_options options) network.now) result }
+    ensures { Responds F.files F.faults shelf.old shelf.new
+        (tabling leaves (plain_options options) network.now) result }
 {
     let model = read_model(alloc, shelf, network)?;
     table_model(alloc, model, options, leaves)
@@ -194,23 +179,18 @@ fn draw_files<F: Shelf>(
     count: u32,
     library: &str,
     shelf: &mut F,
-) -> Result<Answer, Refusal>
+) -> Answered
     requires { IsCount count }
-    ensures { Responds (F.files shelf.old) (F.files shelf.new) (F.faults shelf.old)
-        (F.faults shelf.new) (drawing seed count library.now) result }
+    ensures { Responds F.files F.faults shelf.old shelf.new
+        (drawing seed count library.now) result }
 {
     let library = read_library(alloc, shelf, library)?;
     draw(alloc, &library, seed, count)
 }
 
-fn to_verilog_files<F: Shelf>(
-    alloc: Global,
-    library: &str,
-    mapped: &str,
-    shelf: &mut F,
-) -> Result<Answer, Refusal>
-    ensures { Responds (F.files shelf.old) (F.files shelf.new) (F.faults shelf.old)
-        (F.faults shelf.new) (to_verilog library.now mapped.now) result }
+fn to_verilog_files<F: Shelf>(alloc: Global, library: &str, mapped: &str, shelf: &mut F) -> Answered
+    ensures { Responds F.files F.faults shelf.old shelf.new
+        (to_verilog library.now mapped.now) result }
 {
     let library = read_library(alloc, shelf, library)?;
     let mapped = read_mapped(alloc, &library, shelf, mapped)?;
@@ -222,9 +202,9 @@ fn from_verilog_files<F: Shelf>(
     library: &str,
     verilog: &str,
     shelf: &mut F,
-) -> Result<Answer, Refusal>
-    ensures { Responds (F.files shelf.old) (F.files shelf.new) (F.faults shelf.old)
-        (F.faults shelf.new) (from_verilog library.now verilog.now) result }
+) -> Answered
+    ensures { Responds F.files F.faults shelf.old shelf.new
+        (from_verilog library.now verilog.now) result }
 {
     let library = read_library(alloc, shelf, library)?;
     let netlist = read_netlist(alloc, &library, shelf, verilog)?;
@@ -238,10 +218,9 @@ fn trade_files<F: Shelf>(
     library: &str,
     network: &str,
     shelf: &mut F,
-) -> Result<Answer, Refusal>
+) -> Answered
     requires { IfSome deadline IsSmall }
-    ensures { Responds (F.files shelf.old) (F.files shelf.new) (F.faults shelf.old)
-        (F.faults shelf.new)
+    ensures { Responds F.files F.faults shelf.old shelf.new
         (trading deadline (plain_options options) library.now network.now) result }
 {
     let library = read_library(alloc, shelf, library)?;
@@ -250,14 +229,9 @@ fn trade_files<F: Shelf>(
 }
 
 /// What a command comes to, or why there is no answer.
-pub fn respond<F: Shelf>(
-    alloc: Global,
-    command: Command<'_>,
-    shelf: &mut F,
-) -> Result<Answer, Refusal>
+pub fn respond<F: Shelf>(alloc: Global, command: Command<'_>, shelf: &mut F) -> Answered
     requires { IsInRange (plain_command command) }
-    ensures { Responds (F.files shelf.old) (F.files shelf.new) (F.faults shelf.old)
-        (F.faults shelf.new) (plain_command command.entry) result }
+    ensures { Responds F.files F.faults shelf.old shelf.new (plain_command command.entry) result }
 {
     match command {
         Command::Mapping(options, certified, library, network) => {

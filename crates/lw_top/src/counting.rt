@@ -9,7 +9,7 @@ ghost use Rattle.lw_top.specs.Answered.{Gives};
 ghost use Rattle.lw_top.specs.Counts.{Counts, Draws, pair_total, at_once};
 ghost use Rattle.lw_top.specs.Words.{IsCount};
 
-use crate::answer::Answer;
+use crate::answer::{Answer, Answered};
 use crate::refusal::Refusal;
 use lw_assoc::Mode;
 use lw_big::generate;
@@ -35,11 +35,7 @@ fn pair_total(graph: &Graph) -> u128
 }
 
 /// The counts of a network's graph.
-pub(crate) fn count_model(
-    alloc: Global,
-    model: &Parsed,
-    options: Options,
-) -> Result<Answer, Refusal>
+pub(crate) fn count_model(alloc: Global, model: &Parsed, options: Options) -> Answered
     ensures { Gives (Counts (plain_options options) model.now) result }
 {
     let choices = decompose(alloc, &model.network, options)?;
@@ -56,7 +52,7 @@ pub(crate) fn all_at_once(alloc: Global, inputs: u32) -> Result<Micros, AllocErr
 }
 
 // What a network comes to by the cells of a library.
-fn map_drawn(alloc: Global, library: &Library, net: &Network, count: u32) -> Result<Answer, Refusal>
+fn map_drawn(alloc: Global, library: &Library, net: &Network, count: u32) -> Answered
     requires { IsDistinct bytes_eq (output_names net.now) }
     ensures { (seed : ℕ) → IsGenerated seed count net.now →
         Gives (Draws seed count library.now) result }
@@ -80,12 +76,7 @@ fn map_drawn(alloc: Global, library: &Library, net: &Network, count: u32) -> Res
 }
 
 /// The sizes of a network that is drawn from a number and mapped to cells of the library.
-pub(crate) fn draw(
-    alloc: Global,
-    library: &Library,
-    seed: u64,
-    count: u32,
-) -> Result<Answer, Refusal>
+pub(crate) fn draw(alloc: Global, library: &Library, seed: u64, count: u32) -> Answered
     requires { IsCount count }
     ensures { Gives (Draws seed count library.now) result }
 {

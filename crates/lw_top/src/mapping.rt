@@ -6,7 +6,7 @@ ghost use Rattle.lw_top.specs.Answered.{Gives, GivesBy};
 ghost use Rattle.lw_top.specs.Maps.{Maps};
 ghost use Rattle.lw_top.specs.Mapped.{IsCertificateFor};
 
-use crate::answer::Answer;
+use crate::answer::{Answer, Answered};
 use crate::refusal::Refusal;
 use lw_blif::Parsed;
 use lw_genlib::Library;
@@ -71,7 +71,7 @@ pub(crate) fn map_model(
     model: Parsed,
     options: Options,
     certified: bool,
-) -> Result<Answer, Refusal>
+) -> Answered
     requires { IsModel model }
     ensures { Gives (Maps (plain_options options) certified library model) result }
 {

@@ -1,18 +1,19 @@
 // What a run comes to.
 ghost use Rattle.std.specs.Prelude.{◌≡◌, ◌≤◌, ◌↔◌, None, IfSome};
-ghost use Rattle.lw_io.specs.Waitings.{Puts, IsTaken};
+ghost use Rattle.lw_io.specs.Waitings.{IsTaken};
+ghost use Rattle.lw_io.specs.Writers.{Writes};
 ghost use Rattle.lw_top.specs.Words.{IsInRange};
 ghost use Rattle.lw_top.specs.Commands.{asked};
 ghost use Rattle.lw_top.specs.Answered.{CanBeWritten};
 ghost use Rattle.lw_top.specs.Counts.{counts_text, sizes_text, steps_text};
-ghost use Rattle.lw_top.specs.Outcome.{Serves, Writes, WritesText};
+ghost use Rattle.lw_top.specs.Outcome.{Serves, WritesAnswer, WritesText};
 
 use crate::answer::{Answer, respond};
 use crate::putting::{put_count, put_number, put_time};
 use crate::refusal::Refusal;
 use crate::words::Command;
 use lw_fixed::Micro;
-use lw_io::{Failed, Shelf, Sink, Waiting, end, put, write_all};
+use lw_io::{Failed, Shelf, Sink, Writer, write_all};
 use lw_lut::write_tables;
 use lw_mapped::write;
 use lw_verilog::write_verilog;
@@ -51,7 +52,7 @@ pub fn serve<F: Shelf, O: Sink>(
 // Writes an answer, all of it.
 fn written<O: Sink>(answer: Answer, out: &mut O) -> Outcome
     requires { CanBeWritten answer }
-    ensures writes { Writes O.taken O.is_finished O.faults out.old out.new answer result }
+    ensures writes { WritesAnswer O.taken O.is_finished O.faults out.old out.new answer result }
     ensures later { O.faults out.old ≤ O.faults out.new }
 {
     let mut answer = answer;
@@ -95,21 +96,20 @@ fn write_counts<O: Sink>(forms: u32, classes: u32, pairs: u128, out: &mut O) -> 
     ensures { IsTaken (O.taken out.old) (O.faults out.old) (O.taken out.new) (O.faults out.new)
         (counts_text forms classes pairs) result }
 {
-    let mut waiting = Waiting::new();
-    put_count(out, &mut waiting, b"forms ", u128::from(forms), b"\n");
-    put_count(out, &mut waiting, b"classes ", u128::from(classes), b"\n");
-    put_count(out, &mut waiting, b"alternatives ", pairs, b"\n");
-    end(out, waiting)
+    let mut text = Writer::new(out);
+    put_count(&mut text, b"forms ", u128::from(forms), b"\n");
+    put_count(&mut text, b"classes ", u128::from(classes), b"\n");
+    put_count(&mut text, b"alternatives ", pairs, b"\n");
+    text.end()
 }
 
 // How often stored matches were read.
-fn put_steps<O: Sink>(out: &mut O, waiting: &mut Waiting, steps: Option<u64>)
-    ensures { Puts (O.taken out.old) (O.faults out.old) waiting.old (O.taken out.new)
-        (O.faults out.new) waiting.new (steps_text steps) }
+fn put_steps<O: Sink>(out: &mut Writer<'_, O>, steps: Option<u64>)
+    ensures { Writes O.taken O.faults out.old out.new (steps_text steps) }
 {
     match steps {
-        None => put(out, waiting, b"none"),
-        Some(steps) => put_number(out, waiting, u128::from(steps)),
+        None => out.put(b"none"),
+        Some(steps) => put_number(out, u128::from(steps)),
     }
 }
 
@@ -124,15 +124,15 @@ fn write_sizes<O: Sink>(
     ensures { IsTaken (O.taken out.old) (O.faults out.old) (O.taken out.new) (O.faults out.new)
         (sizes_text nodes classes gates latest.0 steps) result }
 {
-    let mut waiting = Waiting::new();
-    put_count(out, &mut waiting, b"nodes ", u128::from(nodes), b"\n");
-    put_count(out, &mut waiting, b"classes ", u128::from(classes), b"\n");
-    put_count(out, &mut waiting, b"gates ", u128::from(gates), b"\n");
-    put(out, &mut waiting, b"max ");
-    put_time(out, &mut waiting, latest);
-    put(out, &mut waiting, b"\n");
-    put(out, &mut waiting, b"steps ");
-    put_steps(out, &mut waiting, steps);
-    put(out, &mut waiting, b"\n");
-    end(out, waiting)
+    let mut text = Writer::new(out);
+    put_count(&mut text, b"nodes ", u128::from(nodes), b"\n");
+    put_count(&mut text, b"classes ", u128::from(classes), b"\n");
+    put_count(&mut text, b"gates ", u128::from(gates), b"\n");
+    text.put(b"max ");
+    put_time(&mut text, latest);
+    text.put(b"\n");
+    text.put(b"steps ");
+    put_steps(&mut text, steps);
+    text.put(b"\n");
+    text.end()
 }

@@ -1,80 +1,68 @@
 // Pieces of a text, put one after another.
 ghost use Rattle.std.specs.Prelude.{◌++◌, decimal};
 ghost use Rattle.lw_fixed.specs.Printed.{decimal_text};
-ghost use Rattle.lw_io.specs.Waitings.{Puts};
+ghost use Rattle.lw_io.specs.Writers.{Writes};
 
 use itoa::Buffer;
 use lw_fixed::{Micro, print};
-use lw_io::{Sink, Waiting, put};
+use lw_io::{Sink, Writer};
 
 /// A whole number.
-pub(crate) fn put_number<S: Sink>(sink: &mut S, waiting: &mut Waiting, number: u128)
-    ensures { Puts (S.taken sink.old) (S.faults sink.old) waiting.old (S.taken sink.new)
-        (S.faults sink.new) waiting.new (decimal number) }
+pub(crate) fn put_number<S: Sink>(out: &mut Writer<'_, S>, number: u128)
+    ensures { Writes S.taken S.faults out.old out.new (decimal number) }
 {
     let mut digits = Buffer::new();
-    put(sink, waiting, digits.format(number).as_bytes());
+    out.put(digits.format(number).as_bytes());
 }
 
 /// A time.
-pub(crate) fn put_time<S: Sink>(sink: &mut S, waiting: &mut Waiting, time: Micro)
-    ensures { Puts (S.taken sink.old) (S.faults sink.old) waiting.old (S.taken sink.new)
-        (S.faults sink.new) waiting.new (decimal_text time.0) }
+pub(crate) fn put_time<S: Sink>(out: &mut Writer<'_, S>, time: Micro)
+    ensures { Writes S.taken S.faults out.old out.new (decimal_text time.0) }
 {
     let mut text = [0; 21];
     let count = print(time, &mut text);
-    put(sink, waiting, &text[..count]);
+    out.put(&text[..count]);
 }
 
-pub(crate) fn put_two<S: Sink>(sink: &mut S, waiting: &mut Waiting, first: &[u8], second: &[u8])
-    ensures { Puts (S.taken sink.old) (S.faults sink.old) waiting.old (S.taken sink.new)
-        (S.faults sink.new) waiting.new (first.now ++ second.now) }
+pub(crate) fn put_two<S: Sink>(out: &mut Writer<'_, S>, first: &[u8], second: &[u8])
+    ensures { Writes S.taken S.faults out.old out.new (first.now ++ second.now) }
 {
-    put(sink, waiting, first);
-    put(sink, waiting, second);
+    out.put(first);
+    out.put(second);
 }
 
-pub(crate) fn put_three<S: Sink>(
-    sink: &mut S,
-    waiting: &mut Waiting,
-    first: &[u8],
-    second: &[u8],
-    third: &[u8],
-)
-    ensures { Puts (S.taken sink.old) (S.faults sink.old) waiting.old (S.taken sink.new)
-        (S.faults sink.new) waiting.new (first.now ++ (second.now ++ third.now)) }
+pub(crate) fn put_three<S: Sink>(out: &mut Writer<'_, S>, first: &[u8], second: &[u8], third: &[u8])
+    ensures { Writes S.taken S.faults out.old out.new (first.now ++ (second.now ++ third.now)) }
 {
-    put(sink, waiting, first);
-    put_two(sink, waiting, second, third);
+    out.put(first);
+    put_two(out, second, third);
 }
 
 pub(crate) fn put_four<S: Sink>(
-    sink: &mut S,
-    waiting: &mut Waiting,
+    out: &mut Writer<'_, S>,
     first: &[u8],
     second: &[u8],
     third: &[u8],
     fourth: &[u8],
 )
-    ensures { Puts (S.taken sink.old) (S.faults sink.old) waiting.old (S.taken sink.new)
-        (S.faults sink.new) waiting.new (first.now ++ (second.now ++ (third.now ++ fourth.now))) }
+    ensures { Writes S.taken S.faults out.old out.new
+        (first.now ++ (second.now ++ (third.now ++ fourth.now))) }
 {
-    put(sink, waiting, first);
-    put_three(sink, waiting, second, third, fourth);
+    out.put(first);
+    put_three(out, second, third, fourth);
 }
 
 /// A piece, a number behind it, and another piece.
 pub(crate) fn put_count<S: Sink>(
-    sink: &mut S,
-    waiting: &mut Waiting,
+    out: &mut Writer<'_, S>,
     before: &[u8],
     number: u128,
     behind: &[u8],
 )
-    ensures { Puts (S.taken sink.old) (S.faults sink.old) waiting.old (S.taken sink.new)
-        (S.faults sink.new) waiting.new (before.now ++ (decimal number ++ behind.now)) }
+    ensures { Writes S.taken S.faults out.old out.new
+        (before.now ++ (decimal number ++ behind.now)) }
 {
-    put(sink, waiting, before);
-    put_number(sink, waiting, number);
-    put(sink, waiting, behind);
+    out.put(before);
+    put_number(out, number);
+    out.put(behind);
 }

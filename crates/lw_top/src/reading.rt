@@ -82,8 +82,8 @@ pub fn read_file<F: Shelf>(
     name: &str,
 ) -> Result<Vec<u8>, Refusal>
     ensures few { IfOk result (λ v. vec_len v ≤ MAX_LEN) }
-    ensures reads { ReadsFile (λ v. v.items) (F.files shelf.old) (F.files shelf.new)
-        (F.faults shelf.old) (F.faults shelf.new) which (gives (text_of which name.now)) result }
+    ensures reads { ReadsFile (λ v. v.items) F.files F.faults shelf.old shelf.new which
+        (gives (text_of which name.now)) result }
 {
     let Ok(()) = shelf.open(name) else {
         return Err(Refusal::Unread(which));

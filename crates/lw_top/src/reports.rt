@@ -6,7 +6,7 @@ ghost use Rattle.lw_top.specs.Checks.{Checks};
 ghost use Rattle.lw_top.specs.Named.{IsReadNetlist, AreReadVectors, values_in};
 ghost use Rattle.lw_top.specs.Reports.{Times, Simulates, SimulatesNetlist};
 
-use crate::answer::Answer;
+use crate::answer::{Answer, Answered};
 use crate::refusal::Refusal;
 use lw_blif::Parsed;
 use lw_check::{Verdict, check};
@@ -24,7 +24,7 @@ pub(crate) fn check_mapped(
     model: &Parsed,
     mapped: &Mapped,
     options: Options,
-) -> Result<Answer, Refusal>
+) -> Answered
     requires model { IsModel model.now }
     requires mapped { IsReadNetlist library.now mapped.now }
     ensures { Gives (Checks (plain_options options) library.now model.now mapped.now) result }
@@ -59,11 +59,7 @@ pub(crate) fn check_mapped(
 }
 
 /// The timing of a mapped netlist.
-pub(crate) fn time_mapped(
-    alloc: Global,
-    library: Library,
-    mapped: Mapped,
-) -> Result<Answer, Refusal>
+pub(crate) fn time_mapped(alloc: Global, library: Library, mapped: Mapped) -> Answered
     requires { IsReadNetlist library mapped }
     ensures { Gives (Times library mapped) result }
 {
@@ -76,7 +72,7 @@ pub(crate) fn time_mapped(
 }
 
 /// A simulator of a network.
-pub(crate) fn simulate(alloc: Global, model: Parsed, vectors: Vectors) -> Result<Answer, Refusal>
+pub(crate) fn simulate(alloc: Global, model: Parsed, vectors: Vectors) -> Answered
     requires { AreReadVectors model.network.inputs vectors }
     ensures { Gives (Simulates model (values_in vectors)) result }
 {
@@ -94,7 +90,7 @@ pub(crate) fn simulate_gates(
     library: Library,
     mapped: Mapped,
     vectors: Vectors,
-) -> Result<Answer, Refusal>
+) -> Answered
     requires mapped { IsReadNetlist library mapped }
     requires vectors { AreReadVectors mapped.netlist.inputs vectors }
     ensures { Gives (SimulatesNetlist library mapped.netlist (values_in vectors)) result }

@@ -45,8 +45,8 @@ pub(crate) fn read_library<F: Shelf>(
     shelf: &mut F,
     name: &str,
 ) -> Result<Library, Refusal>
-    ensures { ReadsFile (λ cells. cells) (F.files shelf.old) (F.files shelf.new)
-        (F.faults shelf.old) (F.faults shelf.new) which.Library (ReadsLibrary name.now) result }
+    ensures { ReadsFile (λ cells. cells) F.files F.faults shelf.old shelf.new which.Library
+        (ReadsLibrary name.now) result }
 {
     let bytes = read_file(alloc, shelf, Which::Library, name)?;
     library_in(alloc, &bytes)
@@ -78,8 +78,8 @@ pub(crate) fn read_model<F: Shelf>(
     shelf: &mut F,
     name: &str,
 ) -> Result<Parsed, Refusal>
-    ensures reads { ReadsFile (λ model. model) (F.files shelf.old) (F.files shelf.new)
-        (F.faults shelf.old) (F.faults shelf.new) which.Network (ReadsModel name.now) result }
+    ensures reads { ReadsFile (λ model. model) F.files F.faults shelf.old shelf.new which.Network
+        (ReadsModel name.now) result }
     ensures model { IfOk result IsModel }
 {
     let bytes = read_file(alloc, shelf, Which::Network, name)?;
@@ -116,8 +116,7 @@ pub(crate) fn read_mapped<F: Shelf>(
     shelf: &mut F,
     name: &str,
 ) -> Result<Mapped, Refusal>
-    ensures reads { ReadsFile (λ mapped. mapped) (F.files shelf.old) (F.files shelf.new)
-        (F.faults shelf.old) (F.faults shelf.new) which.Mapped
+    ensures reads { ReadsFile (λ mapped. mapped) F.files F.faults shelf.old shelf.new which.Mapped
         (ReadsMapped name.now library.now) result }
     ensures kept { IfOk result (IsReadNetlist library.now) }
 {
@@ -150,8 +149,7 @@ pub(crate) fn read_netlist<F: Shelf>(
     shelf: &mut F,
     name: &str,
 ) -> Result<Netlist, Refusal>
-    ensures reads { ReadsFile (λ netlist. netlist) (F.files shelf.old) (F.files shelf.new)
-        (F.faults shelf.old) (F.faults shelf.new) which.Mapped
+    ensures reads { ReadsFile (λ netlist. netlist) F.files F.faults shelf.old shelf.new which.Mapped
         (ReadsVerilog name.now library.now) result }
     ensures over { IfOk result (IsOver library.now) }
 {
@@ -181,8 +179,7 @@ pub(crate) fn read_vectors<F: Shelf>(
     shelf: &mut F,
     name: &str,
 ) -> Result<Vectors, Refusal>
-    ensures reads { ReadsFile values_in (F.files shelf.old) (F.files shelf.new)
-        (F.faults shelf.old) (F.faults shelf.new) which.Vectors
+    ensures reads { ReadsFile values_in F.files F.faults shelf.old shelf.new which.Vectors
         (ReadsVectors name.now inputs) result }
     ensures kept { IfOk result (AreReadVectors inputs) }
 {

@@ -5,7 +5,7 @@ ghost use Rattle.lw_map.specs.Tabled.{AreLeaves};
 ghost use Rattle.lw_top.specs.Answered.{Gives, GivesBy};
 ghost use Rattle.lw_top.specs.Tables.{Tabulates};
 
-use crate::answer::Answer;
+use crate::answer::{Answer, Answered};
 use crate::refusal::Refusal;
 use lw_blif::Parsed;
 use lw_lut::TableNet;
@@ -32,12 +32,7 @@ fn table_net(
 }
 
 /// What a model comes to in lookup tables of at most `leaves` fan-ins, or why there are none.
-pub(crate) fn table_model(
-    alloc: Global,
-    model: Parsed,
-    options: Options,
-    leaves: u8,
-) -> Result<Answer, Refusal>
+pub(crate) fn table_model(alloc: Global, model: Parsed, options: Options, leaves: u8) -> Answered
     requires leaves { AreLeaves leaves }
     requires model { IsModel model }
     ensures { Gives (Tabulates leaves (plain_options options) model) result }

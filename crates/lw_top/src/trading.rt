@@ -6,7 +6,7 @@ ghost use Rattle.lw_map.specs.Options.{plain_options};
 ghost use Rattle.lw_top.specs.Answered.{Gives, GivesBy};
 ghost use Rattle.lw_top.specs.Trades.{Trades};
 
-use crate::answer::Answer;
+use crate::answer::{Answer, Answered};
 use crate::refusal::Refusal;
 use lw_blif::Parsed;
 use lw_fixed::Micro;
@@ -45,7 +45,7 @@ pub(crate) fn trade_model(
     model: Parsed,
     options: Options,
     deadline: Option<Micro>,
-) -> Result<Answer, Refusal>
+) -> Answered
     requires late { IfSome deadline IsSmall }
     requires model { IsModel model }
     ensures { Gives (Trades deadline (plain_options options) library model) result }

@@ -7,7 +7,7 @@ ghost use Rattle.lw_top.specs.Named.{IsReadNetlist};
 ghost use Rattle.lw_top.specs.Counts.{at_once};
 ghost use Rattle.lw_top.specs.Verilogs.{SaysVerilog, SaysMapped, whole_frame};
 
-use crate::answer::Answer;
+use crate::answer::{Answer, Answered};
 use crate::counting::all_at_once;
 use crate::refusal::Refusal;
 use lw_fixed::Micros;
@@ -32,11 +32,7 @@ fn is_said(alloc: Global, library: &Library, mapped: &Mapped) -> Result<(), Refu
 }
 
 /// What a mapped netlist comes to in Verilog.
-pub(crate) fn say_verilog(
-    alloc: Global,
-    library: Library,
-    mapped: Mapped,
-) -> Result<Answer, Refusal>
+pub(crate) fn say_verilog(alloc: Global, library: Library, mapped: Mapped) -> Answered
     requires { IsReadNetlist library mapped }
     ensures { Gives (SaysVerilog library mapped) result }
 {
@@ -69,11 +65,7 @@ fn whole(alloc: Global, netlist: &Netlist) -> Result<(Frame, Micros), Refusal>
 }
 
 /// What a netlist in Verilog comes to as a mapped text.
-pub(crate) fn map_verilog(
-    alloc: Global,
-    library: Library,
-    netlist: Netlist,
-) -> Result<Answer, Refusal>
+pub(crate) fn map_verilog(alloc: Global, library: Library, netlist: Netlist) -> Answered
     requires { IsOver library netlist }
     ensures { Gives (SaysMapped library netlist) result }
 {

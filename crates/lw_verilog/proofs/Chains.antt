@@ -1,18 +1,14 @@
 -- Chains of the places of names.
-use Rattle.std.proofs.Common.{ℕ, suc, ◌≡◌, ◌≢◌, ◌<◌, ◌≤◌, ◌+◌, ◌*◌, ◌%◌, ◌⊎◌, inl, inr, Bool, true, false, ◌||◌, List, [], ◌∷◌, length, drop, set, get_or, refl, ap, sym, ◌∙◌, arith}
+use Rattle.std.proofs.Common.{ℕ, suc, ◌≡◌, ◌≢◌, ◌<◌, ◌≤◌, ◌+◌, ◌*◌, ◌%◌, ◌⊎◌, inl, inr, Bool, true, false, ◌||◌, List, [], ◌∷◌, length, set, get_or, refl, ap, sym, ◌∙◌, arith}
 use Rattle.std.specs.Str.{bytes_eq}
 use Rattle.std.proofs.lemmas.Bool.{cases_lt}
 use Rattle.std.proofs.lemmas.Grind.{get_or-set_at}
-use Rattle.std.proofs.lemmas.List.{drop_more, get_or-set_other, length-set}
+use Rattle.std.proofs.lemmas.List.{get_or-set_other, length-set}
 use Rattle.lw_facts.proofs.Lists.{bytes_eq_is}
 use Rattle.lw_netlist.proofs.Chains.{same-or-not}
 use Rattle.lw_verilog.specs.Chains.{AreChains, bucket_at, bucket_from, bucket_of, name_at}
 use Rattle.lw_verilog.specs.Windows.{Raises}
 use Rattle.lw_verilog.proofs.Marks.{or-no}
-
--- one byte more
-pub bucket-more : (hash : ℕ) (name : List ℕ) (i : ℕ) → i < length name → bucket_from hash (drop i name) ≡ bucket_from ((hash * 31 + get_or name i 0) % 32768) (drop (i + 1) name)
-bucket-more hash name i lt = ap (bucket_from hash) (drop_more name i 0 lt)
 
 from-low : (hash : ℕ) (name : List ℕ) → hash < 32768 → bucket_from hash name < 32768
 from-low hash [] low = low

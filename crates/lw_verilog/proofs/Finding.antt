@@ -1,5 +1,5 @@
 -- The first that passes a test.
-use Rattle.std.proofs.Common.{ℕ, ◌≡◌, ◌≤◌, ◌<◌, ◌+◌, Bool, true, false, ◌||◌, cond, List, [], ◌∷◌, ◌++◌, length, map, drop, get_or, Option, Some, None, refl, ap, ap₂, sym, ◌∙◌, subst}
+use Rattle.std.proofs.Common.{ℕ, ◌≡◌, ◌<◌, ◌+◌, Bool, true, false, ◌||◌, cond, List, [], ◌∷◌, ◌++◌, length, drop, get_or, Option, Some, None, refl, ap, sym, ◌∙◌, subst}
 use Rattle.std.specs.Prelude.{find, is_some, option_map}
 use Rattle.std.specs.Str.{bytes_eq}
 use Rattle.std.specs.Cmp.Lexicographic.{bytes_decides}
@@ -9,32 +9,16 @@ use Rattle.indexmap.specs.IndexSet.{insert_key}
 use Rattle.lw_netlist.specs.Closing.{is_among}
 use Rattle.std.specs.List.{flat_map}
 use Rattle.std.specs.Option.{option_or}
-use Rattle.std.proofs.lemmas.List.{drop_more, drop_all}
+use Rattle.std.proofs.lemmas.List.{drop_more}
 use Rattle.std.proofs.lemmas.List.{length-map}
 use Rattle.std.proofs.lemmas.List.Quantifiers.{position-Some}
 use Rattle.lw_genlib.specs.Cells.{CellParts, names_of}
 use Rattle.lw_verilog.specs.Sayable.{first_or_none}
 use Rattle.lw_verilog.specs.Statements.{first_name, number_of}
 
-pub find-here : {A B : Type 0} (p : B → Bool) (f : A → B) (xs : List A) (i : ℕ) (d : A) → i < length xs → p (f (get_or xs i d)) ≡ true → find p (map f (drop i xs)) ≡ Some (f (get_or xs i d))
-find-here p f xs i d lt e = ap (λ l. find p (map f l)) (drop_more xs i d lt) ∙ ap (λ b. cond b (Some (f (get_or xs i d))) (find p (map f (drop (i + 1) xs)))) e
-
-pub find-later : {A B : Type 0} (p : B → Bool) (f : A → B) (xs : List A) (i : ℕ) (d : A) → i < length xs → p (f (get_or xs i d)) ≡ false → find p (map f (drop i xs)) ≡ find p (map f (drop (i + 1) xs))
-find-later p f xs i d lt e = ap (λ l. find p (map f l)) (drop_more xs i d lt) ∙ ap (λ b. cond b (Some (f (get_or xs i d))) (find p (map f (drop (i + 1) xs)))) e
-
-pub find-end : {A B : Type 0} (p : B → Bool) (f : A → B) (xs : List A) (i : ℕ) → length xs ≤ i → find p (map f (drop i xs)) ≡ None
-find-end p f xs i far = ap (λ l. find p (map f l)) (drop_all i xs far)
-
-pub map-or : {A B : Type 0} (f : A → B) (a b : Option A) → option_map f (option_or a b) ≡ option_or (option_map f a) (option_map f b)
-map-or f (Some x) b = refl
-map-or f None b = refl
-
 -- the first in the lists of a list
 pub find-flat : {A B : Type 0} (p : B → Bool) (f : A → List B) (xs : List A) (i : ℕ) (d : A) → i < length xs → find p (flat_map f (drop i xs)) ≡ option_or (find p (f (get_or xs i d))) (find p (flat_map f (drop (i + 1) xs)))
 find-flat p f xs i d lt = ap (λ l. find p (flat_map f l)) (drop_more xs i d lt) ∙ find-append p (f (get_or xs i d)) (flat_map f (drop (i + 1) xs))
-
-pub find-flat-end : {A B : Type 0} (p : B → Bool) (f : A → List B) (xs : List A) (i : ℕ) → length xs ≤ i → find p (flat_map f (drop i xs)) ≡ None
-find-flat-end p f xs i far = ap (λ l. find p (flat_map f l)) (drop_all i xs far)
 
 first-append : (xs ys : List (List ℕ)) → first_or_none (xs ++ ys) ≡ option_or (first_or_none xs) (first_or_none ys)
 first-append [] ys = refl
@@ -42,9 +26,6 @@ first-append (x ∷ xs) ys = refl
 
 pub first-flat : {A : Type 0} (f : A → List (List ℕ)) (xs : List A) (i : ℕ) (d : A) → i < length xs → first_or_none (flat_map f (drop i xs)) ≡ option_or (first_or_none (f (get_or xs i d))) (first_or_none (flat_map f (drop (i + 1) xs)))
 first-flat f xs i d lt = ap (λ l. first_or_none (flat_map f l)) (drop_more xs i d lt) ∙ first-append (f (get_or xs i d)) (flat_map f (drop (i + 1) xs))
-
-pub first-flat-end : {A : Type 0} (f : A → List (List ℕ)) (xs : List A) (i : ℕ) → length xs ≤ i → first_or_none (flat_map f (drop i xs)) ≡ None
-first-flat-end f xs i far = ap (λ l. first_or_none (flat_map f l)) (drop_all i xs far)
 
 pub or-some : {A B : Type 0} (o : Option A) (f : A → B) (a b : Option B) → is_some o ≡ true → option_map f o ≡ a → option_map f o ≡ option_or a b
 or-some (Some x) f a b e is = ap (λ o. option_or o b) is
@@ -72,10 +53,6 @@ among-insert keys names name x same own = by_test (is_among keys name) refl
             let one : x ≡ name = (bytes_decides x name).0 em in
             ap (is_among keys) one ∙ (e ∙ sym (list_any-append (bytes_eq x) names (name ∷ []) ∙ (ap (λ b. is_among names x || (b || false)) em ∙ or-true (is_among names x))))
         by_same false em = same ∙ sym (list_any-append (bytes_eq x) names (name ∷ []) ∙ (ap (λ b. is_among names x || (b || false)) em ∙ or-false (is_among names x)))
-
-pub find-same : (keys names xs : List (List ℕ)) → ((x : List ℕ) → is_among keys x ≡ is_among names x) → find (is_among keys) xs ≡ find (is_among names) xs
-find-same keys names [] same = refl
-find-same keys names (x ∷ xs) same = ap₂ (λ b o. cond b (Some x) o) (same x) (find-same keys names xs same)
 
 -- the cell of an instance is one of the library
 pub cell_within : (cells : List CellParts) (names : List (List ℕ)) (number : ℕ) → number_of cells names ≡ Some number → number < length cells

@@ -5,8 +5,9 @@ use Rattle.std.specs.Str.{bytes_eq}
 use Rattle.std.specs.Cmp.Lexicographic.{bytes_decides}
 use Rattle.std.proofs.lemmas.List.{take_all, drop_more, drop_all}
 use Rattle.std.proofs.lemmas.Grind.{flat_map-append}
-use Rattle.lw_io.specs.Waitings.{Pending, Puts}
-use Rattle.lw_io.proofs.Putting.{Puts-both}
+use Rattle.lw_io.specs.declared.writer.Writer.{Writer}
+use Rattle.lw_io.specs.Writers.{Writes}
+use Rattle.lw_io.proofs.Putting.{Writes-both}
 use Rattle.lw_pool.specs.declared.id.NetId.{NetId}
 use Rattle.lw_genlib.specs.Cells.{CellParts}
 use Rattle.lw_netlist.specs.declared.gate.Gate.{Gate}
@@ -15,8 +16,8 @@ use Rattle.lw_mapped.specs.Texts.{net_name}
 use Rattle.lw_verilog.specs.Texts.{begins_u, escaped, further, joined, gate_text, gates_text, instance_name, passed, pins_text, tie_text}
 
 -- the same text
-pub Puts-is : {a b : Option (List ℕ)} {m n : ℕ} {u v : Pending} {p q : List ℕ} → Puts a m u b n v p → p ≡ q → Puts a m u b n v q
-Puts-is {a = a} {b = b} {m = m} {n = n} {u = u} {v = v} h e = subst (Puts a m u b n v) e h
+pub Writes-is : {S : Type 0} {taken : S → Option (List ℕ)} {faults : S → ℕ} {v w : Writer S} {p q : List ℕ} → Writes taken faults v w p → p ≡ q → Writes taken faults v w q
+Writes-is {taken = taken} {faults = faults} {v = v} {w = w} h e = subst (Writes taken faults v w) e h
 
 pub flat_map-map : {A B : Type 0} (f : B → List ℕ) (g : A → B) (xs : List A) → flat_map (λ x. f (g x)) xs ≡ flat_map f (map g xs)
 flat_map-map f g [] = refl
@@ -116,15 +117,15 @@ unfolding gates_text
 gates-end cells names taken most number gates i far = ap (gates_text cells names taken most number) (drop_all i gates far)
 
 -- some of the gates are put
-pub record GatesPut (cells : List CellParts) (names taken : List (List ℕ)) (gates : List Gate) (i most number : ℕ) (a : Option (List ℕ)) (m : ℕ) (u : Pending) (b : Option (List ℕ)) (n : ℕ) (v : Pending) : Type 0 where
+pub record GatesPut (cells : List CellParts) (names taken : List (List ℕ)) (gates : List Gate) (i most number : ℕ) {S : Type 0} (sent : S → Option (List ℕ)) (faults : S → ℕ) (v w : Writer S) : Type 0 where
   pub text : List ℕ
-  pub puts : Puts a m u b n v text
+  pub writes : Writes sent faults v w text
   pub whole : text ++ gates_text cells names taken most number (drop i gates) ≡ gates_text cells names taken (length taken) 1 gates
   pub few : number + most ≤ 1 + (length taken + i)
 
 -- one gate more is put
-pub gate-put : {cells : List CellParts} {names taken : List (List ℕ)} {gates : List Gate} {i most number : ℕ} {a b c : Option (List ℕ)} {m n k : ℕ} {u v w : Pending} → GatesPut cells names taken gates i most number a m u b n v → i < length gates → (g : Gate) → g ≡ get_or gates i g → (count : ℕ) → count ≡ passed taken most number → Puts b n v c k w (gate_text cells names (number + count) g) → GatesPut cells names taken gates (i + 1) (most - count) (number + (count + 1)) a m u c k w
-gate-put {cells = cells} {names = names} {taken = taken} {gates = gates} {i = i} {most = most} {number = number} h lt g here count is puts =
+pub gate-put : {cells : List CellParts} {names taken : List (List ℕ)} {gates : List Gate} {i most number : ℕ} {S : Type 0} {sent : S → Option (List ℕ)} {faults : S → ℕ} {u v w : Writer S} → GatesPut cells names taken gates i most number sent faults u v → i < length gates → (g : Gate) → g ≡ get_or gates i g → (count : ℕ) → count ≡ passed taken most number → Writes sent faults v w (gate_text cells names (number + count) g) → GatesPut cells names taken gates (i + 1) (most - count) (number + (count + 1)) sent faults u w
+gate-put {cells = cells} {names = names} {taken = taken} {gates = gates} {i = i} {most = most} {number = number} h lt g here count is writes =
     let s = passed taken most number in
     let rest = drop (i + 1) gates in
     let next : number + (s + 1) ≡ number + s + 1 = omega arith in
@@ -135,7 +136,7 @@ gate-put {cells = cells} {names = names} {taken = taken} {gates = gates} {i = i}
     ∙ (ap (λ e. gate_text cells names (number + s) e ++ gates_text cells names taken (most - s) (number + s + 1) rest) here ∙ sym step)) in
     record {
       text = h.text ++ gate_text cells names (number + count) g;
-      puts = Puts-both h.puts puts;
+      writes = Writes-both h.writes writes;
       whole = append_assoc h.text (gate_text cells names (number + count) g) (gates_text cells names taken (most - count) (number + (count + 1)) rest) ∙ (ap (λ l. h.text ++ l) own ∙ h.whole);
       few = omega (arith, h.few, passed-le taken most number, is);
     }

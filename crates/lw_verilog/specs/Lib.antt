@@ -1,6 +1,7 @@
 pub mod Chains
 pub mod Grammar
 pub mod Keeping
+pub mod Named
 pub mod Phrases
 pub mod Pieces
 pub mod Readings

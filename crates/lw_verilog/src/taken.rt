@@ -1,16 +1,18 @@
 // Which numbers make names of instances that are taken.
-ghost use Rattle.std.specs.Prelude.{◌≡◌, ◌<◌, ◌≤◌, ◌+◌, ◌++◌, ◌^◌, min, length, map, decimal, IsTrue};
+ghost use Rattle.std.specs.Prelude.{◌≡◌, ◌<◌, ◌≤◌, ◌+◌, ◌^◌, min, length, map, decimal, IsTrue};
 ghost use Rattle.std.specs.Char.{is_ascii_digit};
 ghost use Rattle.std.specs.List.{list_all, list_any};
 ghost use Rattle.std.specs.Str.{bytes_eq};
 ghost use Rattle.std.specs.Str.Parse.{digits_value};
 ghost use Rattle.lw_netlist.specs.Closing.{is_among};
 ghost use Rattle.lw_verilog.specs.Texts.{begins_u, instance_name, passed};
+ghost use Rattle.lw_verilog.specs.Named.{names_in};
 ghost use Rattle.lw_verilog.specs.Windows.{AreTaken, IsNumberBy, Raises, width};
 ghost use Rattle.lw_netlist.specs.Plain.{port_name};
 
 use crate::putting::is_output;
 use itoa::Buffer;
+use lw_mapped::are_digits;
 use lw_netlist::Port;
 use lw_pool::Name;
 
@@ -20,17 +22,18 @@ const MOST: u64 = 1 << 60;
 // How many numbers have flags at a time.
 const WIDTH: usize = 65536;
 
+/// The names of the nets and of the outputs.
+#[derive(Clone, Copy)]
+pub(crate) struct AllNames<'a> {
+    pub(crate) names: &'a [Name],
+    pub(crate) outputs: &'a [Port],
+}
+
 /// Which numbers from a base on make the name of a net or an output.
 #[derive(Drop)]
 pub(crate) struct Taken {
     base: u64,
     flags: [bool; WIDTH],
-}
-
-fn are_digits(bytes: &[u8]) -> bool
-    ensures { result ≡ list_all is_ascii_digit bytes.now }
-{
-    bytes.iter().all(|b| b.is_ascii_digit())
 }
 
 // The value of digits, or the greatest where it is greater.
@@ -108,14 +111,14 @@ fn mark_outputs(flags: &mut [bool], base: u64, outputs: &[Port])
 }
 
 // Flags for the numbers from the base on.
-fn mark_taken(flags: &mut [bool], base: u64, names: &[Name], outputs: &[Port])
+fn mark_taken(flags: &mut [bool], base: u64, all: &AllNames)
     requires many { length flags.old ≡ width }
     requires few { base + width ≤ 2 ^ 60 }
-    ensures { AreTaken (names.now ++ map port_name outputs.now) base flags.new }
+    ensures { AreTaken (names_in all.now) base flags.new }
 {
     flags.fill(false);
-    mark_names(flags, base, names);
-    mark_outputs(flags, base, outputs);
+    mark_names(flags, base, all.names);
+    mark_outputs(flags, base, all.outputs);
 }
 
 fn is_name(names: &[Name], name: &[u8]) -> bool
@@ -125,8 +128,8 @@ fn is_name(names: &[Name], name: &[u8]) -> bool
 }
 
 // Whether a net or an output has the name of the instance with this number.
-fn has_instance(names: &[Name], outputs: &[Port], number: u64) -> bool
-    ensures { result ≡ is_among (names.now ++ map port_name outputs.now) (instance_name number) }
+fn has_instance(all: &AllNames, number: u64) -> bool
+    ensures { result ≡ is_among (names_in all.now) (instance_name number) }
 {
     let mut digits = Buffer::new();
     let digits = digits.format(number).as_bytes();
@@ -134,26 +137,24 @@ fn has_instance(names: &[Name], outputs: &[Port], number: u64) -> bool
     text[0] = b'u';
     let size = 1 + digits.len();
     text[1..size].copy_from_slice(digits);
-    is_name(names, &text[..size]) || is_output(outputs, &text[..size])
+    is_name(all.names, &text[..size]) || is_output(all.outputs, &text[..size])
 }
 
 impl Taken {
     /// Flags for the first numbers.
-    pub(crate) fn new(names: &[Name], outputs: &[Port]) -> Taken
-        ensures { AreTaken (names.now ++ map port_name outputs.now) result.base result.flags }
+    pub(crate) fn new(all: &AllNames) -> Taken
+        ensures { AreTaken (names_in all.now) result.base result.flags }
     {
         let mut flags = [false; WIDTH];
-        mark_taken(&mut flags, 1, names, outputs);
+        mark_taken(&mut flags, 1, all);
         Taken { base: 1, flags }
     }
 
     // Moves the flags to where they have the number.
-    fn reach(&mut self, names: &[Name], outputs: &[Port], number: u64)
+    fn reach(&mut self, all: &AllNames, number: u64)
         requires few { number + width ≤ 2 ^ 60 }
-        requires stands { AreTaken (names.now ++ map port_name outputs.now) self.old.base
-            self.old.flags }
-        ensures stands { AreTaken (names.now ++ map port_name outputs.now) self.new.base
-            self.new.flags }
+        requires stands { AreTaken (names_in all.now) self.old.base self.old.flags }
+        ensures stands { AreTaken (names_in all.now) self.new.base self.new.flags }
         ensures low { self.new.base ≤ number }
         ensures high { number < self.new.base + width }
     {
@@ -161,37 +162,32 @@ impl Taken {
             return;
         }
         self.base = number;
-        mark_taken(&mut self.flags, number, names, outputs);
+        mark_taken(&mut self.flags, number, all);
     }
 
     // Whether a net or an output has the name of the instance with this number.
-    fn is_taken(&mut self, names: &[Name], outputs: &[Port], number: u64) -> bool
-        requires stands { AreTaken (names.now ++ map port_name outputs.now) self.old.base
-            self.old.flags }
-        ensures stands { AreTaken (names.now ++ map port_name outputs.now) self.new.base
-            self.new.flags }
-        ensures taken { result ≡ is_among (names.now ++ map port_name outputs.now)
-            (instance_name number) }
+    fn is_taken(&mut self, all: &AllNames, number: u64) -> bool
+        requires stands { AreTaken (names_in all.now) self.old.base self.old.flags }
+        ensures stands { AreTaken (names_in all.now) self.new.base self.new.flags }
+        ensures taken { result ≡ is_among (names_in all.now) (instance_name number) }
     {
         if number >= MOST - WIDTH as u64 {
-            return has_instance(names, outputs, number);
+            return has_instance(all, number);
         }
-        self.reach(names, outputs, number);
+        self.reach(all, number);
         self.flags[(number - self.base) as usize]
     }
 }
 
 // How many numbers from this one on are passed over, at most so many.
-fn passed(taken: &mut Taken, names: &[Name], outputs: &[Port], most: u64, number: u64) -> u64
+fn passed(taken: &mut Taken, all: &AllNames, most: u64, number: u64) -> u64
     requires few { number + most < 2 ^ 64 }
-    requires stands { AreTaken (names.now ++ map port_name outputs.now) taken.old.base
-        taken.old.flags }
-    ensures stands { AreTaken (names.now ++ map port_name outputs.now) taken.new.base
-        taken.new.flags }
-    ensures passed { result ≡ passed (names.now ++ map port_name outputs.now) most number }
+    requires stands { AreTaken (names_in all.now) taken.old.base taken.old.flags }
+    ensures stands { AreTaken (names_in all.now) taken.new.base taken.new.flags }
+    ensures passed { result ≡ passed (names_in all.now) most number }
 {
     for count in 0..most {
-        if !taken.is_taken(names, outputs, number + count) {
+        if !taken.is_taken(all, number + count) {
             return count;
         }
     }
@@ -211,31 +207,22 @@ fn is_output_begun(ports: &[Port]) -> bool
 }
 
 /// Whether a net or an output has a name that begins as those of instances do.
-pub(crate) fn has_begun(names: &[Name], outputs: &[Port]) -> bool
-    ensures { result ≡ list_any begins_u (names.now ++ map port_name outputs.now) }
+pub(crate) fn has_begun(all: &AllNames) -> bool
+    ensures { result ≡ list_any begins_u (names_in all.now) }
 {
-    is_begun(names) || is_output_begun(outputs)
+    is_begun(all.names) || is_output_begun(all.outputs)
 }
 
 /// The same as `passed`, at once where no name begins as those of instances do.
-pub(crate) fn skipped(
-    begun: bool,
-    taken: &mut Taken,
-    names: &[Name],
-    outputs: &[Port],
-    most: u64,
-    number: u64,
-) -> u64
-    requires begun { begun ≡ list_any begins_u (names.now ++ map port_name outputs.now) }
+pub(crate) fn skipped(begun: bool, taken: &mut Taken, all: &AllNames, most: u64, number: u64) -> u64
+    requires begun { begun ≡ list_any begins_u (names_in all.now) }
     requires few { number + most < 2 ^ 64 }
-    requires stands { AreTaken (names.now ++ map port_name outputs.now) taken.old.base
-        taken.old.flags }
-    ensures stands { AreTaken (names.now ++ map port_name outputs.now) taken.new.base
-        taken.new.flags }
-    ensures skipped { result ≡ passed (names.now ++ map port_name outputs.now) most number }
+    requires stands { AreTaken (names_in all.now) taken.old.base taken.old.flags }
+    ensures stands { AreTaken (names_in all.now) taken.new.base taken.new.flags }
+    ensures skipped { result ≡ passed (names_in all.now) most number }
 {
     if !begun {
         return 0;
     }
-    passed(taken, names, outputs, most, number)
+    passed(taken, all, most, number)
 }

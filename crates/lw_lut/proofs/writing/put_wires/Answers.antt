@@ -2,8 +2,8 @@ use Rattle.std.proofs.Common.{◌<◌, ◌≤◌, All, Contains, length, ap, sym
 use Rattle.std.proofs.lemmas.List.{take_all}
 use Rattle.std.proofs.lemmas.List.Elements.{All-get_or}
 use Rattle.lw_pool.specs.declared.id.ClassId.{ClassId}
-use Rattle.lw_io.specs.Waitings.{Puts}
-use Rattle.lw_io.proofs.Putting.{Puts-both}
+use Rattle.lw_io.specs.Writers.{Writes}
+use Rattle.lw_io.proofs.Putting.{Writes-both}
 use Rattle.lw_lut.specs.Nets.{net_classes}
 use Rattle.lw_lut.specs.Texts.{wire_text, wires}
 use Rattle.lw_lut.specs.declared.ports.TablePorts.{TablePorts}
@@ -41,8 +41,8 @@ loop-k-preserved g c =
     let outputs_are = ap length (c.as_slice-outputs.ensures ∙ ap (λ (p : TablePorts). p.outputs) c.ports-ports.ensures) in
     let in_roots : k < length roots = let lt = c.loop-k-test.true in omega (arith, lt, roots_are, outputs_are, c.keeps.ensures.roots) in
     let output = c.as_bytes.ensures.bytes ∙ c.index-outputs-k.is in
-    let next = subst₂ (λ net name. Puts (g.S.Sink.taken c.loop-k.sink) (g.S.Sink.faults c.loop-k.sink) c.loop-k.waiting (g.S.Sink.taken c.put_wire.new.sink) (g.S.Sink.faults c.put_wire.new.sink) c.put_wire.new.waiting (wire_text net name)) c.net_name.ensures output c.put_wire.ensures in
-    subst (λ l. Puts (g.S.Sink.taken c.args.sink.now) (g.S.Sink.faults c.args.sink.now) c.args.waiting.now (g.S.Sink.taken c.put_wire.new.sink) (g.S.Sink.faults c.put_wire.new.sink) c.put_wire.new.waiting l) (sym (wires_more n outputs roots k c.index-outputs-k.result none c.loop-k-test.true in_roots)) (Puts-both c.loop-k.invariant next)
+    let next = subst₂ (λ net name. Writes g.S.Sink.taken g.S.Sink.faults c.loop-k.out c.put_wire.new.out (wire_text net name)) c.net_name.ensures output c.put_wire.ensures in
+    subst (λ l. Writes g.S.Sink.taken g.S.Sink.faults c.args.out.now c.put_wire.new.out l) (sym (wires_more n outputs roots k c.index-outputs-k.result none c.loop-k-test.true in_roots)) (Writes-both c.loop-k.invariant next)
 
 pub returns : goal.returns
 returns g c =
@@ -55,4 +55,4 @@ returns g c =
     let output_count = ap length outputs_are in
     let past : length outputs ≤ c.loop-k.k = c.loop-k-test.false in
     let past_roots : length roots ≤ c.loop-k.k = omega (arith, past, root_count, output_count, c.keeps.ensures.roots) in
-    subst₂ (λ os rs. Puts (g.S.Sink.taken c.args.sink.now) (g.S.Sink.faults c.args.sink.now) c.args.waiting.now (g.S.Sink.taken c.loop-k.sink) (g.S.Sink.faults c.loop-k.sink) c.loop-k.waiting (wires n os rs)) (take_all c.loop-k.k outputs past ∙ outputs_are) (take_all c.loop-k.k roots past_roots ∙ roots_are) c.loop-k.invariant
+    subst₂ (λ os rs. Writes g.S.Sink.taken g.S.Sink.faults c.args.out.now c.loop-k.out (wires n os rs)) (take_all c.loop-k.k outputs past ∙ outputs_are) (take_all c.loop-k.k roots past_roots ∙ roots_are) c.loop-k.invariant

@@ -1,7 +1,7 @@
 use Rattle.std.proofs.Common.{take}
-use Rattle.lw_io.specs.Waitings.{Puts}
+use Rattle.lw_io.specs.Writers.{Writes}
 use Rattle.lw_mapped.specs.Texts.{arrival_lines}
 use Rattle.lw_mapped.proofs.frames.put_arrivals.Given as goal
 
 abbrev pub invariant-loop-k : goal.invariant-loop-k
-invariant-loop-k g l = Puts (g.S.Sink.taken l.initial.sink) (g.S.Sink.faults l.initial.sink) l.initial.waiting (g.S.Sink.taken l.sink) (g.S.Sink.faults l.sink) l.waiting (arrival_lines l.names (take l.k l.starts))
+invariant-loop-k g l = Writes g.S.Sink.taken g.S.Sink.faults l.initial.out l.out (arrival_lines l.names (take l.k l.starts))

@@ -1,8 +1,8 @@
 use Rattle.std.proofs.Common.{◌++◌, sym, subst}
-use Rattle.lw_io.specs.Waitings.{Puts}
-use Rattle.lw_io.proofs.Putting.{Puts-both}
+use Rattle.lw_io.specs.Writers.{Writes}
+use Rattle.lw_io.proofs.Putting.{Writes-both}
 use Rattle.lw_mapped.proofs.lines.put_line.Goals as goal
 use Rattle.lw_frame.proofs.WrittenLines.{ended_is}
 
 pub returns : goal.returns
-returns g c = subst (λ l. Puts (g.S.Sink.taken c.args.sink.now) (g.S.Sink.faults c.args.sink.now) c.args.waiting.now (g.S.Sink.taken c.put-2.new.sink) (g.S.Sink.faults c.put-2.new.sink) c.put-2.new.waiting (c.args.first.now ++ l)) (sym (ended_is c.args.others.now)) (Puts-both c.put.ensures (Puts-both c.put_words.ensures c.put-2.ensures))
+returns g c = subst (λ l. Writes g.S.Sink.taken g.S.Sink.faults c.args.out.now c.put-2.new.self (c.args.first.now ++ l)) (sym (ended_is c.args.others.now)) (Writes-both c.put.ensures (Writes-both c.put_words.ensures c.put-2.ensures))

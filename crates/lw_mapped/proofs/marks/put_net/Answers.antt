@@ -1,9 +1,9 @@
 use Rattle.std.proofs.Common.{◌∷◌, ◌∙◌, subst}
-use Rattle.lw_io.specs.Waitings.{Puts}
-use Rattle.lw_io.proofs.Putting.{Puts-both}
+use Rattle.lw_io.specs.Writers.{Writes}
+use Rattle.lw_io.proofs.Putting.{Writes-both}
 use Rattle.lw_mapped.proofs.marks.put_net.Goals as goal
 
 pub returns : goal.returns
 returns g c =
-    let class = subst (λ w. Puts (g.S.Sink.taken c.put_word.new.sink) (g.S.Sink.faults c.put_word.new.sink) c.put_word.new.waiting (g.S.Sink.taken c.put_word-2.new.sink) (g.S.Sink.faults c.put_word-2.new.sink) c.put_word-2.new.waiting (32 ∷ w)) (c.as_bytes.ensures.value ∙ c.format.ensures.text) c.put_word-2.ensures in
-    Puts-both c.put.ensures (Puts-both c.put_word.ensures (Puts-both class c.put-2.ensures))
+    let class = subst (λ w. Writes g.S.Sink.taken g.S.Sink.faults c.put_word.new.out c.put_word-2.new.out (32 ∷ w)) (c.as_bytes.ensures.value ∙ c.format.ensures.text) c.put_word-2.ensures in
+    Writes-both c.put.ensures (Writes-both c.put_word.ensures (Writes-both class c.put-2.ensures))

@@ -3,8 +3,8 @@ use Rattle.std.specs.List.{flat_map}
 use Rattle.std.proofs.lemmas.List.{take_all}
 use Rattle.std.proofs.lemmas.List.Concat.{flat_map_single}
 use Rattle.lw_pool.specs.declared.id.NetId.{NetId}
-use Rattle.lw_io.specs.Waitings.{Puts}
-use Rattle.lw_io.proofs.Putting.{Puts-both, Puts-more}
+use Rattle.lw_io.specs.Writers.{Writes}
+use Rattle.lw_io.proofs.Putting.{Writes-both, Writes-more}
 use Rattle.lw_report.specs.Blocks.{bits_at}
 use Rattle.lw_report.specs.Simulated.{digit}
 use Rattle.lw_report.proofs.SimLemmas.{bits_anywhere}
@@ -15,8 +15,8 @@ loop-net-preserved g c =
     let k = c.args.k in
     let nets = c.args.nets.now in
     let net : NetId = get_or c.args.outputs.now c.loop-net.net-index (record { 0 = 0 }) in
-    let next = subst (λ (b : Bool). Puts (g.S.Sink.taken c.loop-net.sink) (g.S.Sink.faults c.loop-net.sink) c.loop-net.waiting (g.S.Sink.taken c.put_value.new.sink) (g.S.Sink.faults c.put_value.new.sink) c.put_value.new.waiting (digit b ∷ [])) (sym (bits_anywhere k nets net.0)) c.put_value.ensures in
-    Puts-more (λ (m : NetId). digit (get_or (bits_at k nets) m.0 false) ∷ []) c.args.outputs.now c.loop-net.net-index (record { 0 = 0 }) c.loop-net-test.true c.loop-net.invariant next
+    let next = subst (λ (b : Bool). Writes g.S.Sink.taken g.S.Sink.faults c.loop-net.out c.put_value.new.out (digit b ∷ [])) (sym (bits_anywhere k nets net.0)) c.put_value.ensures in
+    Writes-more (λ (m : NetId). digit (get_or (bits_at k nets) m.0 false) ∷ []) c.args.outputs.now c.loop-net.net-index (record { 0 = 0 }) c.loop-net-test.true c.loop-net.invariant next
 
 pub returns : goal.returns
 returns g c =
@@ -24,5 +24,5 @@ returns g c =
     let outputs = c.args.outputs.now in
     let all = take_all c.loop-net.net-index outputs c.loop-net-test.false in
     let line = ap (flat_map (λ (m : NetId). value m ∷ [])) all ∙ flat_map_single value outputs in
-    let front = subst (λ (l : List ℕ). Puts (g.S.Sink.taken c.args.sink.now) (g.S.Sink.faults c.args.sink.now) c.args.waiting.now (g.S.Sink.taken c.loop-net.sink) (g.S.Sink.faults c.loop-net.sink) c.loop-net.waiting l) line c.loop-net.invariant in
-    Puts-both front c.put.ensures
+    let front = subst (λ (l : List ℕ). Writes g.S.Sink.taken g.S.Sink.faults c.args.out.now c.loop-net.out l) line c.loop-net.invariant in
+    Writes-both front c.put.ensures

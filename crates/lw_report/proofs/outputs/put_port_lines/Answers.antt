@@ -1,7 +1,7 @@
 use Rattle.std.proofs.Common.{◌≡◌, ℕ, List, map, sym, subst, arith}
 use Rattle.std.specs.List.{flat_map, range_with_len}
-use Rattle.lw_io.specs.Waitings.{Puts}
-use Rattle.lw_io.proofs.Putting.{Puts-both}
+use Rattle.lw_io.specs.Writers.{Writes}
+use Rattle.lw_io.proofs.Putting.{Writes-both}
 use Rattle.lw_report.specs.Blocks.{bits_at}
 use Rattle.lw_report.specs.Simulated.{value_line, port_net}
 use Rattle.lw_report.proofs.SimLemmas.{line_more}
@@ -10,10 +10,10 @@ use Rattle.lw_report.proofs.outputs.put_port_lines.Goals as goal
 pub loop-k-preserved : goal.loop-k-preserved
 loop-k-preserved g c =
     let line = λ (k : ℕ). value_line (bits_at k c.args.nets.now) (map port_net c.args.outputs.now) in
-    subst (λ (l : List ℕ). Puts (g.S.Sink.taken c.args.sink.now) (g.S.Sink.faults c.args.sink.now) c.args.waiting.now (g.S.Sink.taken c.put_ports.new.sink) (g.S.Sink.faults c.put_ports.new.sink) c.put_ports.new.waiting l) (sym (line_more line c.loop-k.k)) (Puts-both c.loop-k.invariant c.put_ports.ensures)
+    subst (λ (l : List ℕ). Writes g.S.Sink.taken g.S.Sink.faults c.args.out.now c.put_ports.new.out l) (sym (line_more line c.loop-k.k)) (Writes-both c.loop-k.invariant c.put_ports.ensures)
 
 pub returns : goal.returns
 returns g c =
     let line = λ (k : ℕ). value_line (bits_at k c.args.nets.now) (map port_net c.args.outputs.now) in
     let count : c.loop-k.k ≡ c.args.count = omega arith in
-    subst (λ (n : ℕ). Puts (g.S.Sink.taken c.args.sink.now) (g.S.Sink.faults c.args.sink.now) c.args.waiting.now (g.S.Sink.taken c.loop-k.sink) (g.S.Sink.faults c.loop-k.sink) c.loop-k.waiting (flat_map line (range_with_len 0 n))) count c.loop-k.invariant
+    subst (λ (n : ℕ). Writes g.S.Sink.taken g.S.Sink.faults c.args.out.now c.loop-k.out (flat_map line (range_with_len 0 n))) count c.loop-k.invariant

@@ -5,8 +5,8 @@ use Rattle.std.proofs.lemmas.List.Concat.{flat_map_single}
 use Rattle.std.proofs.lemmas.Simd.{map-map}
 use Rattle.lw_pool.specs.declared.id.NetId.{NetId}
 use Rattle.lw_netlist.specs.declared.gate.Port.{Port}
-use Rattle.lw_io.specs.Waitings.{Puts}
-use Rattle.lw_io.proofs.Putting.{Puts-both, Puts-more}
+use Rattle.lw_io.specs.Writers.{Writes}
+use Rattle.lw_io.proofs.Putting.{Writes-both, Writes-more}
 use Rattle.lw_report.specs.Blocks.{bits_at}
 use Rattle.lw_report.specs.Simulated.{digit, port_net}
 use Rattle.lw_report.proofs.SimLemmas.{bits_anywhere}
@@ -17,9 +17,9 @@ loop-port-preserved g c =
     let k = c.args.k in
     let nets = c.args.nets.now in
     let port = c.port-item.result in
-    let value = subst (λ (b : Bool). Puts (g.S.Sink.taken c.loop-port.sink) (g.S.Sink.faults c.loop-port.sink) c.loop-port.waiting (g.S.Sink.taken c.put_value.new.sink) (g.S.Sink.faults c.put_value.new.sink) c.put_value.new.waiting (digit b ∷ [])) (sym (bits_anywhere k nets port.net.0)) c.put_value.ensures in
-    let next = subst (λ (p : Port). Puts (g.S.Sink.taken c.loop-port.sink) (g.S.Sink.faults c.loop-port.sink) c.loop-port.waiting (g.S.Sink.taken c.put_value.new.sink) (g.S.Sink.faults c.put_value.new.sink) c.put_value.new.waiting (digit (get_or (bits_at k nets) p.net.0 false) ∷ [])) c.port-item.is value in
-    Puts-more (λ (p : Port). digit (get_or (bits_at k nets) p.net.0 false) ∷ []) c.args.outputs.now c.loop-port.port-index c.port-item.result c.loop-port-test.true c.loop-port.invariant next
+    let value = subst (λ (b : Bool). Writes g.S.Sink.taken g.S.Sink.faults c.loop-port.out c.put_value.new.out (digit b ∷ [])) (sym (bits_anywhere k nets port.net.0)) c.put_value.ensures in
+    let next = subst (λ (p : Port). Writes g.S.Sink.taken g.S.Sink.faults c.loop-port.out c.put_value.new.out (digit (get_or (bits_at k nets) p.net.0 false) ∷ [])) c.port-item.is value in
+    Writes-more (λ (p : Port). digit (get_or (bits_at k nets) p.net.0 false) ∷ []) c.args.outputs.now c.loop-port.port-index c.port-item.result c.loop-port-test.true c.loop-port.invariant next
 
 pub returns : goal.returns
 returns g c =
@@ -28,5 +28,5 @@ returns g c =
     let outputs = c.args.outputs.now in
     let all = take_all c.loop-port.port-index outputs c.loop-port-test.false in
     let line = ap (flat_map (λ (p : Port). of_port p ∷ [])) all ∙ (flat_map_single of_port outputs ∙ sym (map-map value port_net outputs)) in
-    let front = subst (λ (l : List ℕ). Puts (g.S.Sink.taken c.args.sink.now) (g.S.Sink.faults c.args.sink.now) c.args.waiting.now (g.S.Sink.taken c.loop-port.sink) (g.S.Sink.faults c.loop-port.sink) c.loop-port.waiting l) line c.loop-port.invariant in
-    Puts-both front c.put.ensures
+    let front = subst (λ (l : List ℕ). Writes g.S.Sink.taken g.S.Sink.faults c.args.out.now c.loop-port.out l) line c.loop-port.invariant in
+    Writes-both front c.put.ensures

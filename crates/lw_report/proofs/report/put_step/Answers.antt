@@ -6,7 +6,7 @@ use Rattle.lw_facts.proofs.Lists.{all_at}
 use Rattle.lw_genlib.specs.Tables.{millionths}
 use Rattle.lw_netlist.specs.declared.gate.Gate.{Gate}
 use Rattle.lw_netlist.specs.Plain.{HasCell}
-use Rattle.lw_io.specs.Waitings.{Puts}
+use Rattle.lw_io.specs.Writers.{Writes}
 use Rattle.lw_report.specs.Timings.{cell_step_line}
 use Rattle.lw_report.proofs.PathLemmas.{step_line_is}
 use Rattle.lw_report.proofs.report.put_step.Goals as goal
@@ -52,6 +52,6 @@ returns g c =
     let named = subst (λ ns. net < length ns) (sym c.names.ensures.names) in_names in
     let name = c.as_bytes-name.ensures.bytes ∙ (c.index-names-net.is ∙ (get_or_default c.names.result.now net c.index-names-net.result [] named ∙ ap (λ (ns : List (List ℕ)). get_or ns net []) c.names.ensures.names)) in
     let time = sym (get_or-map millionths c.args.arrivals.now net (record { 0 = 0 }) 0 in_arrivals) in
-    let put = subst (λ w. Puts (g.S.Sink.taken c.args.sink.now) (g.S.Sink.faults c.args.sink.now) c.args.waiting.now (g.S.Sink.taken c.put_cell_step.new.sink) (g.S.Sink.faults c.put_cell_step.new.sink) c.put_cell_step.new.waiting (cell_step_line w (get_or c.args.arrivals.now net (record { 0 = 0 })).0 c.args.step.pin (Some cell))) name c.put_cell_step.ensures in
-    let timed = subst (λ (t : ℕ). Puts (g.S.Sink.taken c.args.sink.now) (g.S.Sink.faults c.args.sink.now) c.args.waiting.now (g.S.Sink.taken c.put_cell_step.new.sink) (g.S.Sink.faults c.put_cell_step.new.sink) c.put_cell_step.new.waiting (cell_step_line (get_or n.names net []) t c.args.step.pin (Some cell))) time put in
-    subst (λ l. Puts (g.S.Sink.taken c.args.sink.now) (g.S.Sink.faults c.args.sink.now) c.args.waiting.now (g.S.Sink.taken c.put_cell_step.new.sink) (g.S.Sink.faults c.put_cell_step.new.sink) c.put_cell_step.new.waiting l) (sym (step_line_is c.args.lib.now n (map millionths c.args.arrivals.now) c.args.step gate cell at c.cell_of.ensures.cell)) timed
+    let put = subst (λ w. Writes g.S.Sink.taken g.S.Sink.faults c.args.out.now c.put_cell_step.new.out (cell_step_line w (get_or c.args.arrivals.now net (record { 0 = 0 })).0 c.args.step.pin (Some cell))) name c.put_cell_step.ensures in
+    let timed = subst (λ (t : ℕ). Writes g.S.Sink.taken g.S.Sink.faults c.args.out.now c.put_cell_step.new.out (cell_step_line (get_or n.names net []) t c.args.step.pin (Some cell))) time put in
+    subst (λ l. Writes g.S.Sink.taken g.S.Sink.faults c.args.out.now c.put_cell_step.new.out l) (sym (step_line_is c.args.lib.now n (map millionths c.args.arrivals.now) c.args.step gate cell at c.cell_of.ensures.cell)) timed

@@ -1,21 +1,21 @@
 use Rattle.std.proofs.Common.{◌∙◌, refl, subst}
 use Rattle.lw_report.specs.declared.block.Block.{Block}
 use Rattle.lw_report.specs.Blocks.{block_vectors}
-use Rattle.lw_report.specs.Puts.{PutsLines}
+use Rattle.lw_report.specs.Writes.{WritesLines}
 use Rattle.lw_report.specs.Simulated.{IsNetlistLine}
-use Rattle.lw_report.proofs.SimLemmas.{puts_lines_none, puts_lines_more}
+use Rattle.lw_report.proofs.SimLemmas.{writes_lines_none, writes_lines_more}
 use Rattle.lw_report.proofs.sim.put_netlist.Goals as goal
 
 pub loop-block-init : goal.loop-block-init
-loop-block-init g c = record { puts = puts_lines_none; length = refl }
+loop-block-init g c = record { puts = writes_lines_none; length = refl }
 
 pub put_netlist_block-requires-clause-made : goal.put_netlist_block-requires-clause-made
 put_netlist_block-requires-clause-made g c = c.loop-block.invariant.length ∙ c.requires.made
 
 pub loop-block-preserved : goal.loop-block-preserved
 loop-block-preserved g c =
-    let next = subst (λ (b : Block). PutsLines (IsNetlistLine c.args.lib.now c.args.netlist.now) (block_vectors b) (g.S.Sink.taken c.loop-block.sink) (g.S.Sink.faults c.loop-block.sink) c.loop-block.waiting (g.S.Sink.taken c.put_netlist_block.new.sink) (g.S.Sink.faults c.put_netlist_block.new.sink) c.put_netlist_block.new.waiting) c.block-item.is c.put_netlist_block.ensures in
+    let next = subst (λ (b : Block). WritesLines (IsNetlistLine c.args.lib.now c.args.netlist.now) (block_vectors b) g.S.Sink.taken g.S.Sink.faults c.loop-block.out c.put_netlist_block.new.out) c.block-item.is c.put_netlist_block.ensures in
     record {
-      puts = puts_lines_more c.args.blocks.now c.loop-block.block-index c.block-item.result c.loop-block-test.true c.loop-block.invariant.puts next;
+      puts = writes_lines_more c.args.blocks.now c.loop-block.block-index c.block-item.result c.loop-block-test.true c.loop-block.invariant.puts next;
       length = c.put_netlist_block.auto.nets ∙ c.loop-block.invariant.length;
     }

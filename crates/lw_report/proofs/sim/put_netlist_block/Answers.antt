@@ -3,7 +3,7 @@ use Rattle.std.specs.List.{flat_map, range_with_len}
 use Rattle.lw_netlist.specs.declared.gate.Gate.{Gate}
 use Rattle.lw_netlist.specs.declared.gate.Port.{Port}
 use Rattle.lw_netlist.specs.Filling.{gate_value}
-use Rattle.lw_io.specs.Waitings.{Puts}
+use Rattle.lw_io.specs.Writers.{Writes}
 use Rattle.lw_report.specs.Blocks.{bits_at}
 use Rattle.lw_report.specs.Simulated.{value_line, port_net, IsNetlistLine}
 use Rattle.lw_report.proofs.SimLemmas.{lines_of, netlist_line}
@@ -30,5 +30,5 @@ returns g c =
           netlist_line c.args.lib.now n words before nets k c.requires.block.one_each size front
           (λ i below. c.fill_gates.ensures.inputs i (omega (arith, below, count)))
           (λ j gate at. subst (λ m. get_or (bits_at k nets) (m + j) false ≡ gate_value c.args.lib.now (bits_at k nets) gate) count (c.fill_gates.ensures.values k in_word j gate (subst (λ (xs : List Gate). slice_get xs j ≡ Some gate) (sym c.gates-gates.ensures.gates) at))));
-      puts = subst (λ (os : List Port). Puts (g.S.Sink.taken c.args.sink.now) (g.S.Sink.faults c.args.sink.now) c.args.waiting.now (g.S.Sink.taken c.put_port_lines.new.sink) (g.S.Sink.faults c.put_port_lines.new.sink) c.put_port_lines.new.waiting (flat_map (λ k. value_line (bits_at k nets) (map port_net os)) (range_with_len 0 block.count))) c.outputs.ensures.outputs c.put_port_lines.ensures;
+      writes = subst (λ (os : List Port). Writes g.S.Sink.taken g.S.Sink.faults c.args.out.now c.put_port_lines.new.out (flat_map (λ k. value_line (bits_at k nets) (map port_net os)) (range_with_len 0 block.count))) c.outputs.ensures.outputs c.put_port_lines.ensures;
     }

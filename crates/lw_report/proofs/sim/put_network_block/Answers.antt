@@ -4,7 +4,7 @@ use Rattle.lw_net.specs.declared.node.Node.{Node}
 use Rattle.lw_pool.specs.declared.id.NetId.{NetId}
 use Rattle.lw_laws.specs.Networks.{node_value}
 use Rattle.lw_net.specs.Plain.{plain_node}
-use Rattle.lw_io.specs.Waitings.{Puts}
+use Rattle.lw_io.specs.Writers.{Writes}
 use Rattle.lw_report.specs.Blocks.{bits_at}
 use Rattle.lw_report.specs.Simulated.{value_line, IsNetworkLine}
 use Rattle.lw_report.proofs.SimLemmas.{lines_of, network_line}
@@ -31,5 +31,5 @@ returns g c =
           network_line n words before nets k c.requires.block.one_each size front
           (λ i below. c.fill_nodes.ensures.inputs i (omega (arith, below, count)))
           (λ j node at. subst (λ m. get_or (bits_at k nets) (m + j) false ≡ node_value (bits_at k nets) (plain_node node)) count (c.fill_nodes.ensures.values k in_word j node (subst (λ (xs : List Node). slice_get xs j ≡ Some node) (sym c.nodes-nodes.ensures.nodes) at))));
-      puts = subst (λ (os : List NetId). Puts (g.S.Sink.taken c.args.sink.now) (g.S.Sink.faults c.args.sink.now) c.args.waiting.now (g.S.Sink.taken c.put_net_lines.new.sink) (g.S.Sink.faults c.put_net_lines.new.sink) c.put_net_lines.new.waiting (flat_map (λ k. value_line (bits_at k nets) os) (range_with_len 0 block.count))) c.outputs.ensures.outputs c.put_net_lines.ensures;
+      writes = subst (λ (os : List NetId). Writes g.S.Sink.taken g.S.Sink.faults c.args.out.now c.put_net_lines.new.out (flat_map (λ k. value_line (bits_at k nets) os) (range_with_len 0 block.count))) c.outputs.ensures.outputs c.put_net_lines.ensures;
     }

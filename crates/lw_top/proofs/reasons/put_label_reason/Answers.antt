@@ -1,7 +1,7 @@
-use Rattle.lw_io.proofs.Putting.{Puts-both}
+use Rattle.lw_io.proofs.Putting.{Writes-both}
 use Rattle.lw_top.proofs.reasons.put_label_reason.Goals as goal
 
 pub returns : goal.returns
 returns g c =
-    Puts-both c.put.ensures
-    (Puts-both (rw c.from.ensures at c.put_number.ensures) (Puts-both c.put-2.ensures (Puts-both c.put_label.ensures (Puts-both c.put-3.ensures c.put_time.ensures))))
+    Writes-both c.put.ensures
+    (Writes-both (rw c.from.ensures at c.put_number.ensures) (Writes-both c.put-2.ensures (Writes-both c.put_label.ensures (Writes-both c.put-3.ensures c.put_time.ensures))))

@@ -1,7 +1,7 @@
-use Rattle.lw_io.proofs.Putting.{Puts-both}
+use Rattle.lw_io.proofs.Putting.{Writes-both}
 use Rattle.lw_top.proofs.reasons.put_value_reason.Goals as goal
 
 pub returns : goal.returns
 returns g c =
-    Puts-both c.put.ensures
-    (Puts-both (rw c.as_bytes.ensures.bytes at c.put-2.ensures) (Puts-both c.put-3.ensures (Puts-both c.put_time.ensures (Puts-both c.put-4.ensures c.put_time-2.ensures))))
+    Writes-both c.put.ensures
+    (Writes-both (rw c.as_bytes.ensures.bytes at c.put-2.ensures) (Writes-both c.put-3.ensures (Writes-both c.put_time.ensures (Writes-both c.put-4.ensures c.put_time-2.ensures))))

@@ -1,5 +1,5 @@
-use Rattle.lw_io.proofs.Putting.{Puts-both}
+use Rattle.lw_io.proofs.Putting.{Writes-both}
 use Rattle.lw_top.proofs.telling.put_broken.Goals as goal
 
 pub returns : goal.returns
-returns g c = Puts-both c.put.ensures (Puts-both c.put-2.ensures (Puts-both (rw c.from.ensures at c.put_number.ensures) (Puts-both c.put-3.ensures c.put-4.ensures)))
+returns g c = Writes-both c.put.ensures (Writes-both c.put-2.ensures (Writes-both (rw c.from.ensures at c.put_number.ensures) (Writes-both c.put-3.ensures c.put-4.ensures)))

@@ -1,8 +1,8 @@
 use Rattle.std.proofs.Common.{take}
 use Rattle.std.specs.List.{flat_map}
-use Rattle.lw_io.specs.Waitings.{Puts}
+use Rattle.lw_io.specs.Writers.{Writes}
 use Rattle.lw_verilog.specs.Texts.{declaration}
 use Rattle.lw_verilog.proofs.putting.put_declarations.Given as goal
 
 abbrev pub invariant-loop-name : goal.invariant-loop-name
-invariant-loop-name g l = Puts (g.S.Sink.taken l.initial.sink) (g.S.Sink.faults l.initial.sink) l.initial.waiting (g.S.Sink.taken l.sink) (g.S.Sink.faults l.sink) l.waiting (flat_map (declaration l.keyword) (take l.name-index l.names))
+invariant-loop-name g l = Writes g.S.Sink.taken g.S.Sink.faults l.initial.out l.out (flat_map (declaration l.keyword) (take l.name-index l.names))

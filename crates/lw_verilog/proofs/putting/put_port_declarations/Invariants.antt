@@ -1,9 +1,9 @@
 use Rattle.std.proofs.Common.{take}
 use Rattle.std.specs.List.{flat_map}
 use Rattle.lw_netlist.specs.declared.gate.Port.{Port}
-use Rattle.lw_io.specs.Waitings.{Puts}
+use Rattle.lw_io.specs.Writers.{Writes}
 use Rattle.lw_verilog.specs.Texts.{declaration}
 use Rattle.lw_verilog.proofs.putting.put_port_declarations.Given as goal
 
 abbrev pub invariant-loop-port : goal.invariant-loop-port
-invariant-loop-port g l = Puts (g.S.Sink.taken l.initial.sink) (g.S.Sink.faults l.initial.sink) l.initial.waiting (g.S.Sink.taken l.sink) (g.S.Sink.faults l.sink) l.waiting (flat_map (λ (port : Port). declaration l.keyword port.name) (take l.port-index l.ports))
+invariant-loop-port g l = Writes g.S.Sink.taken g.S.Sink.faults l.initial.out l.out (flat_map (λ (port : Port). declaration l.keyword port.name) (take l.port-index l.ports))

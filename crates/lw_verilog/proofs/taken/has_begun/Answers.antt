@@ -8,7 +8,7 @@ use Rattle.lw_netlist.specs.Plain.{port_name}
 
 pub returns-else-is_begun : goal.returns-else-is_begun
 returns-else-is_begun c =
-    let outputs = map port_name c.args.outputs.now in
+    let outputs = map port_name c.args.all.now.outputs.now in
     c.is_output_begun.ensures
-    ∙ (list_any-map begins_u port_name c.args.outputs.now
-    ∙ sym (list_any-append begins_u c.args.names.now outputs ∙ ap (λ b. b || list_any begins_u outputs) (sym c.is_begun.ensures ∙ c.if-is_begun.false)))
+    ∙ (list_any-map begins_u port_name c.args.all.now.outputs.now
+    ∙ sym (list_any-append begins_u c.args.all.now.names.now outputs ∙ ap (λ b. b || list_any begins_u outputs) (sym c.is_begun.ensures ∙ c.if-is_begun.false)))

@@ -6,6 +6,6 @@ use Rattle.lw_netlist.specs.Plain.{port_name}
 
 abbrev pub invariant-loop-count : goal.invariant-loop-count
 invariant-loop-count l = record {
-  stands : AreTaken (l.names ++ map port_name l.outputs) l.taken.base l.taken.flags;
-  so_far : passed (l.names ++ map port_name l.outputs) l.most l.number ≡ l.count + passed (l.names ++ map port_name l.outputs) (l.most - l.count) (l.number + l.count);
+  stands : AreTaken (l.all.names.now ++ map port_name l.all.outputs.now) l.taken.base l.taken.flags;
+  so_far : passed (l.all.names.now ++ map port_name l.all.outputs.now) l.most l.number ≡ l.count + passed (l.all.names.now ++ map port_name l.all.outputs.now) (l.most - l.count) (l.number + l.count);
 }

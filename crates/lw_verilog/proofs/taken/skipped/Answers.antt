@@ -4,4 +4,4 @@ use Rattle.lw_verilog.proofs.taken.skipped.Goals as goal
 use Rattle.lw_netlist.specs.Plain.{port_name}
 
 pub returns-then-not-begun-clause-skipped : goal.returns-then-not-begun-clause-skipped
-returns-then-not-begun-clause-skipped c = sym (none-passed (c.args.names.now ++ map port_name c.args.outputs.now) c.args.most c.args.number (sym c.requires.begun ∙ c.if-not-begun.true))
+returns-then-not-begun-clause-skipped c = sym (none-passed (c.args.all.now.names.now ++ map port_name c.args.all.now.outputs.now) c.args.most c.args.number (sym c.requires.begun ∙ c.if-not-begun.true))

@@ -1,7 +1,7 @@
 use Rattle.std.proofs.Common.{◌∙◌}
-use Rattle.lw_io.proofs.Putting.{Puts-both}
-use Rattle.lw_verilog.proofs.PutParts.{Puts-is}
+use Rattle.lw_io.proofs.Putting.{Writes-both}
+use Rattle.lw_verilog.proofs.PutParts.{Writes-is}
 use Rattle.lw_verilog.proofs.writing.put_instance_name.Goals as goal
 
 pub returns : goal.returns
-returns g c = Puts-both c.put.ensures (Puts-is c.put-2.ensures (c.as_bytes.ensures.value ∙ c.format.ensures.text))
+returns g c = Writes-both c.put.ensures (Writes-is c.put-2.ensures (c.as_bytes.ensures.value ∙ c.format.ensures.text))

@@ -1,3 +1,4 @@
+use Prim.{search}
 use Rattle.std.proofs.Common.{ℕ, List, All, length, sym, ap, subst, ◌∙◌}
 use Rattle.std.proofs.lemmas.List.{with_items_is}
 use Rattle.lw_io.proofs.Putting.{text_ends}
@@ -16,7 +17,7 @@ put_network-requires-clause-blocks g c =
 pub returns-clause-values : goal.returns-clause-values
 returns-clause-values g c =
     let put = c.put_network.ensures in
-    let end = text_ends c.new-waiting.ensures.bytes c.new-waiting.ensures.failed put.puts c.end.ensures in
+    let end = text_ends c.new-out.ensures put.writes c.end.ensures search in
     record {
       text = λ lines stands. record {
         text = put.text;

@@ -3,8 +3,8 @@ use Rattle.std.specs.List.{flat_map}
 use Rattle.lw_fixed.specs.declared.micro.Micro.{Micro}
 use Rattle.lw_genlib.specs.Tables.{millionths}
 use Rattle.lw_netlist.specs.declared.gate.Port.{Port}
-use Rattle.lw_io.specs.Waitings.{Puts}
-use Rattle.lw_io.proofs.Putting.{Puts-both}
+use Rattle.lw_io.specs.Writers.{Writes}
+use Rattle.lw_io.proofs.Putting.{Writes-both}
 use Rattle.lw_report.specs.declared.step.Step.{Step}
 use Rattle.lw_report.specs.Made.{AreArrivalsFor, IsStepIn}
 use Rattle.lw_report.specs.Timings.{TimingParts, summary_text, step_line, timing_text}
@@ -43,8 +43,8 @@ pub returns : goal.returns
 returns g c =
     let cells = c.args.lib.now in
     let n = c.args.netlist.now in
-    let outputs = subst (λ (ps : List Port). Puts (g.S.Sink.taken c.args.sink.now) (g.S.Sink.faults c.args.sink.now) c.args.waiting.now (g.S.Sink.taken c.put_summary.new.sink) (g.S.Sink.faults c.put_summary.new.sink) c.put_summary.new.waiting (summary_text ps (map millionths c.deref.result.now) c.self.inside.latest.0 c.self.inside.area.0)) c.outputs.ensures.outputs c.put_summary.ensures in
-    let summary = subst (λ (ms : List Micro). Puts (g.S.Sink.taken c.args.sink.now) (g.S.Sink.faults c.args.sink.now) c.args.waiting.now (g.S.Sink.taken c.put_summary.new.sink) (g.S.Sink.faults c.put_summary.new.sink) c.put_summary.new.waiting (summary_text n.outputs (map millionths ms) c.self.inside.latest.0 c.self.inside.area.0)) c.deref.ensures.value outputs in
-    let path = subst (λ (p : List Step). Puts (g.S.Sink.taken c.put_summary.new.sink) (g.S.Sink.faults c.put_summary.new.sink) c.put_summary.new.waiting (g.S.Sink.taken c.put_steps.new.sink) (g.S.Sink.faults c.put_steps.new.sink) c.put_steps.new.waiting (flat_map (step_line cells n (map millionths c.deref-2.result.now)) p)) c.deref-3.ensures.value c.put_steps.ensures in
-    let steps = subst (λ (ms : List Micro). Puts (g.S.Sink.taken c.put_summary.new.sink) (g.S.Sink.faults c.put_summary.new.sink) c.put_summary.new.waiting (g.S.Sink.taken c.put_steps.new.sink) (g.S.Sink.faults c.put_steps.new.sink) c.put_steps.new.waiting (flat_map (step_line cells n (map millionths ms)) c.self.inside.path.items)) c.deref-2.ensures.value path in
-    subst (λ (t : TimingParts). Puts (g.S.Sink.taken c.args.sink.now) (g.S.Sink.faults c.args.sink.now) c.args.waiting.now (g.S.Sink.taken c.put_steps.new.sink) (g.S.Sink.faults c.put_steps.new.sink) c.put_steps.new.waiting (timing_text cells n t)) c.self.view_is (Puts-both summary steps)
+    let outputs = subst (λ (ps : List Port). Writes g.S.Sink.taken g.S.Sink.faults c.args.out.now c.put_summary.new.out (summary_text ps (map millionths c.deref.result.now) c.self.inside.latest.0 c.self.inside.area.0)) c.outputs.ensures.outputs c.put_summary.ensures in
+    let summary = subst (λ (ms : List Micro). Writes g.S.Sink.taken g.S.Sink.faults c.args.out.now c.put_summary.new.out (summary_text n.outputs (map millionths ms) c.self.inside.latest.0 c.self.inside.area.0)) c.deref.ensures.value outputs in
+    let path = subst (λ (p : List Step). Writes g.S.Sink.taken g.S.Sink.faults c.put_summary.new.out c.put_steps.new.out (flat_map (step_line cells n (map millionths c.deref-2.result.now)) p)) c.deref-3.ensures.value c.put_steps.ensures in
+    let steps = subst (λ (ms : List Micro). Writes g.S.Sink.taken g.S.Sink.faults c.put_summary.new.out c.put_steps.new.out (flat_map (step_line cells n (map millionths ms)) c.self.inside.path.items)) c.deref-2.ensures.value path in
+    subst (λ (t : TimingParts). Writes g.S.Sink.taken g.S.Sink.faults c.args.out.now c.put_steps.new.out (timing_text cells n t)) c.self.view_is (Writes-both summary steps)
