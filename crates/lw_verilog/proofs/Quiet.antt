@@ -5,7 +5,6 @@ use Rattle.std.specs.List.{position_or_len}
 use Rattle.std.proofs.lemmas.Bool.{eqb-true, false≢true}
 use Rattle.std.proofs.lemmas.Bool.Decides.{nat_tests}
 use Rattle.std.proofs.lemmas.List.Sums.{prefix_len_passes, sum_by-cons}
-use Rattle.lw_verilog.specs.declared.kind.Kind.{Kind}
 use Rattle.lw_verilog.specs.declared.kind.Kind.TheVariants as kind
 use Rattle.lw_verilog.specs.declared.kind.Piece.{Piece}
 use Rattle.lw_verilog.specs.Pieces.{before_pair, begins_name, byte_at, closed, comment_or_sign, escaped, first_piece, is_name_byte, is_separator, is_visible, line_bytes, name_bytes, piece, separators, sign_kind, visibles, word}

@@ -23,11 +23,5 @@ pair-inside a b (x ∷ y ∷ bytes) some lt = by_test (x == a && y == b) lt (pai
         let next : before_pair a b (y ∷ bytes) + 1 < length (y ∷ bytes) = later (omega (arith, here)) in
         omega (arith, next)
 
-    plus : (i + 1) + 0 ≡ i + 1
-    plus = omega arith
-
-    plus : (i + 1) + 0 ≡ i + 1
-    plus = omega arith
-
 pub pair-none : (a b : ℕ) (bytes : List ℕ) (i : ℕ) → length bytes ≤ i → before_pair a b (drop i bytes) ≡ 0
 pair-none a b bytes i far = ap (before_pair a b) (drop_all i bytes far)
