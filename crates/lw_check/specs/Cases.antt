@@ -8,7 +8,7 @@ use Rattle.lw_mapped.specs.Standing.{AreLabels}
 use Rattle.lw_check.specs.declared.case.Case.{Case}
 use Rattle.lw_check.specs.declared.verdict.Reason.{Reason}
 use Rattle.lw_check.specs.declared.verdict.Verdict.TheVariants.{No}
-use Rattle.lw_check.specs.Claims.{AreMatches, Claim, HasKnownClasses, HasSamePorts, cost_in}
+use Rattle.lw_check.specs.Claims.{AreAtRoots, AreMatches, Claim, HasKnownClasses, HasPotential, HasSamePorts, cost_in}
 use Rattle.lw_check.specs.Verdicts.{claim, IsVerdictOn}
 
 abbrev pub claim_of : Case → Claim
@@ -26,12 +26,29 @@ pub record IsAskable (k : Claim) : Type 0 where
   pub one_class : length k.mapped.cert.nets ≡ length k.mapped.netlist.gates
   pub labels : AreLabels k.mapped.cert
 
--- it has passed the tests of its ports, its class numbers and its gates
+-- it has passed the tests of its ports and its class numbers
+pub record PassesClasses (k : Claim) : Type 0 where
+  pub askable : IsAskable k
+  pub ports : HasSamePorts k
+  pub classes : HasKnownClasses k
+
+-- and that of its gates
 pub record PassesGates (k : Claim) : Type 0 where
   pub askable : IsAskable k
   pub ports : HasSamePorts k
   pub classes : HasKnownClasses k
   pub matches : AreMatches k
+
+-- and that of its labels
+pub record PassesLabels (k : Claim) : Type 0 where
+  pub gates : PassesGates k
+  pub potential : HasPotential k
+
+-- and that of its outputs' classes
+pub record PassesRoots (k : Claim) : Type 0 where
+  pub gates : PassesGates k
+  pub potential : HasPotential k
+  pub roots : AreAtRoots k
 
 -- the reason of the verdict, or none where the test is passed
 abbrev pub Tells : Claim → Type 0 → Option Reason → Type 0

@@ -2,6 +2,7 @@ pub mod Cases
 pub mod Claims
 pub mod Failing
 pub mod Gates
+pub mod Labelling
 pub mod Least
 pub mod Mappings
 pub mod Outputs

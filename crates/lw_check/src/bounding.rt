@@ -8,9 +8,11 @@ ghost use Rattle.lw_match.specs.Least.{AreOfCells};
 ghost use Rattle.lw_match.specs.Values.{plain_match};
 ghost use Rattle.lw_check.specs.Claims.{class_number};
 ghost use Rattle.lw_check.specs.Failing.{IsAbove, IsFirstFailing};
-ghost use Rattle.lw_check.specs.Least.{IsByPattern, IsCostOf, IsLate, IsLeastOf, IsLow, IsLowMatch, lesser_of};
+ghost use Rattle.lw_check.specs.Labelling.{HasCells, HasPattern, IsCostBy, IsLateIn, IsLowBy, IsLowIn};
+ghost use Rattle.lw_check.specs.Least.{IsLeastOf, lesser_of};
 ghost use Rattle.lw_pool.specs.Numbers.{numbers};
 
+use crate::labelling::{Labelling, Prices};
 use lw_graph::Graph;
 use lw_match::{Cost, Cursor, Match};
 use lw_pattern::Patterns;
@@ -49,25 +51,6 @@ pub(crate) fn earlier(one: Option<ClassId>, other: Option<ClassId>) -> Option<Cl
     }
 }
 
-// The least class of an input that costs less than its label, or that has none.
-pub(crate) fn first_late_input<C: Cost>(
-    graph: &Graph,
-    cost: &C,
-    labels: &[Option<u64>],
-) -> Option<ClassId>
-    ensures { IsLeastOf (IsLate graph.now (C.costs cost.now) (labels_in labels.now))
-        (option_map class_number result) }
-{
-    let mut first = None;
-    for input in 0..graph.inputs() {
-        let class = graph.leaf(input);
-        if is_above(label_at(labels, class), cost.leaf(input)) {
-            first = earlier(first, Some(class));
-        }
-    }
-    first
-}
-
 // Puts the labels of some classes at the front, where each has one.
 fn read_labels(labels: &[Option<u64>], classes: &[ClassId], values: &mut [u64]) -> bool
     requires { length classes.now ≤ length values.old }
@@ -86,88 +69,77 @@ fn read_labels(labels: &[Option<u64>], classes: &[ClassId], values: &mut [u64]) 
     true
 }
 
-// What a match costs whose pins are all labelled.
-fn cost_of_match<C: Cost>(
-    pats: &Patterns,
-    cost: &C,
-    labels: &[Option<u64>],
-    found: &Match,
-) -> Option<u64>
-    requires { IsByPattern (C.costs cost.now).pin_counts pats.now (plain_match found.now) }
-    ensures { IsCostOf (C.costs cost.now) pats.now (labels_in labels.now)
-        (plain_match found.now) result }
-{
-    let pins = found.pins.as_slice();
-    let mut values = [0; 16];
-    if !read_labels(labels, pins, &mut values) {
-        return None;
+impl<C: Cost> Labelling<'_, C> {
+    /// The least class of an input that costs less than its label, or that has none.
+    pub fn first_late_input(&self) -> Option<ClassId>
+        ensures { IsLeastOf (IsLateIn C.costs self.now) (option_map class_number result) }
+    {
+        let mut first = None;
+        for input in 0..self.graph.inputs() {
+            let class = self.graph.leaf(input);
+            if is_above(label_at(self.labels, class), self.by.cost.leaf(input)) {
+                first = earlier(first, Some(class));
+            }
+        }
+        first
     }
-    let cell = pats.get(found.pat).cell;
-    Some(cost.value(cell, &values[..pins.len()]))
-}
 
-// Whether a match has labelled pins and costs less than the label of its class, or the class has
-// none.
-fn is_low<C: Cost>(
-    pats: &Patterns,
-    cost: &C,
-    labels: &[Option<u64>],
-    found: &Match,
-    label: Option<u64>,
-) -> bool
-    requires { IsByPattern (C.costs cost.now).pin_counts pats.now (plain_match found.now) }
-    ensures { IsTrue result ↔ IsLowMatch (C.costs cost.now) pats.now
-        (labels_in labels.now) label (plain_match found.now) }
-{
-    match cost_of_match(pats, cost, labels, found) {
-        Some(value) => is_above(label, value),
-        None => false,
+    // What a match costs whose pins are all labelled.
+    fn cost_of_match(&self, found: &Match) -> Option<u64>
+        requires { HasPattern C.costs self.now (plain_match found.now) }
+        ensures { IsCostBy C.costs self.now (plain_match found.now) result }
+    {
+        let pins = found.pins.as_slice();
+        let mut values = [0; 16];
+        if !read_labels(self.labels, pins, &mut values) {
+            return None;
+        }
+        let cell = self.by.pats.get(found.pat).cell;
+        Some(self.by.cost.value(cell, &values[..pins.len()]))
     }
-}
 
-// Whether some match at a class with labelled pins costs less than its label, or the class has
-// none.
-fn has_low_match<C: Cost>(
-    graph: &Graph,
-    pats: &Patterns,
-    cost: &C,
-    labels: &[Option<u64>],
-    class: ClassId,
-) -> bool
-    requires class { class.0 < length graph.now.pairs }
-    requires of_cells { AreOfCells (C.costs cost.now).pin_counts pats.now }
-    ensures { IsTrue result ↔ IsLow graph.now (C.costs cost.now) pats.now
-        (labels_in labels.now) class.0 }
-{
-    let _ = graph.classes();
-    let label = label_at(labels, class);
-    let mut cursor = Cursor::new(class);
-    while let Some(found) = cursor.next(graph, pats) {
-        if is_low(pats, cost, labels, &found, label) {
-            return true;
+    // Whether a match has labelled pins and costs less than the label of its class, or the class
+    // has none.
+    fn is_low(&self, found: &Match, label: Option<u64>) -> bool
+        requires { HasPattern C.costs self.now (plain_match found.now) }
+        ensures { IsTrue result ↔ IsLowBy C.costs self.now label (plain_match found.now) }
+    {
+        match self.cost_of_match(found) {
+            Some(value) => is_above(label, value),
+            None => false,
         }
     }
-    false
-}
 
-// The first class with such a match.
-fn first_low_class<C: Cost>(
-    graph: &Graph,
-    pats: &Patterns,
-    cost: &C,
-    labels: &[Option<u64>],
-) -> Option<ClassId>
-    requires one_each { length labels.now ≡ length graph.now.pairs }
-    requires of_cells { AreOfCells (C.costs cost.now).pin_counts pats.now }
-    ensures { IsLeastOf (IsLow graph.now (C.costs cost.now) pats.now (labels_in labels.now))
-        (option_map class_number result) }
-{
-    for number in 0..graph.classes() {
-        if has_low_match(graph, pats, cost, labels, ClassId(number)) {
-            return Some(ClassId(number));
+    // Whether some match at a class with labelled pins costs less than its label, or the class has
+    // none.
+    fn has_low_match(&self, class: ClassId) -> bool
+        requires class { class.0 < length self.now.graph.now.pairs }
+        requires of_cells { HasCells C.costs self.now }
+        ensures { IsTrue result ↔ IsLowIn C.costs self.now class.0 }
+    {
+        let _ = self.graph.classes();
+        let label = label_at(self.labels, class);
+        let mut cursor = Cursor::new(class);
+        while let Some(found) = cursor.next(self.graph, self.by.pats) {
+            if self.is_low(&found, label) {
+                return true;
+            }
         }
+        false
     }
-    None
+
+    // The first class with such a match.
+    fn first_low_class(&self) -> Option<ClassId>
+        requires { HasCells C.costs self.now }
+        ensures { IsLeastOf (IsLowIn C.costs self.now) (option_map class_number result) }
+    {
+        for number in 0..self.graph.classes() {
+            if self.has_low_match(ClassId(number)) {
+                return Some(ClassId(number));
+            }
+        }
+        None
+    }
 }
 
 /// The first class that fails, and none exactly where the labels are a potential: no class lacks a
@@ -186,8 +158,8 @@ pub fn bound<C: Cost>(
         (labels_in labels.now) c.0) }
     ensures covers { IsNone result → BoundsCovers graph.now pats.now (C.costs cost.now) labels.now }
 {
+    let by = Prices { pats, cost };
+    let labelling = Labelling { graph, labels, by };
     let _ = graph.classes();
-    let late = first_late_input(graph, cost, labels);
-    let low = first_low_class(graph, pats, cost, labels);
-    earlier(late, low)
+    earlier(labelling.first_late_input(), labelling.first_low_class())
 }

@@ -3,8 +3,8 @@ ghost use Rattle.std.specs.Prelude.{◌≡◌, ◌↔◌, ◌<◌, ◌≤◌, �
 ghost use Rattle.lw_netlist.specs.declared.gate.Gate.{Gate as NetGate};
 ghost use Rattle.lw_netlist.specs.Plain.{HasCell};
 ghost use Rattle.lw_mapped.specs.Texts.{net_name};
-ghost use Rattle.lw_check.specs.Cases.{claim_of, IsAskable, Tells};
-ghost use Rattle.lw_check.specs.Claims.{AreMatches, class_number, class_of_net, HasKnownClasses, HasSamePorts, IsMatchGate};
+ghost use Rattle.lw_check.specs.Cases.{claim_of, PassesClasses, Tells};
+ghost use Rattle.lw_check.specs.Claims.{AreMatches, class_number, class_of_net, HasKnownClasses, IsMatchGate};
 ghost use Rattle.lw_check.specs.Gates.{AreClassesOf, FindsNoMatch, IsMatchBy};
 ghost use Rattle.lw_check.specs.Spans.{AreSpans, IsIn};
 ghost use Rattle.lw_check.specs.Standing.{AreWithin};
@@ -113,8 +113,7 @@ fn is_match(case: &Case, spans: &[Span], gate: &Gate) -> bool
 
 // The place of the first gate that is no match.
 fn first_no_match(case: &Case, spans: &[Span]) -> Option<usize>
-    requires askable { IsAskable (claim_of case.now) }
-    requires classes { HasKnownClasses (claim_of case.now) }
+    requires passed { PassesClasses (claim_of case.now) }
     requires spans { AreSpans (length case.now.lib.now) case.now.pats.now spans.now }
     ensures { FindsNoMatch (claim_of case.now) result }
 {
@@ -140,9 +139,7 @@ fn name_of_gate(alloc: Global, case: &Case, place: usize) -> Result<Name, AllocE
 
 // The first gate that is no match.
 pub(crate) fn gate_reason(alloc: Global, case: &Case) -> Result<Option<Reason>, AllocError>
-    requires askable { IsAskable (claim_of case.now) }
-    requires ports { HasSamePorts (claim_of case.now) }
-    requires classes { HasKnownClasses (claim_of case.now) }
+    requires { PassesClasses (claim_of case.now) }
     ensures { IfOk result (Tells (claim_of case.now) (AreMatches (claim_of case.now))) }
 {
     let spans = spans_of(alloc, case.lib.len() as usize, case.pats)?;

@@ -3,19 +3,19 @@ ghost use Rattle.std.specs.Prelude.{◌≡◌, ◌≤◌, ℕ, Some, IfOk, None,
 ghost use Rattle.lw_genlib.specs.Tables.{millionths};
 ghost use Rattle.lw_laws.specs.Laws.{IsLeafCost};
 ghost use Rattle.lw_laws.specs.Rounds.{labels_in};
-ghost use Rattle.lw_match.specs.Least.{AreOfCells};
 ghost use Rattle.lw_check.specs.Cases.{claim_of, PassesGates, Tells};
 ghost use Rattle.lw_check.specs.Claims.{HasPotential};
-ghost use Rattle.lw_check.specs.Least.{ArePlainLabels, FindsUnbounded, flat_mark, IsLeastOf, lesser_of};
+ghost use Rattle.lw_check.specs.Labelling.{FindsUnboundedIn, HasCells};
+ghost use Rattle.lw_check.specs.Least.{ArePlainLabels, flat_mark, IsLeastOf, lesser_of};
 
 use crate::Reason;
 use crate::case::Case;
-use crate::trial::{Trial, Unbounded};
+use crate::labelling::{Labelling, Prices, Trial};
+use crate::trial::Unbounded;
 use lw_fixed::Micro;
 use lw_graph::Graph;
 use lw_label::DelayCost;
 use lw_match::{Bounds, Cost, Mark};
-use lw_pattern::Patterns;
 use lw_pool::ClassId;
 use std::alloc::{AllocError, Global};
 
@@ -101,25 +101,16 @@ pub(crate) fn least_input<C: Cost>(graph: &Graph, cost: &C, class: ClassId) -> O
 }
 
 // The first class whose label is no bound, by a table that is made for the labels.
-fn sought<C: Cost>(
-    alloc: Global,
-    graph: &Graph,
-    pats: &Patterns,
-    cost: &C,
-    labels: &[Option<u64>],
-) -> Result<Option<Unbounded>, AllocError>
-    requires one_each { length labels.now ≡ length graph.now.pairs }
-    requires capped { (c l : ℕ) → labels_in labels.now c ≡ Some l → l ≤ C.CAP }
-    requires of_cells { AreOfCells (C.costs cost.now).pin_counts pats.now }
-    ensures { IfOk result (FindsUnbounded graph.now (C.costs cost.now) pats.now labels.now) }
+fn sought<C: Cost>(alloc: Global, given: &Labelling<C>) -> Result<Option<Unbounded>, AllocError>
+    requires capped { (c l : ℕ) → labels_in given.now.labels.now c ≡ Some l → l ≤ C.CAP }
+    requires of_cells { HasCells C.costs given.now }
+    ensures { IfOk result (FindsUnboundedIn C.costs given.now) }
 {
-    let marks = marks_of(alloc, labels)?;
-    let bounds = Bounds::settled(alloc, graph, pats, &marks, cost)?;
+    let marks = marks_of(alloc, given.labels)?;
+    let by = &given.by;
+    let bounds = Bounds::settled(alloc, given.graph, by.pats, &marks, by.cost)?;
     let trial = Trial {
-        graph,
-        pats,
-        cost,
-        labels,
+        given,
         marks: &marks,
         bounds: &bounds,
     };
@@ -132,9 +123,11 @@ pub(crate) fn label_reason(alloc: Global, case: &Case) -> Result<Option<Reason>,
     ensures { IfOk result (Tells (claim_of case.now) (HasPotential (claim_of case.now))) }
 {
     let given = case.mapped.cert.labels.as_slice();
-    let labels = labels_of(alloc, given, case.graph.classes())?;
-    let cost = DelayCost::new(case.lib, case.starts);
-    let Some(found) = sought(alloc, case.graph, case.pats, &cost, &labels)? else {
+    let (graph, pats) = (case.graph, case.pats);
+    let labels = labels_of(alloc, given, graph.classes())?;
+    let cost = &DelayCost::new(case.lib, case.starts);
+    let (by, labels) = (Prices { pats, cost }, &labels);
+    let Some(found) = sought(alloc, &Labelling { graph, labels, by })? else {
         return Ok(None);
     };
     let label = label_of(given, found.class);

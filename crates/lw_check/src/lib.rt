@@ -7,6 +7,7 @@ mod case;
 mod checking;
 mod classes;
 mod gates;
+mod labelling;
 mod labels;
 pub mod laws;
 mod outputs;

@@ -1,7 +1,7 @@
 // Whether each output's net is at its class, and arrives at the label of the class.
 ghost use Rattle.std.specs.Prelude.{◌≡◌, ◌↔◌, ◌<◌, IfOk, IsTrue, Some, length, slice_get};
-ghost use Rattle.lw_check.specs.Cases.{claim_of, IsAskable, PassesGates, Tells};
-ghost use Rattle.lw_check.specs.Claims.{AreAtRoots, AreOnTime, HasPotential, HasSamePorts};
+ghost use Rattle.lw_check.specs.Cases.{claim_of, IsAskable, PassesLabels, PassesRoots, Tells};
+ghost use Rattle.lw_check.specs.Claims.{AreAtRoots, AreOnTime, HasSamePorts};
 ghost use Rattle.lw_check.specs.Outputs.{AreArrivalsOf, FindsOffRoot, FindsOffTime, label_of_net};
 
 use crate::Reason;
@@ -36,8 +36,7 @@ fn output_at<'a>(case: &'a Case, place: usize) -> &'a Port
 
 // The first output whose net is at another class than its own.
 pub(crate) fn root_reason(alloc: Global, case: &Case) -> Result<Option<Reason>, AllocError>
-    requires gates { PassesGates (claim_of case.now) }
-    requires potential { HasPotential (claim_of case.now) }
+    requires { PassesLabels (claim_of case.now) }
     ensures { IfOk result (Tells (claim_of case.now) (AreAtRoots (claim_of case.now))) }
 {
     let _ = case.net.inputs();
@@ -105,9 +104,7 @@ fn arrivals_of(alloc: Global, case: &Case) -> Result<Vec<Micro>, AllocError>
 
 // The first output that arrives at another time than the label of its class.
 pub(crate) fn arrival_reason(alloc: Global, case: &Case) -> Result<Option<Reason>, AllocError>
-    requires gates { PassesGates (claim_of case.now) }
-    requires potential { HasPotential (claim_of case.now) }
-    requires roots { AreAtRoots (claim_of case.now) }
+    requires { PassesRoots (claim_of case.now) }
     ensures { IfOk result (Tells (claim_of case.now) (AreOnTime (claim_of case.now))) }
 {
     let _ = case.net.inputs();

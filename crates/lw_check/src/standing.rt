@@ -1,9 +1,9 @@
 // The class at which a pattern stands, from its pins upward.
-ghost use Rattle.std.specs.Prelude.{◌≡◌, ◌<◌, ◌≤◌, ℕ, List, IfSome, length, slice_get};
+ghost use Rattle.std.specs.Prelude.{◌≡◌, ◌<◌, ℕ, List, IfSome, length, slice_get};
 ghost use Rattle.lw_laws.specs.Trees.{inv, nand, Tree};
 ghost use Rattle.lw_pattern.specs.Listed.{IsKept};
-ghost use Rattle.lw_pattern.specs.Nodes.{tree_at, tree_of};
-ghost use Rattle.lw_check.specs.Standing.{AreStanding, AreWithin, StandsAlone};
+ghost use Rattle.lw_pattern.specs.Nodes.{tree_of};
+ghost use Rattle.lw_check.specs.Standing.{AreClassesBefore, AreWithin, IsClassAt, IsPlaced, StandsAlone};
 ghost use Rattle.lw_pool.specs.Numbers.{numbers};
 
 use lw_graph::Graph;
@@ -48,29 +48,31 @@ fn class_of_pair(graph: &Graph, left: Option<ClassId>, right: Option<ClassId>) -
     }
 }
 
-// The class at which the node at a place stands, given those of the nodes before it.
-fn class_of_node(
-    graph: &Graph,
-    nodes: &PatNodes,
-    place: usize,
-    pins: &[ClassId],
-    classes: &[Option<ClassId>],
-) -> Option<ClassId>
-    requires kept { IsKept nodes.now }
-    requires place { place < length nodes.now }
-    requires pins { AreWithin graph.now pins.now }
-    requires room { length nodes.now ≤ length classes.now }
-    requires classes { AreStanding graph.now (numbers pins.now) nodes.now place classes.now }
-    ensures { StandsAlone graph.now (numbers pins.now) (tree_at nodes.now place) result }
-{
-    let _ = graph.classes();
-    match nodes.get(place) {
-        PatNode::Pin(pin) => class_of_pin(pins, pin),
-        PatNode::One => Some(graph.one()),
-        PatNode::Zero => Some(graph.one().flip()),
-        PatNode::Inv(operand) => complement(graph, classes[operand as usize]),
-        PatNode::Nand(left, right) => {
-            class_of_pair(graph, classes[left as usize], classes[right as usize])
+// A pattern with its pins at classes of a graph.
+#[derive(Drop)]
+struct Placed<'a> {
+    graph: &'a Graph,
+    nodes: &'a PatNodes,
+    pins: &'a [ClassId],
+}
+
+impl Placed<'_> {
+    // The class at which the node at a place stands, given those of the nodes before it.
+    fn class_of_node(&self, place: usize, classes: &[Option<ClassId>]) -> Option<ClassId>
+        requires placed { IsPlaced self.now }
+        requires before { AreClassesBefore self.now place classes.now }
+        ensures { IsClassAt self.now place result }
+    {
+        let graph = self.graph;
+        let _ = graph.classes();
+        match self.nodes.get(place) {
+            PatNode::Pin(pin) => class_of_pin(self.pins, pin),
+            PatNode::One => Some(graph.one()),
+            PatNode::Zero => Some(graph.one().flip()),
+            PatNode::Inv(operand) => complement(graph, classes[operand as usize]),
+            PatNode::Nand(left, right) => {
+                class_of_pair(graph, classes[left as usize], classes[right as usize])
+            }
         }
     }
 }
@@ -81,9 +83,10 @@ pub(crate) fn class_of_pattern(graph: &Graph, nodes: &PatNodes, pins: &[ClassId]
     requires pins { AreWithin graph.now pins.now }
     ensures { StandsAlone graph.now (numbers pins.now) (tree_of nodes.now) result }
 {
+    let placed = Placed { graph, nodes, pins };
     let mut classes = [None; 254];
     for place in 0..nodes.len() {
-        classes[place] = class_of_node(graph, nodes, place, pins, &classes);
+        classes[place] = placed.class_of_node(place, &classes);
     }
     classes[nodes.len() - 1]
 }

@@ -1,3 +1,4 @@
 pub mod Drawing
+pub mod Fitting
 pub mod Steep
 pub mod SteepLaws

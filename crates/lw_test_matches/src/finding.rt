@@ -1,23 +1,20 @@
 // The least match against the matches of a cursor, and marks against rounds over all matches, in
 // graphs that are drawn.
-ghost use Rattle.std.specs.Prelude.{◌≡◌, ◌<◌, All, length, map};
+ghost use Rattle.std.specs.Prelude.{◌≡◌, ◌<◌, All, length};
 ghost use Rattle.lw_match.specs.Values.{AreInRange};
-ghost use Rattle.lw_match.specs.Least.{AreOfCells};
 ghost use Rattle.lw_genlib.specs.Cells.{IsSmall};
-ghost use Rattle.lw_genlib.specs.Tables.{delays_of_cells};
+ghost use Rattle.lw_test_matches.specs.Fitting.{Fits};
 ghost use Rattle.lw_label.specs.Delays.{most_time};
 
 use crate::drawing::{Dice, Size, drawn_graph, drawn_marks};
-use crate::libraries::{library_of, no_starts, patterns_of};
+use crate::libraries::{Cells, library_of, no_starts, patterns_of};
 use crate::plain::{
     MOST_MATCHES, all_matches, are_once_and_rising, is_same, least_of, marks_by_rounds,
 };
 use lw_fixed::Micros;
-use lw_genlib::Library;
 use lw_graph::Graph;
 use lw_label::{DelayCost, relabel};
 use lw_match::{Best, Mark, Match, least, least_below};
-use lw_pattern::Patterns;
 use lw_pool::ClassId;
 use std::alloc::{AllocError, Global};
 use std::process::Abort;
@@ -45,9 +42,8 @@ const SIZES: [(u32, u32, u32, u32, u32); 4] = [
 /// A graph, a library with its patterns, and all matches.
 #[derive(Drop)]
 struct Case<'a> {
-    lib: &'a Library,
+    cells: Cells<'a>,
     starts: &'a Micros,
-    pats: &'a Patterns,
     graph: &'a Graph,
     matches: &'a [Vec<Match>],
     ghost small: { All IsSmall starts.now },
@@ -90,19 +86,18 @@ fn check_below(
     class: ClassId,
     wanted: Option<(Mark, &Match)>,
 )
+    requires of_cells { Fits case.now.cells }
     requires class { class.0 < length case.now.graph.now.pairs }
     requires one_each { length marks.now ≡ length case.now.graph.now.pairs }
     requires in_range { AreInRange most_time marks.now }
-    requires of_cells { AreOfCells
-        (map length (delays_of_cells case.now.lib.now)) case.now.pats.now }
 {
     let mark = match wanted {
         Some((mark, _found)) => mark,
         None => Mark { cost: 0, height: 0 },
     };
-    let cost = DelayCost::new(case.lib, case.starts);
+    let cost = DelayCost::new(case.cells.lib, case.starts);
     for bound in bounds_about(mark) {
-        let found = least_below(case.graph, case.pats, marks, class, &cost, bound);
+        let found = least_below(case.graph, case.cells.pats, marks, class, &cost, bound);
         let before = (mark.cost, mark.height) < (bound.cost, bound.height);
         let below = if before { wanted } else { None };
         assert!(rt; is_found(&found, below), "class {class:?} below {bound:?}");
@@ -117,29 +112,22 @@ fn check_class(
     class: ClassId,
     matches: &[Match],
 )
+    requires of_cells { Fits case.now.cells }
     requires class { class.0 < length case.now.graph.now.pairs }
     requires one_each { length marks.now ≡ length case.now.graph.now.pairs }
     requires in_range { AreInRange most_time marks.now }
-    requires of_cells { AreOfCells
-        (map length (delays_of_cells case.now.lib.now)) case.now.pats.now }
 {
-    let wanted = least_of(case.lib, case.pats, marks, matches);
-    let found = least(
-        case.graph,
-        case.pats,
-        marks,
-        class,
-        &DelayCost::new(case.lib, case.starts),
-    );
+    let wanted = least_of(&case.cells, marks, matches);
+    let cost = DelayCost::new(case.cells.lib, case.starts);
+    let found = least(case.graph, case.cells.pats, marks, class, &cost);
     assert!(rt; is_found(&found, wanted), "class {class:?}");
     check_below(rt, case, marks, class, wanted);
 }
 
 fn check_classes(rt: &impl Abort, case: &Case<'_>, marks: &[Option<Mark>])
+    requires of_cells { Fits case.now.cells }
     requires one_each { length marks.now ≡ length case.now.graph.now.pairs }
     requires in_range { AreInRange most_time marks.now }
-    requires of_cells { AreOfCells
-        (map length (delays_of_cells case.now.lib.now)) case.now.pats.now }
 {
     for number in 0..case.graph.classes() {
         if let Some(matches) = case.matches.get(number as usize) {
@@ -157,16 +145,11 @@ fn are_listed(matches: &[Vec<Match>]) -> bool {
 
 // Checks the labels, and the least matches under these.
 fn check_labels(rt: &impl Abort, alloc: Global, case: &Case<'_>) -> Result<(), AllocError>
-    requires { AreOfCells
-        (map length (delays_of_cells case.now.lib.now)) case.now.pats.now }
+    requires { Fits case.now.cells }
 {
-    let labels = relabel(
-        alloc,
-        case.graph,
-        case.pats,
-        &DelayCost::new(case.lib, case.starts),
-    )?;
-    let wanted = marks_by_rounds(alloc, case.lib, case.pats, case.graph, case.matches);
+    let cost = DelayCost::new(case.cells.lib, case.starts);
+    let labels = relabel(alloc, case.graph, case.cells.pats, &cost)?;
+    let wanted = marks_by_rounds(alloc, &case.cells, case.graph, case.matches);
     let checked = match wanted {
         Ok(wanted) => {
             assert_eq!(rt; labels.marks(), wanted.as_slice());
@@ -187,8 +170,7 @@ fn check_drawn(
     dice: &mut Dice,
     high: bool,
 ) -> Result<(), AllocError>
-    requires { AreOfCells
-        (map length (delays_of_cells case.now.lib.now)) case.now.pats.now }
+    requires { Fits case.now.cells }
 {
     let marks = drawn_marks(alloc, dice, case.graph, high)?;
     check_classes(rt, case, &marks);
@@ -202,8 +184,7 @@ fn check_case(
     case: &Case<'_>,
     dice: &mut Dice,
 ) -> Result<(), AllocError>
-    requires { AreOfCells
-        (map length (delays_of_cells case.now.lib.now)) case.now.pats.now }
+    requires { Fits case.now.cells }
 {
     check_labels(rt, alloc, case)?;
     check_drawn(rt, alloc, case, dice, false)?;
@@ -214,21 +195,19 @@ fn check_case(
 fn check_graph(
     rt: &impl Abort,
     alloc: Global,
-    lib: &Library,
-    pats: &Patterns,
+    cells: Cells<'_>,
     graph: &Graph,
     dice: &mut Dice,
 ) -> Result<(), AllocError>
-    requires { AreOfCells (map length (delays_of_cells lib.now)) pats.now }
+    requires { Fits cells }
 {
-    let matches = all_matches(alloc, graph, pats)?;
+    let matches = all_matches(alloc, graph, cells.pats)?;
     assert_eq!(rt; matches.len(), graph.classes() as usize);
     assert!(rt; are_listed(&matches), "each match once, by rising patterns");
     let starts = no_starts(alloc);
     let case = Case {
-        lib,
+        cells,
         starts: &starts,
-        pats,
         graph,
         matches: &matches,
     };
@@ -238,17 +217,16 @@ fn check_graph(
 fn check_graphs(
     rt: &impl Abort,
     alloc: Global,
-    lib: &Library,
-    pats: &Patterns,
+    cells: Cells<'_>,
     size: Size,
     count: u32,
     dice: &mut Dice,
 ) -> Result<(), Fail>
-    requires { AreOfCells (map length (delays_of_cells lib.now)) pats.now }
+    requires { Fits cells }
 {
     for _graph in 0..count {
         let graph = drawn_graph(alloc, dice, size)?;
-        check_graph(rt, alloc, lib, pats, &graph, dice)?;
+        check_graph(rt, alloc, cells, &graph, dice)?;
     }
     Ok(())
 }
@@ -257,11 +235,10 @@ fn check_graphs(
 fn check_sizes(
     rt: &impl Abort,
     alloc: Global,
-    lib: &Library,
-    pats: &Patterns,
+    cells: Cells<'_>,
     dice: &mut Dice,
 ) -> Result<(), Fail>
-    requires { AreOfCells (map length (delays_of_cells lib.now)) pats.now }
+    requires { Fits cells }
 {
     for (inputs, forms, facts, links, count) in SIZES {
         let size = Size {
@@ -270,7 +247,7 @@ fn check_sizes(
             facts,
             links,
         };
-        check_graphs(rt, alloc, lib, pats, size, count, dice)?;
+        check_graphs(rt, alloc, cells, size, count, dice)?;
     }
     Ok(())
 }
@@ -278,7 +255,8 @@ fn check_sizes(
 fn check_library(rt: &impl Abort, alloc: Global, text: &str, dice: &mut Dice) -> Result<(), Fail> {
     let lib = library_of(alloc, text)?;
     let pats = patterns_of(alloc, &lib)?;
-    check_sizes(rt, alloc, &lib, &pats, dice)
+    let (lib, pats) = (&lib, &pats);
+    check_sizes(rt, alloc, Cells { lib, pats }, dice)
 }
 
 #[test]

@@ -1,9 +1,8 @@
 // Labels and heights of classes.
-ghost use Rattle.std.specs.Prelude.{length, map};
-ghost use Rattle.lw_genlib.specs.Tables.{delays_of_cells};
-ghost use Rattle.lw_match.specs.Least.{AreOfCells};
+ghost use Rattle.lw_test_matches.specs.Fitting.{Fits};
+ghost use Rattle.std.specs.Prelude.{map};
 
-use crate::libraries::{library_of, no_starts, patterns_of};
+use crate::libraries::{Cells, library_of, no_starts, patterns_of};
 use crate::sketch::{Sketch, graph_of};
 use lw_genlib::Library;
 use lw_graph::Graph;
@@ -182,14 +181,14 @@ fn check_labels(
     rt: &impl Abort,
     alloc: Global,
     row: Row,
-    lib: &Library,
-    pats: &Patterns,
+    cells: Cells<'_>,
     graph: &Graph,
 ) -> Result<(), Fail>
-    requires { AreOfCells (map length (delays_of_cells lib.now)) pats.now }
+    requires { Fits cells }
 {
     let starts = no_starts(alloc);
-    let labels = relabel(alloc, graph, pats, &DelayCost::new(lib, &starts))?;
+    let cost = DelayCost::new(cells.lib, &starts);
+    let labels = relabel(alloc, graph, cells.pats, &cost)?;
     for (class, wanted) in row.marks {
         let mark = labels.marks().get(*class).copied().flatten();
         let wanted = wanted.map(|(cost, height)| Mark { cost, height });
@@ -200,17 +199,9 @@ fn check_labels(
 
 // Looks at the classes of a row, given its library.
 fn check_cells(rt: &impl Abort, alloc: Global, row: Row, lib: &Library) -> Result<(), Fail> {
-    let pats = patterns_of(alloc, lib)?;
-    let checked = match graph_of(alloc, row.sketch) {
-        Ok(graph) => {
-            let checked = check_labels(rt, alloc, row, lib, &pats, &graph);
-            drop(graph);
-            checked
-        }
-        Err(fail) => Err(fail),
-    };
-    drop(pats);
-    checked
+    let pats = &patterns_of(alloc, lib)?;
+    let graph = graph_of(alloc, row.sketch)?;
+    check_labels(rt, alloc, row, Cells { lib, pats }, &graph)
 }
 
 fn check(rt: &impl Abort, alloc: Global, row: Row) -> Result<(), Fail> {

@@ -56,6 +56,13 @@ pub(crate) fn library_of(alloc: Global, text: &str) -> Result<Library, LibFault>
     }
 }
 
+/// A library and its patterns.
+#[derive(Clone, Copy)]
+pub(crate) struct Cells<'a> {
+    pub(crate) lib: &'a Library,
+    pub(crate) pats: &'a Patterns,
+}
+
 /// The patterns of a library, which are of its cells.
 pub(crate) fn patterns_of(alloc: Global, lib: &Library) -> Result<Patterns, AllocError>
     ensures { IfOk result (AreOfCells (map length (delays_of_cells lib.now))) }

@@ -1,12 +1,12 @@
 // Stores against the matches of cursors, and marks that are settled against those that are found in
 // rounds, in graphs that are drawn.
-ghost use Rattle.std.specs.Prelude.{◌≡◌, ◌<◌, ℕ, length, map, OnOk};
-ghost use Rattle.lw_genlib.specs.Tables.{delays_of_cells};
+ghost use Rattle.std.specs.Prelude.{◌≡◌, ◌<◌, ℕ, length, OnOk};
 ghost use Rattle.lw_match.specs.Least.{AreOfCells};
+ghost use Rattle.lw_test_matches.specs.Fitting.{Fits};
 
 use crate::drawing::{Dice, Size, drawn_graph};
 use crate::finding::LIBRARIES;
-use crate::libraries::{library_of, no_starts, patterns_of};
+use crate::libraries::{Cells, library_of, no_starts, patterns_of};
 use crate::plain::all_matches;
 use crate::steep::SteepCost;
 use lw_genlib::Library;
@@ -125,26 +125,15 @@ fn check_store(
     Ok(())
 }
 
-fn check_graph(
-    rt: &impl Abort,
-    alloc: Global,
-    lib: &Library,
-    pats: &Patterns,
-    graph: &Graph,
-) -> Result<(), Fail>
-    requires { AreOfCells (map length (delays_of_cells lib.now)) pats.now }
+fn check_graph(rt: &impl Abort, alloc: Global, cells: Cells<'_>, graph: &Graph) -> Result<(), Fail>
+    requires { Fits cells }
 {
+    let Cells { lib, pats } = cells;
     let matches = all_matches(alloc, graph, pats)?;
     check_store(rt, alloc, graph, pats, &matches)?;
     let starts = no_starts(alloc);
-    check_cost(
-        rt,
-        alloc,
-        graph,
-        pats,
-        &DelayCost::new(lib, &starts),
-        &matches,
-    )?;
+    let delays = DelayCost::new(lib, &starts);
+    check_cost(rt, alloc, graph, pats, &delays, &matches)?;
     for (from, rise) in [(0, 1), (3, 1_000)] {
         let cost = SteepCost { lib, from, rise };
         check_cost(rt, alloc, graph, pats, &cost, &matches)?;
@@ -156,17 +145,16 @@ fn check_graph(
 fn check_graphs(
     rt: &impl Abort,
     alloc: Global,
-    lib: &Library,
-    pats: &Patterns,
+    cells: Cells<'_>,
     size: Size,
     count: u32,
     dice: &mut Dice,
 ) -> Result<(), Fail>
-    requires { AreOfCells (map length (delays_of_cells lib.now)) pats.now }
+    requires { Fits cells }
 {
     for _graph in 0..count {
         let graph = drawn_graph(alloc, dice, size)?;
-        check_graph(rt, alloc, lib, pats, &graph)?;
+        check_graph(rt, alloc, cells, &graph)?;
     }
     Ok(())
 }
@@ -175,11 +163,10 @@ fn check_graphs(
 fn check_drawn(
     rt: &impl Abort,
     alloc: Global,
-    lib: &Library,
-    pats: &Patterns,
+    cells: Cells<'_>,
     dice: &mut Dice,
 ) -> Result<(), Fail>
-    requires { AreOfCells (map length (delays_of_cells lib.now)) pats.now }
+    requires { Fits cells }
 {
     for (inputs, forms, facts, links, count) in SIZES {
         let size = Size {
@@ -188,23 +175,16 @@ fn check_drawn(
             facts,
             links,
         };
-        check_graphs(rt, alloc, lib, pats, size, count, dice)?;
+        check_graphs(rt, alloc, cells, size, count, dice)?;
     }
     Ok(())
 }
 
 fn check_library(rt: &impl Abort, alloc: Global, text: &str, dice: &mut Dice) -> Result<(), Fail> {
     let lib = library_of(alloc, text)?;
-    let checked = match patterns_of(alloc, &lib) {
-        Ok(pats) => {
-            let checked = check_drawn(rt, alloc, &lib, &pats, dice);
-            drop(pats);
-            checked
-        }
-        Err(fault) => Err(Fail::from(fault)),
-    };
-    drop(lib);
-    checked
+    let pats = patterns_of(alloc, &lib)?;
+    let (lib, pats) = (&lib, &pats);
+    check_drawn(rt, alloc, Cells { lib, pats }, dice)
 }
 
 #[test]

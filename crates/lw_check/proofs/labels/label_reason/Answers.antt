@@ -12,7 +12,7 @@ returns-in_default c =
     let classes = c.classes.ensures.classes in
     has_potential k c.requires.classes labels (c.in_ok-labels.ensures.one_each ∙ classes)
     (λ class lt. c.in_ok-labels.ensures.each class (omega (arith, lt, classes)) ∙ ap (λ ls. option_map millionths (slice_index_or ls class None)) c.as_slice-given.ensures)
-    (found_moved k.graph k.pats c.new-cost.result.lib.now k.cells c.new-cost.result.starts.now k.starts c.deref.result.now labels c.in_ok-found.field-0 None c.new-cost.ensures.lib c.new-cost.ensures.starts c.deref.ensures.value c.in_default.is c.in_ok-found.ensures)
+    (found_moved k.graph k.pats c.new.result.lib.now k.cells c.new.result.starts.now k.starts c.deref.result.now labels c.in_ok-found.field-0 None c.new.ensures.lib c.new.ensures.starts c.deref.ensures.value c.in_default.is c.in_ok-found.ensures)
 
 pub returns : goal.returns
 returns c =
@@ -25,5 +25,5 @@ returns c =
       is_unbounded k c.requires.classes labels (c.in_ok-labels.ensures.one_each ∙ classes)
           (λ class lt. c.in_ok-labels.ensures.each class (omega (arith, lt, classes)) ∙ ap (λ ls. option_map millionths (slice_index_or ls class None)) c.as_slice-given.ensures)
           c.in-Some.found c.label_of-label.result (record { 0 = c.in-Some.found.value }) refl (c.label_of-label.ensures ∙ ap (λ ls. slice_index_or ls c.in-Some.found.class.0 None) c.as_slice-given.ensures)
-          (found_moved k.graph k.pats c.new-cost.result.lib.now k.cells c.new-cost.result.starts.now k.starts c.deref.result.now labels c.in_ok-found.field-0 (Some c.in-Some.found) c.new-cost.ensures.lib c.new-cost.ensures.starts c.deref.ensures.value c.in-Some.is c.in_ok-found.ensures),
+          (found_moved k.graph k.pats c.new.result.lib.now k.cells c.new.result.starts.now k.starts c.deref.result.now labels c.in_ok-found.field-0 (Some c.in-Some.found) c.new.ensures.lib c.new.ensures.starts c.deref.ensures.value c.in-Some.is c.in_ok-found.ensures),
     )

@@ -4,14 +4,14 @@ use Rattle.lw_laws.specs.Rounds.{labels_in}
 use Rattle.lw_check.specs.Claims.{class_number}
 use Rattle.lw_check.specs.Least.{lesser_of}
 use Rattle.lw_check.proofs.Inputs.{IsLateBefore, above_on, late_all, late_more, late_same, least_on, not_above_on}
-use Rattle.lw_check.proofs.bounding.first_late_input.Goals as goal
-use Rattle.lw_check.proofs.bounding.first_late_input.Goals.{then-is_above, else-is_above}
+use Rattle.lw_check.proofs.labelling.Labelling.first_late_input.Goals as goal
+use Rattle.lw_check.proofs.labelling.Labelling.first_late_input.Goals.{then-is_above, else-is_above}
 
 pub loop-input-preserved : goal.loop-input-preserved
 loop-input-preserved g c =
-    let graph = c.args.graph.now in
-    let cost = g.C.Cost.costs c.args.cost.now in
-    let labels = labels_in c.args.labels.now in
+    let graph = c.args.self.now.graph.now in
+    let cost = g.C.Cost.costs c.args.self.now.by.cost.now in
+    let labels = labels_in c.args.self.now.labels.now in
     let input = c.loop-input.input in
     let class = c.leaf-class.result.0 in
     let old = option_map class_number c.loop-input.first in
@@ -31,4 +31,4 @@ pub returns : goal.returns
 returns g c =
     let all = c.loop-input-test.false in
     let inputs = c.inputs-input-end.ensures.inputs in
-    late_all c.args.graph.now (g.C.Cost.costs c.args.cost.now) (labels_in c.args.labels.now) c.loop-input.input (option_map class_number c.loop-input.first) (omega (arith, all, inputs)) c.loop-input.invariant
+    late_all c.args.self.now.graph.now (g.C.Cost.costs c.args.self.now.by.cost.now) (labels_in c.args.self.now.labels.now) c.loop-input.input (option_map class_number c.loop-input.first) (omega (arith, all, inputs)) c.loop-input.invariant

@@ -1,7 +1,0 @@
-use Rattle.lw_check.proofs.Failures.{fails_least}
-use Rattle.lw_check.proofs.trial.Trial.first_failing.Goals as goal
-
-pub returns : goal.returns
-returns g c =
-    let t = c.args.self.now in
-    fails_least t.graph.now (g.C.Cost.costs t.cost.now) t.pats.now t.labels.now c.first_late_input-late.result c.first_low.result c.earlier.result c.earlier.ensures c.first_late_input-late.ensures c.first_low.ensures

@@ -1,7 +1,0 @@
-use Rattle.std.proofs.Common.{ℕ, ◌<◌}
-use Rattle.lw_laws.specs.Rounds.{labels_in}
-use Rattle.lw_check.specs.Least.{IsLow}
-use Rattle.lw_check.proofs.trial.Trial.first_low.Given as goal
-
-abbrev pub invariant-loop-number : goal.invariant-loop-number
-invariant-loop-number g l = (b : ℕ) → b < l.number → IsLow l.self.graph.now (g.C.Cost.costs l.self.cost.now) l.self.pats.now (labels_in l.self.labels.now) b → ⊥
