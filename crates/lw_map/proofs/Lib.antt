@@ -22,6 +22,7 @@ mod TradedNames
 mod OwnNames
 mod Earliest
 mod Refusals
+mod Problems
 mod RootLabels
 mod Tables
 mod TableTexts

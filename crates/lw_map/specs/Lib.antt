@@ -8,3 +8,4 @@ pub mod Mappings
 pub mod Faults
 pub mod Tabled
 pub mod Trading
+pub mod Trades

@@ -43,30 +43,24 @@ fn roots(alloc: Global, net: &Network, forms: &Forms, graph: &Graph) -> Result<C
     Ok(Classes::from_vec(roots))
 }
 
-// The choices of decomposition of a network, given its forms.
-fn choices_by(
-    alloc: Global,
-    net: &Network,
-    options: Options,
-    forms: &Forms,
-) -> Result<Choices, MapFault>
-    requires { forms.now ≡ forms_of options.width (plain net.now) }
-    ensures choices { IfOk result (λ c. (c.options ≡ options) × AreChoicesOf net.now c) }
-    ensures fault { IfErr result (IsChoiceFault (plain_options options) net.now) }
-{
-    let _ = net.inputs();
-    let count = forms.len();
-    let graph = build(alloc, forms, options.mode)?;
-    let Ok(roots) = roots(alloc, net, forms, &graph) else {
-        drop(graph);
-        return Err(MapFault::Memory);
-    };
-    Ok(Choices {
-        options,
-        forms: count,
-        graph,
-        roots,
-    })
+impl Options {
+    // The choices of decomposition of a network, given its forms.
+    fn choices(self, alloc: Global, net: &Network, forms: &Forms) -> Result<Choices, MapFault>
+        requires { forms.now ≡ forms_of self.width (plain net.now) }
+        ensures choices { IfOk result (λ c. (c.options ≡ self) × AreChoicesOf net.now c) }
+        ensures fault { IfErr result (IsChoiceFault (plain_options self) net.now) }
+    {
+        let _ = net.inputs();
+        let count = forms.len();
+        let graph = build(alloc, forms, self.mode)?;
+        let roots = roots(alloc, net, forms, &graph)?;
+        Ok(Choices {
+            options: self,
+            forms: count,
+            graph,
+            roots,
+        })
+    }
 }
 
 /// The choices of decomposition of a network. `Forms` and `Splits` come exactly where there are
@@ -76,7 +70,7 @@ pub fn decompose(alloc: Global, net: &Network, options: Options) -> Result<Choic
     ensures fault { IfErr result (IsChoiceFault (plain_options options) net.now) }
 {
     let listed = forms(alloc, net, options.width)?;
-    let choices = choices_by(alloc, net, options, &listed);
+    let choices = options.choices(alloc, net, &listed);
     drop(listed);
     choices
 }

@@ -1,27 +1,22 @@
 // The netlist of the chosen matches.
-ghost use Rattle.std.specs.Prelude.{◌≡◌, ◌≤◌, ℕ, All, IfOk, IfErr, List, Option, Some, Err, length, slice_get};
+ghost use Rattle.std.specs.Prelude.{◌≤◌, All, IfOk, IfErr, length};
 ghost use Rattle.std.specs.List.{IsDistinct};
 ghost use Rattle.std.specs.Str.{bytes_eq};
-ghost use Rattle.lw_laws.specs.Extracts.{HaveLeafLabels};
 ghost use Rattle.lw_laws.specs.Graphs.{most_classes};
-ghost use Rattle.lw_laws.specs.Matches.{IsLeastCover};
-ghost use Rattle.lw_laws.specs.Rounds.{labels_in};
 ghost use Rattle.lw_genlib.specs.Cells.{IsSmall};
 ghost use Rattle.lw_net.specs.Networks.{output_names};
-ghost use Rattle.lw_match.specs.declared.mark.Mark.{Mark as MarkOf};
-ghost use Rattle.lw_label.specs.Labels.{AreLeastMarks, costs_of};
 ghost use Rattle.lw_netlist.specs.Plain.{IsOver};
-ghost use Rattle.lw_extract.specs.Covers.{IsFirstUncovered};
 ghost use Rattle.lw_map.specs.Choices.{AreChoicesOf};
-ghost use Rattle.lw_map.specs.Covering.{CanBeCovered, IsCoverAtPorts, IsLabelledCover};
+ghost use Rattle.lw_map.specs.Covering.{CanBeMapped, IsCoverAtPorts, IsFastest, IsLack, IsMappedBy, LacksLeastLabel};
 ghost use Rattle.lw_map.specs.Labelled.{HasLeastLabels};
 ghost use Rattle.lw_map.specs.Ports.{ArePortsOf};
 ghost use Rattle.lw_map.specs.Mappings.{IsMappingOf};
 ghost use Rattle.lw_map.specs.Faults.{IsCoverFault};
-ghost use Rattle.lw_map.specs.Trading.{LacksLabel};
+ghost use Rattle.lw_map.specs.Trading.{IsProblem, LacksLabel};
 
-use crate::labelling::{Labelled, label};
+use crate::labelling::Labelled;
 use crate::naming::{input_names, output_names, refused};
+use crate::problem::Problem;
 use crate::{Choices, Labeller, MapFault};
 use lw_extract::{Cover, ExtractFault, Ports, extract_with};
 use lw_fixed::Micros;
@@ -30,7 +25,7 @@ use lw_label::{DelayCost, Labels};
 use lw_match::Cost;
 use lw_net::Network;
 use lw_netlist::Netlist;
-use lw_pattern::{Patterns, patterns};
+use lw_pattern::patterns;
 use lw_pool::{Classes, Name};
 use std::alloc::{AllocError, Global};
 
@@ -58,59 +53,59 @@ pub(crate) fn ports(alloc: Global, net: &Network, choices: &Choices) -> Result<P
     })
 }
 
-// The netlist of the matches that labels choose for the outputs, or the first output that has none.
-fn covered<C: Cost>(
-    alloc: Global,
-    lib: &Library,
-    net: &Network,
-    choices: &Choices,
-    pats: &Patterns,
-    labelled: &Labelled,
-    cost: &C,
-) -> Result<Cover, ExtractFault>
-    requires given { CanBeCovered net.now choices.now lib.now (C.costs cost.now) pats.now }
-    requires labels { HasLeastLabels choices.now.graph (C.costs cost.now) pats.now labelled.now }
-    requires leaves { HaveLeafLabels choices.now.graph (C.costs cost.now)
-        (labels_in (costs_of labelled.now.labels)) }
-    ensures cover { IfOk result (IsCoverAtPorts net.now choices.now lib.now (C.costs cost.now)
-        pats.now labelled.now.labels) }
-    ensures lacks { IfErr result (LacksLabel labelled.now.labels choices.now.roots) }
-{
-    let _ = net.inputs();
-    let ports = ports(alloc, net, choices)?;
-    let (graph, labels) = (&choices.graph, &labelled.labels);
-    let bounds = labelled.bounds.as_ref();
-    let cover = extract_with(alloc, graph, pats, lib, labels, bounds, &ports, cost);
-    drop(ports);
-    cover
-}
+impl Problem<'_> {
+    // The netlist of the matches that labels choose for the outputs, or the first output that has
+    // none.
+    fn cover<C: Cost>(&self, alloc: Global, cost: &C, by: &Labelled) -> Result<Cover, ExtractFault>
+        requires given { CanBeMapped (C.costs cost.now) self.now }
+        requires labels { HasLeastLabels (C.costs cost.now) self.now by.now }
+        ensures cover { IfOk result (IsCoverAtPorts (C.costs cost.now) self.now by.now.labels) }
+        ensures lacks { IfErr result (LacksLabel by.now.labels self.now.choices.now.roots) }
+    {
+        let _ = self.net.inputs();
+        let ports = ports(alloc, self.net, self.choices)?;
+        let (graph, pats, labels) = (&self.choices.graph, &self.pats, &by.labels);
+        let bounds = by.bounds.as_ref();
+        let cover = extract_with(alloc, graph, pats, self.lib, labels, bounds, &ports, cost);
+        drop(ports);
+        cover
+    }
 
-// The labels by a cost, and the netlist of the matches that they choose for the outputs, or the
-// first output that has none.
-pub(crate) fn mapped<C: Cost>(
-    alloc: Global,
-    lib: &Library,
-    net: &Network,
-    choices: &Choices,
-    pats: &Patterns,
-    cost: &C,
-    labeller: Labeller,
-) -> Result<(Labelled, Cover), ExtractFault>
-    requires given { CanBeCovered net.now choices.now lib.now (C.costs cost.now) pats.now }
-    requires leaves { (i c : ℕ) → slice_get choices.now.graph.leaves i ≡ Some c → IsLeastCover
-        choices.now.graph pats.now (C.costs cost.now) c (Some ((C.costs cost.now).leaf i)) }
-    ensures mapped { IfOk result (λ m. IsLabelledCover labeller net.now choices.now lib.now
-        (C.costs cost.now) pats.now m.0 m.1) }
-    ensures lacks { (k : ℕ) → result ≡ Err (ExtractFault.NoCover k) →
-        (marks : List (Option MarkOf)) × AreLeastMarks choices.now.graph (C.costs cost.now)
-        pats.now marks × IsFirstUncovered marks choices.now.roots k }
-{
-    let labelled = label(alloc, &choices.graph, pats, cost, labeller)?;
-    match covered(alloc, lib, net, choices, pats, &labelled, cost) {
-        Ok(cover) => Ok((labelled, cover)),
-        Err(fault) => {
-            drop(labelled);
-            Err(fault)
+    /// The labels by a cost, and the netlist of the matches that they choose for the outputs, or
+    /// the first output that has none.
+    pub fn mapped<C: Cost>(
+        &self,
+        alloc: Global,
+        cost: &C,
+        labeller: Labeller,
+    ) -> Result<Mapping, ExtractFault>
+        requires { CanBeMapped (C.costs cost.now) self.now }
+        ensures mapped { IfOk result (IsMappedBy labeller (C.costs cost.now) self.now) }
+        ensures lacks { IfErr result (LacksLeastLabel (C.costs cost.now) self.now) }
+    {
+        let labelled = self.label(alloc, cost, labeller)?;
+        let cover = self.cover(alloc, cost, &labelled)?;
+        Ok(Mapping {
+            netlist: cover.netlist,
+            classes: cover.classes,
+            labels: labelled.labels,
+            steps: labelled.steps,
+        })
+    }
+
+    // The netlist in which each output has its least time, or the first output that has no cover.
+    fn fastest(&self, alloc: Global, labeller: Labeller) -> Result<Mapping, MapFault>
+        requires { IsProblem self.now }
+        ensures mapping { IfOk result (IsFastest labeller self.now) }
+        ensures fault { IfErr result (IsLack self.now) }
+    {
+        let cost = DelayCost::new(self.lib, self.starts);
+        match self.mapped(alloc, &cost, labeller) {
+            Ok(mapping) => {
+                let _ = mapping.netlist.gates();
+                Ok(mapping)
+            }
+            Err(fault) => Err(refused(alloc, self.net, fault)),
         }
     }
 }
@@ -136,20 +131,14 @@ pub fn cover(
 {
     let _ = (lib.len(), net.inputs());
     let pats = patterns(alloc, lib)?;
-    let cost = DelayCost::new(lib, starts);
-    let found = mapped(alloc, lib, net, choices, &pats, &cost, labeller);
-    drop(pats);
-    match found {
-        Ok((labelled, cover)) => {
-            let _ = cover.netlist.gates();
-            drop(labelled.bounds);
-            Ok(Mapping {
-                netlist: cover.netlist,
-                classes: cover.classes,
-                labels: labelled.labels,
-                steps: labelled.steps,
-            })
-        }
-        Err(fault) => Err(refused(alloc, net, fault)),
-    }
+    let problem = Problem {
+        lib,
+        net,
+        starts,
+        choices,
+        pats,
+    };
+    let mapping = problem.fastest(alloc, labeller);
+    drop(problem);
+    mapping
 }

@@ -1,17 +1,13 @@
 // Labels of the classes of a graph.
-ghost use Rattle.std.specs.Prelude.{◌≡◌, ℕ, Some, None, IfOk, slice_get};
-ghost use Rattle.lw_laws.specs.Matches.{IsLeastCover};
-ghost use Rattle.lw_laws.specs.Rounds.{labels_in};
+ghost use Rattle.std.specs.Prelude.{IfOk};
 ghost use Rattle.lw_match.specs.Least.{AreOfCells};
-ghost use Rattle.lw_label.specs.Labels.{costs_of};
-ghost use Rattle.lw_settle.specs.Steps.{AreSteps};
-ghost use Rattle.lw_map.specs.Labelled.{AreStepsBy, HasLeastLabels};
+ghost use Rattle.lw_map.specs.Covering.{CanBeMapped};
+ghost use Rattle.lw_map.specs.Labelled.{AreFoundBy};
 
 use crate::Labeller;
-use lw_graph::Graph;
+use crate::problem::Problem;
 use lw_label::{Labels, relabel_with_bounds};
 use lw_match::{Bounds, Cost};
-use lw_pattern::Patterns;
 use lw_settle::{StoreFault, settle, store_matches};
 use std::alloc::{AllocError, Global};
 
@@ -25,75 +21,55 @@ pub(crate) struct Labelled {
     pub steps: Option<u64>,
 }
 
-// The least cost of a cover of each class, and the height of the class, in rounds.
-fn by_rounds<C: Cost>(
-    alloc: Global,
-    graph: &Graph,
-    pats: &Patterns,
-    cost: &C,
-) -> Result<Labelled, AllocError>
-    requires { AreOfCells (C.costs cost.now).pin_counts pats.now }
-    ensures labels { IfOk result (HasLeastLabels graph.now (C.costs cost.now) pats.now) }
-    ensures steps { IfOk result (λ l. l.steps ≡ None) }
-{
-    let found = relabel_with_bounds(alloc, graph, pats, cost)?;
-    Ok(Labelled {
-        labels: found.labels,
-        bounds: Some(found.bounds),
-        steps: None,
-    })
-}
-
-// The least cost of a cover of each class, and the height of the class, by stored matches.
-fn settled<C: Cost>(
-    alloc: Global,
-    graph: &Graph,
-    pats: &Patterns,
-    cost: &C,
-) -> Result<Labelled, AllocError>
-    requires of_cells { AreOfCells (C.costs cost.now).pin_counts pats.now }
-    requires leaves { (i c : ℕ) → slice_get graph.now.leaves i ≡ Some c →
-        IsLeastCover graph.now pats.now (C.costs cost.now) c (Some ((C.costs cost.now).leaf i)) }
-    ensures labels { IfOk result (HasLeastLabels graph.now (C.costs cost.now) pats.now) }
-    ensures steps { IfOk result (λ l. AreSteps graph.now pats.now
-        (labels_in (costs_of l.labels)) l.steps) }
-{
-    let _ = graph.classes();
-    match store_matches(alloc, graph, pats) {
-        Ok(mut store) => {
-            let labels = settle(alloc, &mut store, graph, cost);
-            let steps = Some(store.done());
-            drop(store);
-            let labels = labels?;
-            let bounds = None;
-            Ok(Labelled {
-                labels,
-                bounds,
-                steps,
-            })
-        }
-        Err(StoreFault::TooMany) => by_rounds(alloc, graph, pats, cost),
-        Err(StoreFault::Memory) => Err(AllocError),
+impl Problem<'_> {
+    // The least cost of a cover of each class, and the height of the class, in rounds.
+    fn by_rounds<C: Cost>(&self, alloc: Global, cost: &C) -> Result<Labelled, AllocError>
+        requires { AreOfCells (C.costs cost.now).pin_counts self.now.pats }
+        ensures { IfOk result (AreFoundBy Labeller.Rounds (C.costs cost.now) self.now) }
+    {
+        let found = relabel_with_bounds(alloc, &self.choices.graph, &self.pats, cost)?;
+        Ok(Labelled {
+            labels: found.labels,
+            bounds: Some(found.bounds),
+            steps: None,
+        })
     }
-}
 
-/// The least cost of a cover of each class, and the height of the class.
-pub(crate) fn label<C: Cost>(
-    alloc: Global,
-    graph: &Graph,
-    pats: &Patterns,
-    cost: &C,
-    labeller: Labeller,
-) -> Result<Labelled, AllocError>
-    requires of_cells { AreOfCells (C.costs cost.now).pin_counts pats.now }
-    requires leaves { (i c : ℕ) → slice_get graph.now.leaves i ≡ Some c →
-        IsLeastCover graph.now pats.now (C.costs cost.now) c (Some ((C.costs cost.now).leaf i)) }
-    ensures labels { IfOk result (HasLeastLabels graph.now (C.costs cost.now) pats.now) }
-    ensures steps { IfOk result (λ l. AreStepsBy labeller graph.now pats.now
-        (labels_in (costs_of l.labels)) l.steps) }
-{
-    match labeller {
-        Labeller::Rounds => by_rounds(alloc, graph, pats, cost),
-        Labeller::Store => settled(alloc, graph, pats, cost),
+    // The least cost of a cover of each class, and the height of the class, by stored matches.
+    fn settled<C: Cost>(&self, alloc: Global, cost: &C) -> Result<Labelled, AllocError>
+        requires { CanBeMapped (C.costs cost.now) self.now }
+        ensures { IfOk result (AreFoundBy Labeller.Store (C.costs cost.now) self.now) }
+    {
+        let graph = &self.choices.graph;
+        let _ = graph.classes();
+        let mut store = match store_matches(alloc, graph, &self.pats) {
+            Ok(store) => store,
+            Err(StoreFault::TooMany) => return self.by_rounds(alloc, cost),
+            Err(StoreFault::Memory) => return Err(AllocError),
+        };
+        let labels = settle(alloc, &mut store, graph, cost);
+        let steps = Some(store.done());
+        drop(store);
+        Ok(Labelled {
+            labels: labels?,
+            bounds: None,
+            steps,
+        })
+    }
+
+    /// The least cost of a cover of each class, and the height of the class.
+    pub fn label<C: Cost>(
+        &self,
+        alloc: Global,
+        cost: &C,
+        labeller: Labeller,
+    ) -> Result<Labelled, AllocError>
+        requires { CanBeMapped (C.costs cost.now) self.now }
+        ensures { IfOk result (AreFoundBy labeller (C.costs cost.now) self.now) }
+    {
+        match labeller {
+            Labeller::Rounds => self.by_rounds(alloc, cost),
+            Labeller::Store => self.settled(alloc, cost),
+        }
     }
 }

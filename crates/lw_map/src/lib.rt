@@ -11,6 +11,7 @@ mod labelling;
 mod laws;
 mod naming;
 mod options;
+mod problem;
 mod tabling;
 mod trading;
 

@@ -28,10 +28,7 @@ pub fn tabulate(
 {
     let _ = net.inputs();
     let depths = depths(alloc, &choices.graph, leaves)?;
-    let Ok(ports) = ports(alloc, net, choices) else {
-        drop(depths);
-        return Err(AllocError);
-    };
+    let ports = ports(alloc, net, choices)?;
     let ports = TablePorts {
         model: ports.model,
         inputs: ports.inputs,

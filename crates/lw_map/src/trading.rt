@@ -1,20 +1,19 @@
 // The netlist of least area under a deadline that a network comes to.
-ghost use Rattle.std.specs.Prelude.{All, IfErr, IfOk, IfSome, List, None, Some, length, map, ℕ, ◌<◌, ◌^◌, ◌≡◌};
+ghost use Rattle.std.specs.Prelude.{All, IfErr, IfOk, IfSome, None, Some, map, ◌≡◌};
 ghost use Rattle.std.specs.List.{IsDistinct};
 ghost use Rattle.std.specs.Str.{bytes_eq};
 ghost use Rattle.lw_genlib.specs.Cells.{IsSmall};
-ghost use Rattle.lw_pool.specs.declared.id.ClassId.{ClassId as Class};
-ghost use Rattle.lw_fixed.specs.declared.micro.Micro.{Micro as MicroOf};
 ghost use Rattle.lw_net.specs.Networks.{output_names};
 ghost use Rattle.lw_map.specs.Choices.{AreChoicesOf};
-ghost use Rattle.lw_map.specs.Faults.{IsCoverFault, IsTradeFault};
+ghost use Rattle.lw_map.specs.Covering.{IsLack};
+ghost use Rattle.lw_map.specs.Faults.{IsTradeFault};
 ghost use Rattle.lw_map.specs.Options.{plain_options};
-ghost use Rattle.lw_map.specs.Ports.{ArePortsOf};
-ghost use Rattle.lw_map.specs.Trading.{AreEarliest, HasFewPoints, HaveLabelsTo, IsProblem, IsTradeable, IsTradedNetlist, LacksLabel, latest_of, micros, put_off};
+ghost use Rattle.lw_map.specs.Trades.{AreLeastTimes, AreTargets, CanBeRead, HasTimes, HaveLabels, IsFault, IsTrade};
+ghost use Rattle.lw_map.specs.Trading.{IsProblem, IsTradeable, IsTradedNetlist, LacksLabel, latest_of, micros, put_off};
 
-use crate::covering::{mapped, ports};
-use crate::labelling::label;
+use crate::covering::ports;
 use crate::naming::refused;
+use crate::problem::Problem;
 use crate::{Choices, Labeller, MapFault};
 use lw_extract::ExtractFault;
 use lw_fixed::{Micro, Micros};
@@ -23,7 +22,7 @@ use lw_label::DelayCost;
 use lw_match::Mark;
 use lw_net::Network;
 use lw_netlist::Netlist;
-use lw_pattern::{Patterns, patterns};
+use lw_pattern::patterns;
 use lw_pool::ClassId;
 use lw_trade::{AreaCost, Targets, curves, trade};
 use std::alloc::{AllocError, Global};
@@ -34,20 +33,16 @@ fn labels_of(
     marks: &[Option<Mark>],
     roots: &[ClassId],
 ) -> Result<Vec<Micro>, ExtractFault>
-    requires few { length roots.now < 2 ^ 32 }
-    requires in_range { All (λ (root : Class). root.0 < length marks.now) roots.now }
-    ensures labels { IfOk result (λ labels. HaveLabelsTo marks.now roots.now (length roots.now)
-        labels.items) }
+    requires { CanBeRead marks.now roots.now }
+    ensures labels { IfOk result (λ labels. HaveLabels marks.now roots.now labels.items) }
     ensures lacks { IfErr result (LacksLabel marks.now roots.now) }
 {
     let mut labels = Vec::with_capacity(alloc, roots.len())?;
     for (k, root) in roots.iter().enumerate() {
         let Some(mark) = marks[root.0 as usize] else {
-            drop(labels);
             return Err(ExtractFault::NoCover(k as u32));
         };
         let Ok(()) = labels.push(Micro(mark.cost)) else {
-            drop(labels);
             return Err(ExtractFault::Memory);
         };
     }
@@ -76,62 +71,15 @@ fn put_off(alloc: Global, times: &[Micro], deadline: Micro) -> Result<Vec<Micro>
     Ok(later)
 }
 
-// What a netlist is built for: the ports of a network, whose outputs arrive by the later of these
-// times and the deadline.
-fn targets(
-    alloc: Global,
-    net: &Network,
-    choices: &Choices,
-    times: &[Micro],
-    deadline: Micro,
-) -> Result<Targets, AllocError>
-    ensures ports { IfOk result (λ t. ArePortsOf net.now choices.now (record {
-      model = t.model;
-      inputs = t.inputs;
-      outputs = t.outputs;
-      roots = t.roots;
-    })) }
-    ensures times { IfOk result (λ t. t.times ≡ map (put_off deadline) times.now) }
-{
-    let later = put_off(alloc, times, deadline)?;
-    let Ok(ports) = ports(alloc, net, choices) else {
-        drop(later);
-        return Err(AllocError);
-    };
-    Ok(Targets {
-        model: ports.model,
-        inputs: ports.inputs,
-        outputs: ports.outputs,
-        roots: ports.roots,
-        times: Micros::from_vec(later),
-    })
-}
-
-// The choices of a network, the cells that they are covered by, and when the inputs start.
-#[derive(Drop)]
-struct Problem<'a> {
-    lib: &'a Library,
-    net: &'a Network,
-    starts: &'a Micros,
-    choices: &'a Choices,
-    pats: Patterns,
-}
-
-impl<'a> Problem<'a> {
+impl Problem<'_> {
     // The least time of each output.
     fn earliest(&self, alloc: Global) -> Result<Vec<Micro>, MapFault>
         requires { IsProblem self.now }
-        ensures earliest { IfOk result (λ times. AreEarliest
-            (plain_options self.now.choices.now.options) self.now.lib.now self.now.net.now
-            self.now.starts.now (micros times.items)) }
-        ensures low { IfOk result (λ times. All (λ (time : MicroOf). time.0 < 9223372036854775808)
-            times.items) }
-        ensures fault { IfErr result (IsCoverFault self.now.lib.now self.now.net.now
-            self.now.starts.now self.now.choices.now) }
+        ensures least { IfOk result (λ times. AreLeastTimes self.now times.items) }
+        ensures fault { IfErr result (IsLack self.now) }
     {
         let cost = DelayCost::new(self.lib, self.starts);
-        let graph = &self.choices.graph;
-        let labelled = label(alloc, graph, &self.pats, &cost, Labeller::Rounds)?;
+        let labelled = self.label(alloc, &cost, Labeller::Rounds)?;
         let roots = self.choices.roots.as_slice();
         let times = labels_of(alloc, labelled.labels.marks(), roots);
         drop(labelled);
@@ -141,27 +89,34 @@ impl<'a> Problem<'a> {
         }
     }
 
+    // What a netlist is built for: the ports of the network, whose outputs arrive by the later of
+    // these times and the deadline.
+    fn targets(&self, alloc: Global, times: &[Micro], until: Micro) -> Result<Targets, AllocError>
+        ensures { IfOk result (AreTargets self.now until times.now) }
+    {
+        let later = put_off(alloc, times, until)?;
+        let ports = ports(alloc, self.net, self.choices)?;
+        Ok(Targets {
+            model: ports.model,
+            inputs: ports.inputs,
+            outputs: ports.outputs,
+            roots: ports.roots,
+            times: Micros::from_vec(later),
+        })
+    }
+
     // The netlist of least area by a deadline, where these are the least times of the outputs.
     fn in_time(&self, alloc: Global, times: &[Micro], deadline: Micro) -> Result<Netlist, MapFault>
         requires problem { IsProblem self.now }
         requires late { IsSmall deadline }
-        requires earliest { AreEarliest (plain_options self.now.choices.now.options)
-            self.now.lib.now self.now.net.now self.now.starts.now (micros times.now) }
-        requires low { All (λ (time : MicroOf). time.0 < 9223372036854775808) times.now }
-        ensures traded { IfOk result (IsTradedNetlist (plain_options self.now.choices.now.options)
-            self.now.lib.now self.now.net.now self.now.starts.now (Some deadline)) }
-        ensures few { IfOk result (λ n. HasFewPoints (plain_options self.now.choices.now.options)
-            self.now.lib.now self.now.net.now self.now.starts.now (Some deadline)) }
-        ensures fault { IfErr result (IsTradeFault self.now.lib.now self.now.net.now
-            self.now.starts.now self.now.choices.now (Some deadline)) }
+        requires least { AreLeastTimes self.now times.now }
+        ensures traded { IfOk result (IsTrade self.now (Some deadline)) }
+        ensures fault { IfErr result (IsFault self.now (Some deadline)) }
     {
         let (graph, pats, lib, starts) = (&self.choices.graph, &self.pats, self.lib, self.starts);
         let horizon = latest_of(deadline, times);
         let curves = curves(alloc, graph, pats, lib, starts, horizon)?;
-        let Ok(targets) = targets(alloc, self.net, self.choices, times, deadline) else {
-            drop(curves);
-            return Err(MapFault::Memory);
-        };
+        let targets = self.targets(alloc, times, deadline)?;
         let netlist = trade(alloc, graph, pats, lib, starts, &curves, &targets);
         drop(curves);
         drop(targets);
@@ -173,21 +128,17 @@ impl<'a> Problem<'a> {
     // The netlist of least area, where each output has a cover.
     fn at_any_time(&self, alloc: Global) -> Result<Netlist, MapFault>
         requires problem { IsProblem self.now }
-        requires covered { (times : List ℕ) × AreEarliest
-            (plain_options self.now.choices.now.options) self.now.lib.now self.now.net.now
-            self.now.starts.now times }
-        ensures traded { IfOk result (IsTradedNetlist (plain_options self.now.choices.now.options)
-            self.now.lib.now self.now.net.now self.now.starts.now None) }
+        requires covered { HasTimes self.now }
+        ensures traded { IfOk result (IsTrade self.now None) }
         ensures memory { IfErr result (λ e. e ≡ MapFault.Memory) }
     {
         let cost = AreaCost::new(self.lib);
-        let (net, pats, lib) = (self.net, &self.pats, self.lib);
-        match mapped(alloc, lib, net, self.choices, pats, &cost, Labeller::Store) {
-            Ok((labelled, cover)) => {
-                let _ = cover.netlist.gates();
-                drop(labelled);
-                drop(cover.classes);
-                Ok(cover.netlist)
+        match self.mapped(alloc, &cost, Labeller::Store) {
+            Ok(mapping) => {
+                let _ = mapping.netlist.gates();
+                drop(mapping.classes);
+                drop(mapping.labels);
+                Ok(mapping.netlist)
             }
             Err(ExtractFault::NoCover(_)) => unreachable!(),
             Err(ExtractFault::Memory) => Err(MapFault::Memory),
@@ -198,13 +149,8 @@ impl<'a> Problem<'a> {
     fn traded(&self, alloc: Global, deadline: Option<Micro>) -> Result<Netlist, MapFault>
         requires problem { IsProblem self.now }
         requires late { IfSome deadline IsSmall }
-        ensures traded { IfOk result (IsTradedNetlist (plain_options self.now.choices.now.options)
-            self.now.lib.now self.now.net.now self.now.starts.now deadline) }
-        ensures tradeable { IfOk result (λ n. IsTradeable (plain_options
-            self.now.choices.now.options) self.now.lib.now self.now.net.now self.now.starts.now
-            deadline) }
-        ensures fault { IfErr result (IsTradeFault self.now.lib.now self.now.net.now
-            self.now.starts.now self.now.choices.now deadline) }
+        ensures traded { IfOk result (IsTrade self.now deadline) }
+        ensures fault { IfErr result (IsFault self.now deadline) }
     {
         let times = self.earliest(alloc)?;
         match deadline {
@@ -237,8 +183,7 @@ pub fn exchange(
         net.now starts.now deadline) }
     ensures fault { IfErr result (IsTradeFault lib.now net.now starts.now choices.now deadline) }
 {
-    let _ = lib.len();
-    let _ = net.inputs();
+    let _ = (lib.len(), net.inputs());
     let pats = patterns(alloc, lib)?;
     let problem = Problem {
         lib,

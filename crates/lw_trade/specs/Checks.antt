@@ -7,7 +7,9 @@ use Rattle.lw_trade.specs.declared.point.Point.{Point}
 use Rattle.lw_trade.specs.declared.found.Way.{Way}
 use Rattle.lw_trade.specs.declared.walking.Node.{Node}
 use Rattle.lw_trade.specs.declared.walking.Trail.{Trail}
-use Rattle.lw_trade.specs.declared.walking.Walk.{Walk}
+use Rattle.lw_trade.specs.declared.plan.Plan.{Plan}
+use Rattle.lw_trade.specs.declared.plan.Want.{Want}
+use Rattle.lw_trade.specs.declared.plan.Demand.{Demand}
 use Rattle.lw_trade.specs.declared.choices.Gate.{Gate}
 use Rattle.lw_trade.specs.declared.choices.Stand.{Stand}
 use Rattle.lw_trade.specs.declared.choices.Stand.TheVariants as stand
@@ -45,13 +47,26 @@ pub record IsNodeBy (nodes : List Node) (exact : Bool) (c place j : ℕ) : Type 
   pub own : exact ≡ true → node.exact ≡ true
   pub last : exact ≡ true → node.place ≡ place
 
+-- what a root uses: its class by its time
+abbrev pub root_want : ClassId → Micro → Bool → Want
+root_want root time exact = record { class = root; delay = 0; time = time.0; exact = exact }
+
+-- what a pin with a class and a delay uses
+abbrev pub want_of_pin : Demand → ClassId → Micro → Want
+want_of_pin d pin delay = record { class = pin; delay = delay.0; time = d.time; exact = d.exact }
+
+-- so does the pin with a number
+abbrev pub IsPinWant : Demand → ℕ → Want → Type 0
+IsPinWant d k want =
+    (pin : ClassId) (delay : Micro) → slice_get d.pins.now k ≡ Some pin → slice_get d.delays.now k ≡ Some delay → want ≡ want_of_pin d pin delay
+
 -- the net of a point of a class by a time, with a delay: that of the input of the class, or of the gate that has the point
-pub record IsNetBy (points : List (List Point)) (inputs : List (Option ℕ)) (count : ℕ) (nodes : List Node) (exact : Bool) (c delay time net : ℕ) : Type 0 where
+pub record IsNetBy (plan : Plan) (trail : Trail) (want : Want) (net : ℕ) : Type 0 where
   pub row : List Point
-  pub at : slice_get points c ≡ Some row
+  pub at : slice_get plan.curves.now.points want.class.0 ≡ Some row
   pub place : ℕ
-  pub last : IsLastPlace row delay time (Some place)
-  pub right : (slice_get inputs c ≡ Some (Some net)) ⊎ ((slice_get inputs c ≡ Some None) × (j : ℕ) × IsNodeBy nodes exact c place j × (net ≡ count + j))
+  pub last : IsLastPlace row want.delay want.time (Some place)
+  pub right : (slice_get plan.inputs.now want.class.0 ≡ Some (Some net)) ⊎ ((slice_get plan.inputs.now want.class.0 ≡ Some None) × (j : ℕ) × IsNodeBy trail.nodes.items want.exact want.class.0 place j × (net ≡ plan.count + j))
 
 -- the last point of a class by a time has the greatest area that is told
 pub record IsCut (points : List (List Point)) (c time : ℕ) : Type 0 where
@@ -62,33 +77,43 @@ pub record IsCut (points : List (List Point)) (c time : ℕ) : Type 0 where
   pub cut : most_area ≤ last.point.area
 
 -- the net of a root's last point by its time, or of any by then where the last one is cut
-pub record IsRootBy (points : List (List Point)) (inputs : List (Option ℕ)) (count : ℕ) (nodes : List Node) (c time net : ℕ) : Type 0 where
-  pub right : IsNetBy points inputs count nodes true c 0 time net ⊎ (IsCut points c time × IsNetBy points inputs count nodes false c 0 time net)
+pub record IsRootBy (plan : Plan) (trail : Trail) (root : ClassId) (time : Micro) (net : ℕ) : Type 0 where
+  pub right : IsNetBy plan trail (root_want root time true) net ⊎ (IsCut plan.curves.now.points root.0 time.0 × IsNetBy plan trail (root_want root time false) net)
 
 -- the nets of roots, each by its time
-pub record AreRootsRight (points : List (List Point)) (inputs : List (Option ℕ)) (count : ℕ) (nodes : List Node) (roots : List ClassId) (times : List Micro) (nets : List ℕ) : Type 0 where
-  pub one_net : length nets ≡ length roots
-  pub one_time : length times ≡ length roots
-  pub each : (k : ℕ) (root : ClassId) (time : Micro) (net : ℕ) → slice_get roots k ≡ Some root → slice_get times k ≡ Some time → slice_get nets k ≡ Some net → IsRootBy points inputs count nodes root.0 time.0 net
+pub record AreRootsRight (plan : Plan) (trail : Trail) (nets : List ℕ) : Type 0 where
+  pub one_net : length nets ≡ length plan.roots.now
+  pub one_time : length plan.times.now ≡ length plan.roots.now
+  pub each : (k : ℕ) (root : ClassId) (time : Micro) (net : ℕ) → slice_get plan.roots.now k ≡ Some root → slice_get plan.times.now k ≡ Some time → slice_get nets k ≡ Some net → IsRootBy plan trail root time net
 
 -- the nets of pins by a time, each with its delay
-pub record ArePinsRight (points : List (List Point)) (inputs : List (Option ℕ)) (count : ℕ) (nodes : List Node) (exact : Bool) (time : ℕ) (pins : List ClassId) (delays : List Micro) (nets : List ℕ) : Type 0 where
-  pub one_net : length nets ≡ length pins
-  pub one_delay : length delays ≡ length pins
-  pub each : (k : ℕ) (pin : ClassId) (delay : Micro) (net : ℕ) → slice_get pins k ≡ Some pin → slice_get delays k ≡ Some delay → slice_get nets k ≡ Some net → IsNetBy points inputs count nodes exact pin.0 delay.0 time net
+pub record ArePinsRight (plan : Plan) (trail : Trail) (demand : Demand) (nets : List ℕ) : Type 0 where
+  pub one_net : length nets ≡ length demand.pins.now
+  pub one_delay : length demand.delays.now ≡ length demand.pins.now
+  pub each : (k : ℕ) (pin : ClassId) (delay : Micro) (net : ℕ) → slice_get demand.pins.now k ≡ Some pin → slice_get demand.delays.now k ≡ Some delay → slice_get nets k ≡ Some net → IsNetBy plan trail (want_of_pin demand pin delay) net
 
--- the gate has the cell of its point's choice, and the nets of its pins
-pub record IsNodeRight (curves : CurveLists) (inputs : List (Option ℕ)) (count : ℕ) (nodes : List Node) (cells : List CellParts) (node : Node) (cell : CellId) (nets : List ℕ) : Type 0 where
+-- the cell of the point's choice, and its pins with their delays by the time of the point
+pub record IsDemand (plan : Plan) (node : Node) (demand : Demand) : Type 0 where
   pub gate : Gate
   pub own : CellParts
   pub row : List Point
   pub point : Point
-  pub stands : IsStandAt curves node.class.0 node.place (stand.Gate gate)
-  pub row_at : slice_get curves.points node.class.0 ≡ Some row
+  pub stands : IsStandAt plan.curves.now node.class.0 node.place (stand.Gate gate)
+  pub row_at : slice_get plan.curves.now.points node.class.0 ≡ Some row
   pub point_at : slice_get row node.place ≡ Some point
-  pub cell_is : gate.cell.0 ≡ cell.0
-  pub cell_at : slice_get cells cell.0 ≡ Some own
-  pub pins : ArePinsRight curves.points inputs count nodes node.exact point.time.0 gate.pins own.delays nets
+  pub cell_at : slice_get plan.lib.now gate.cell.0 ≡ Some own
+  pub cell_is : demand.cell.0 ≡ gate.cell.0
+  pub pins_are : demand.pins.now ≡ gate.pins
+  pub delays_are : demand.delays.now ≡ own.delays
+  pub time_is : demand.time ≡ point.time.0
+  pub exact_is : demand.exact ≡ node.exact
+
+-- the gate has the cell of its point's choice, and the nets of its pins
+pub record IsNodeRight (plan : Plan) (trail : Trail) (node : Node) (cell : CellId) (nets : List ℕ) : Type 0 where
+  pub demand : Demand
+  pub is : IsDemand plan node demand
+  pub cell_is : demand.cell.0 ≡ cell.0
+  pub pins : ArePinsRight plan trail demand nets
 
 -- a root's net, or the net of a pin of an earlier gate
 abbrev pub IsUsedEarlier : ℕ → List (List ℕ) → List ℕ → ℕ → Type 0
@@ -109,29 +134,29 @@ pub record IsOnlyGate (owners : List (Vec ℕ)) (spares : List ℕ) (node : Node
   pub shared : IsFalse node.exact → IsSpare spares node j
 
 -- there is a gate with this number: a node with its user, a cell, and the nets of its pins
-pub record HasNumber (trail : Trail) (walk : Walk) (number : ℕ) : Type 0 where
+pub record HasNumber (trail : Trail) (number : ℕ) : Type 0 where
   pub node : number < length trail.nodes.items
   pub user : number < length trail.users.items
-  pub cell : number < length walk.cells.items
-  pub row : number < length walk.pins.items
+  pub cell : number < length trail.walk.cells.items
+  pub row : number < length trail.walk.pins.items
 
 -- what was looked through of the gate with a number
-pub record IsGateRight (curves : CurveLists) (inputs : List (Option ℕ)) (count : ℕ) (cells : List CellParts) (nodes : List Node) (owners : List (Vec ℕ)) (spares : List ℕ) (own : List CellId) (pins : List (List ℕ)) (nets : List ℕ) (j : ℕ) : Type 0 where
+pub record IsGateRight (plan : Plan) (trail : Trail) (j : ℕ) : Type 0 where
   pub node : Node
   pub cell : CellId
   pub row : List ℕ
-  pub node_at : slice_get nodes j ≡ Some node
-  pub cell_at : slice_get own j ≡ Some cell
-  pub row_at : slice_get pins j ≡ Some row
-  pub right : IsNodeRight curves inputs count nodes cells node cell row
-  pub used : IsUsedEarlier count pins nets j
-  pub owned : node.exact ≡ true → IsOwned owners node j
-  pub spare : node.exact ≡ false → IsSpare spares node j
+  pub node_at : slice_get trail.nodes.items j ≡ Some node
+  pub cell_at : slice_get trail.walk.cells.items j ≡ Some cell
+  pub row_at : slice_get trail.walk.pins.items j ≡ Some row
+  pub right : IsNodeRight plan trail node cell row
+  pub used : IsUsedEarlier plan.count trail.walk.pins.items trail.walk.nets.items j
+  pub owned : node.exact ≡ true → IsOwned trail.owners.items node j
+  pub spare : node.exact ≡ false → IsSpare trail.spares.items node j
 
 -- and of the whole
-pub record IsRightWalk (curves : CurveLists) (inputs : List (Option ℕ)) (count : ℕ) (cells : List CellParts) (roots : List ClassId) (times : List Micro) (nodes : List Node) (owners : List (Vec ℕ)) (spares : List ℕ) (own : List CellId) (pins : List (List ℕ)) (nets : List ℕ) : Type 0 where
-  pub few : length nodes ≤ most_points
-  pub one_cell : length own ≡ length nodes
-  pub one_row : length pins ≡ length nodes
-  pub roots_are : AreRootsRight curves.points inputs count nodes roots times nets
-  pub gates : (j : ℕ) → j < length nodes → IsGateRight curves inputs count cells nodes owners spares own pins nets j
+pub record IsRightWalk (plan : Plan) (trail : Trail) : Type 0 where
+  pub few : length trail.nodes.items ≤ most_points
+  pub one_cell : length trail.walk.cells.items ≡ length trail.nodes.items
+  pub one_row : length trail.walk.pins.items ≡ length trail.nodes.items
+  pub roots_are : AreRootsRight plan trail trail.walk.nets.items
+  pub gates : (j : ℕ) → j < length trail.nodes.items → IsGateRight plan trail j

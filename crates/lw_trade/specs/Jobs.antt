@@ -7,6 +7,7 @@ use Rattle.lw_laws.specs.Graphs.{Graph}
 use Rattle.lw_pool.specs.declared.id.ClassId.{ClassId}
 use Rattle.lw_trade.specs.declared.choices.Row.{Row}
 use Rattle.lw_trade.specs.declared.job.Job.{Job}
+use Rattle.lw_trade.specs.declared.point.CurveFault.{CurveFault}
 use Rattle.lw_trade.specs.declared.seeing.Seen.{Seen}
 use Rattle.lw_trade.specs.declared.uses.Uses.{Uses}
 use Rattle.lw_trade.specs.Areas.{total}
@@ -17,8 +18,8 @@ use Rattle.lw_trade.specs.Points.{Task, most_points, task}
 use Rattle.lw_trade.specs.Looks.{AreLooks}
 use Rattle.lw_trade.specs.Pricing.{IsOfLibrary}
 use Rattle.lw_trade.specs.Rows.{IsRowFor, plain_part, plain_rows}
-use Rattle.lw_trade.specs.Seen.{AreSeen, AreSeenAfter}
-use Rattle.lw_trade.specs.Settling.{AreFirst, AreSettled, Has, IsAfter, IsStillFor, Queued, Spot, Turns, Waits}
+use Rattle.lw_trade.specs.Seen.{AreSeen, AreSeenAfter, HasUnseen}
+use Rattle.lw_trade.specs.Settling.{AreFirst, AreSettled, GivesNoMoreSeen, Has, IsAfter, IsGroupLookedAt, IsLookedAt, IsStillFor, IsStop, Queued, Spot, Turns, Waits}
 use Rattle.lw_trade.specs.Tallies.{AreTallied}
 use Rattle.lw_trade.specs.Uses.{AreGroups, AreUses, turns_of}
 
@@ -39,6 +40,21 @@ task_of job g pats = task g pats job.lib.now job.starts.now
 abbrev pub ForAnyTask : Job → (Task → List Choice → Type 0) → Type 0
 ForAnyTask job Then =
     (g : Graph) (pats : List Pattern) (starts : List Micro) → AreUses job.lib.now (choices_of_job job) job.uses.now → Then (task g pats job.lib.now starts) (choices_of_job job)
+
+-- the choice gives no more at this time than what is had, but for points that its groups have not seen
+abbrev pub GivesNoMoreIn : Job → Seen → FrontState → ℕ → ℕ → Type 0
+GivesNoMoreIn job state fronts time n =
+    ForAnyTask job (λ s choices. GivesNoMoreSeen s choices fronts.spots (HasUnseen job.uses.now state.areas.items fronts.spots time) time n)
+
+-- the choice waits too, or so it is
+abbrev pub IsLookedAtIn : Job → Seen → FrontState → ℕ → ℕ → Queued → Queued → Type 0
+IsLookedAtIn job state fronts time n old new =
+    ForAnyTask job (λ s choices. IsLookedAt s choices fronts.spots (HasUnseen job.uses.now state.areas.items fronts.spots time) old new time n)
+
+-- so it is of each choice with a pin in the group
+abbrev pub IsGroupLookedAtIn : Job → Seen → FrontState → ℕ → ℕ → Queued → Queued → Type 0
+IsGroupLookedAtIn job state fronts time group old new =
+    ForAnyTask job (λ s choices. IsGroupLookedAt s choices fronts.spots (HasUnseen job.uses.now state.areas.items fronts.spots time) job.uses.now.members.classes job.uses.now.owners.items old new time group)
 
 -- an area for each group, and a tally for each choice
 abbrev pub AreTalliedIn : Job → Seen → Type 0
@@ -157,3 +173,19 @@ pub record HaveFronts (cells : List CellParts) (starts : List Micro) (rows : Lis
   pub few : length fronts.spots ≤ most_points
   pub settled : WhereListed cells starts rows (λ s choices. AreSettled s horizon choices fronts.spots)
   pub backed : WhereListed cells starts rows (λ s choices. AreBacked s choices fronts.held)
+
+-- so it is of the choices of a job
+abbrev pub HaveFrontsOf : Job → ℕ → ℕ → FrontState → Type 0
+HaveFrontsOf j classes horizon fronts = HaveFronts j.lib.now j.starts.now j.rows.now classes horizon fronts
+
+-- why the points are not settled up to the horizon
+abbrev pub IsStopFor : List CellParts → List Micro → List Row → ℕ → CurveFault → Type 0
+IsStopFor cells starts rows horizon fault = WhereListed cells starts rows (λ s choices. IsStop s choices horizon fault)
+
+abbrev pub IsStopOf : Job → ℕ → CurveFault → Type 0
+IsStopOf j horizon fault = IsStopFor j.lib.now j.starts.now j.rows.now horizon fault
+
+-- the choices are those of some task with these cells and starts
+abbrev pub AreListedSomewhere : List CellParts → List Micro → List Row → Type 0
+AreListedSomewhere cells starts rows =
+    (g : Graph) × (pats : List Pattern) × AreListedChoices (task g pats cells starts) (plain_rows rows)

@@ -1,10 +1,12 @@
 -- What may stand at classes, as the code lists it.
-use Rattle.std.specs.Prelude.{ℕ, ◌<◌, ◌≡◌, All, List, length, map, Some, slice_get}
+use Rattle.std.specs.Prelude.{ℕ, ◌+◌, ◌<◌, ◌≡◌, All, List, [], ◌∷◌, ◌++◌, length, map, Some, slice_get}
 use Rattle.lw_fixed.specs.declared.micro.Micro.{Micro}
 use Rattle.lw_genlib.specs.Cells.{CellParts}
 use Rattle.lw_laws.specs.Covers.{Pattern}
 use Rattle.lw_laws.specs.Graphs.{Graph}
 use Rattle.lw_match.specs.Least.{AreOfCells}
+use Rattle.lw_pool.specs.declared.id.CellId.{CellId}
+use Rattle.lw_pool.specs.declared.id.ClassId.{ClassId}
 use Rattle.lw_trade.specs.Areas.{area_cost}
 use Rattle.lw_trade.specs.declared.choices.Row.{Row}
 use Rattle.lw_trade.specs.declared.choices.Stand.{Stand}
@@ -49,6 +51,21 @@ pub record IsListing (s : Task) (inputs classes : ℕ) (choices : List Choice) :
   pub within : (n : ℕ) (x : Choice) → slice_get choices n ≡ Some x → x.class < length s.graph.pairs
   pub inputs_are : (i c : ℕ) → i < inputs → slice_get s.graph.leaves i ≡ Some c → IsAmong choices c (input i)
   pub gates_are : (c cell : ℕ) (ps : List ℕ) → c < classes → MayStand s c (gate cell ps) → IsAmong choices c (gate cell ps)
+
+-- a cell at a class more
+abbrev pub IsGatePushed : List Row → List Row → ClassId → CellId → List ClassId → Type 0
+IsGatePushed old new class cell pins =
+    plain_rows new ≡ plain_rows old ++ record { class = class.0; part = gate cell.0 (numbers pins) } ∷ []
+
+-- the matches at a class more, by cells of any library that the patterns are of
+abbrev pub IsClassListed : Graph → List Pattern → ℕ → List Row → List Row → Type 0
+IsClassListed g pats c old new =
+    (cells : List CellParts) (starts : List Micro) → AreOfCells (area_cost cells).pin_counts pats → IsListing (task g pats cells starts) (length g.leaves) c (plain_rows old) → IsListing (task g pats cells starts) (length g.leaves) (c + 1) (plain_rows new)
+
+-- so are those at all classes, behind the inputs
+abbrev pub AreMatchesListed : Graph → List Pattern → List Row → List Row → Type 0
+AreMatchesListed g pats old new =
+    (cells : List CellParts) (starts : List Micro) → AreOfCells (area_cost cells).pin_counts pats → IsListing (task g pats cells starts) (length g.leaves) 0 (plain_rows old) → AreListedChoices (task g pats cells starts) (plain_rows new)
 
 -- all that may stand at the classes, by cells of any library that the patterns are of, and they can be numbered
 pub record AreAllChoices (g : Graph) (pats : List Pattern) (rows : List Row) : Type 0 where

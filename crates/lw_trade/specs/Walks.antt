@@ -4,11 +4,17 @@ use Rattle.lw_pool.specs.declared.id.CellId.{CellId}
 use Rattle.lw_pool.specs.declared.id.ClassId.{ClassId}
 use Rattle.lw_fixed.specs.declared.micro.Micro.{Micro}
 use Rattle.lw_laws.specs.Graphs.{Graph}
+use Rattle.lw_genlib.specs.Cells.{CellParts}
+use Rattle.lw_trade.specs.declared.plan.Plan.{Plan}
+use Rattle.lw_trade.specs.declared.targets.Targets.{Targets}
+use Rattle.lw_trade.specs.declared.walking.Walk.{Walk}
 use Rattle.lw_dag.specs.Graphs.{fanins_at}
 use Rattle.lw_trade.specs.Areas.{most_area}
 use Rattle.lw_trade.specs.Backing.{Held, IsHeld}
 use Rattle.lw_trade.specs.Choices.{Choice}
+use Rattle.lw_trade.specs.Groups.{CurveLists}
 use Rattle.lw_trade.specs.Points.{Task, most_points}
+use Rattle.lw_trade.specs.Targets.{AreCurvesFor}
 use Rattle.lw_trade.specs.Trades.{Site, IsLastBy, IsPinNet, IsGateOfPoint}
 
 -- one of the first inputs for each class that one of them has
@@ -45,3 +51,26 @@ pub record IsWalk (s : Task) (choices : List Choice) (held : List Held) (sites :
   pub gates : (j : ℕ) (site : Site) (cell : CellId) → slice_get sites j ≡ Some site → slice_get cells j ≡ Some cell → IsGateOfPoint s choices held sites site (record { cell = cell.0; pins = fanins_at graph j })
   pub root_nets : HaveRootNets s held sites roots times nets
   pub used : (j : ℕ) → j < length graph → IsUsed (length s.graph.leaves) graph nets (length s.graph.leaves + j)
+
+-- a walk goes by the inputs and the cells of a task, and by the roots of targets with their times
+pub record IsPlanFor (s : Task) (t : Targets) (plan : Plan) : Type 0 where
+  pub inputs : AreInputsTo s.graph (length s.graph.leaves) plan.inputs.now
+  pub count : plan.count ≡ length s.graph.leaves
+  pub cells : s.cells ≡ plan.lib.now
+  pub roots : t.roots ≡ plan.roots.now
+  pub times : t.times ≡ plan.times.now
+
+-- the gates are those of a walk for the roots of targets
+abbrev pub WalksFor : (s : Task) (t : Targets) (curves : CurveLists) → AreCurvesFor s t curves → Walk → Type 0
+WalksFor s t curves c w =
+    (sites : List Site) × IsWalk s curves.choices c.ways.held sites t.roots t.times w.cells.items w.pins.items w.nets.items
+
+-- so they are for each task and targets that the plan is for
+abbrev pub IsWalkBy : Plan → Walk → Type 0
+IsWalkBy plan w =
+    (s : Task) (t : Targets) (c : AreCurvesFor s t plan.curves.now) → IsPlanFor s t plan → WalksFor s t plan.curves.now c w
+
+-- and for each task with this graph and these cells
+abbrev pub IsWalkDown : Graph → List CellParts → CurveLists → Targets → Walk → Type 0
+IsWalkDown g cells curves t w =
+    (s : Task) (c : AreCurvesFor s t curves) → s.graph ≡ g → s.cells ≡ cells → WalksFor s t curves c w

@@ -1,14 +1,13 @@
 // What a walk has found, looked through.
 ghost use Rattle.std.specs.Prelude.{◌≡◌, ◌+◌, IsTrue};
-ghost use Rattle.lw_trade.specs.Checks.{ArePinsRight, AreRootsRight, HasNumber, IsNodeFor, IsCut, IsNetBy, IsGateRight, IsNodeRight, IsOnlyGate, IsOwned, IsRightWalk, IsRootBy, IsSpare, IsUsedEarlier};
+ghost use Rattle.lw_trade.specs.Checks.{ArePinsRight, AreRootsRight, HasNumber, IsNodeFor, IsCut, IsNetBy, IsNodeBy, IsGateRight, IsNodeRight, IsOnlyGate, IsOwned, IsRightWalk, IsRootBy, IsSpare, IsUsedEarlier};
 
 use crate::area::MOST_AREA;
 use crate::bisecting::last_by;
-use crate::choices::Stand;
 use crate::grouping::Curves;
-use crate::walking::{Node, Trail, User, Walk};
+use crate::plan::{Demand, Plan, Want, demand_of, pin_want, root_want};
+use crate::walking::{Node, Trail, User};
 use lw_fixed::Micro;
-use lw_genlib::Library;
 use lw_pool::{CellId, ClassId, Numbers};
 
 /// Whether the last point of a class by a time has the greatest area that is told.
@@ -21,10 +20,7 @@ pub(crate) fn is_cut(curves: &Curves, class: ClassId, time: u64) -> bool
     let Some(place) = last_by(points, 0, time) else {
         return false;
     };
-    if points[place].area < MOST_AREA {
-        return false;
-    }
-    true
+    points[place].area >= MOST_AREA
 }
 
 // Whether a node is an exact one at a place, or for a shared use any one there or before.
@@ -39,121 +35,69 @@ fn is_at(node: Node, exact: bool, place: usize) -> bool
     }
 }
 
+// Whether the node with a number is one for what is wanted, whose last point has a place.
+fn is_node_by(trail: &Trail, want: Want, place: usize, number: usize) -> bool
+    ensures { IsTrue result →
+        IsNodeBy trail.now.nodes.items want.exact want.class.0 place number }
+{
+    if number >= trail.nodes.len() {
+        return false;
+    }
+    let node = trail.nodes[number];
+    node.class.0 == want.class.0 && is_at(node, want.exact, place)
+}
+
 // Whether the net is that of a point of a class by a time, with a delay: for an exact use that of
 // the last one.
-fn is_net(
-    curves: &Curves,
-    inputs: &[Option<u32>],
-    count: u32,
-    nodes: &[Node],
-    exact: bool,
-    class: ClassId,
-    delay: u64,
-    time: u64,
-    net: u32,
-) -> bool
-    ensures { IsTrue result →
-        IsNetBy curves.now.points inputs.now count nodes.now exact class.0 delay time net }
+fn is_net(plan: &Plan, trail: &Trail, want: Want, net: u32) -> bool
+    ensures { IsTrue result → IsNetBy plan.now trail.now want net }
 {
-    if class.0 as usize >= inputs.len() {
+    if want.class.0 as usize >= plan.inputs.len() {
         return false;
     }
-    let Some(place) = curves.last_by(class, delay, time) else {
+    let Some(place) = plan.curves.last_by(want.class, want.delay, want.time) else {
         return false;
     };
-    if let Some(input) = inputs[class.0 as usize] {
-        if net != input {
-            return false;
-        }
-        return true;
+    if let Some(input) = plan.inputs[want.class.0 as usize] {
+        return net == input;
     }
-    if net < count || (net - count) as usize >= nodes.len() {
-        return false;
-    }
-    let node = nodes[(net - count) as usize];
-    if node.class.0 != class.0 || !is_at(node, exact, place) {
-        return false;
-    }
-    true
+    net >= plan.count && is_node_by(trail, want, place, (net - plan.count) as usize)
 }
 
 // Whether the net is that of a root's last point by its time, or of any by then where that is cut.
-fn is_root(
-    curves: &Curves,
-    inputs: &[Option<u32>],
-    count: u32,
-    nodes: &[Node],
-    class: ClassId,
-    time: u64,
-    net: u32,
-) -> bool
-    ensures { IsTrue result → IsRootBy curves.now.points inputs.now count nodes.now class.0 time
-        net }
+fn is_root(plan: &Plan, trail: &Trail, root: ClassId, time: Micro, net: u32) -> bool
+    ensures { IsTrue result → IsRootBy plan.now trail.now root time net }
 {
-    if is_net(curves, inputs, count, nodes, true, class, 0, time, net) {
+    if is_net(plan, trail, root_want(root, time, true), net) {
         return true;
     }
-    if !is_cut(curves, class, time) {
-        return false;
-    }
-    is_net(curves, inputs, count, nodes, false, class, 0, time, net)
+    is_cut(plan.curves, root, time.0) && is_net(plan, trail, root_want(root, time, false), net)
 }
 
 // Whether the nets of roots are right, each by its time.
-fn are_roots(
-    curves: &Curves,
-    inputs: &[Option<u32>],
-    count: u32,
-    nodes: &[Node],
-    roots: &[ClassId],
-    times: &[Micro],
-    nets: &[u32],
-) -> bool
-    ensures { IsTrue result → AreRootsRight curves.now.points inputs.now count nodes.now roots.now
-        times.now nets.now }
+fn are_roots(plan: &Plan, trail: &Trail, nets: &[u32]) -> bool
+    ensures { IsTrue result → AreRootsRight plan.now trail.now nets.now }
 {
-    if nets.len() != roots.len() || times.len() != roots.len() {
+    if nets.len() != plan.roots.len() || plan.times.len() != plan.roots.len() {
         return false;
     }
-    for k in 0..roots.len() {
-        if !is_root(curves, inputs, count, nodes, roots[k], times[k].0, nets[k]) {
+    for k in 0..plan.roots.len() {
+        if !is_root(plan, trail, plan.roots[k], plan.times[k], nets[k]) {
             return false;
         }
     }
     true
 }
 
-// Whether the nets of pins are right by a time, with their delays, for an exact use or a shared
-// one.
-fn are_pins(
-    curves: &Curves,
-    inputs: &[Option<u32>],
-    count: u32,
-    nodes: &[Node],
-    exact: bool,
-    pins: &[ClassId],
-    delays: &[Micro],
-    time: u64,
-    nets: &[u32],
-) -> bool
-    ensures { IsTrue result → ArePinsRight curves.now.points inputs.now count nodes.now exact time
-        pins.now delays.now nets.now }
+// Whether the nets of pins are right.
+fn are_pins(plan: &Plan, trail: &Trail, demand: &Demand, nets: &[u32]) -> bool
+    ensures { IsTrue result → ArePinsRight plan.now trail.now demand.now nets.now }
 {
-    if nets.len() != pins.len() || delays.len() != pins.len() {
+    if nets.len() != demand.pins.len() || demand.delays.len() != demand.pins.len() {
         return false;
     }
-    for k in 0..pins.len() {
-        if !is_net(
-            curves,
-            inputs,
-            count,
-            nodes,
-            exact,
-            pins[k],
-            delays[k].0,
-            time,
-            nets[k],
-        ) {
+    for k in 0..demand.pins.len() {
+        if !is_net(plan, trail, pin_want(demand, k), nets[k]) {
             return false;
         }
     }
@@ -161,38 +105,12 @@ fn are_pins(
 }
 
 // Whether a gate has the cell of its point's choice, and the nets of its pins.
-fn is_node(
-    curves: &Curves,
-    inputs: &[Option<u32>],
-    count: u32,
-    lib: &Library,
-    nodes: &[Node],
-    node: Node,
-    cell: CellId,
-    nets: &[u32],
-) -> bool
-    ensures { IsTrue result → IsNodeRight curves.now inputs.now count nodes.now lib.now node cell
-        nets.now }
+fn is_node(plan: &Plan, trail: &Trail, node: Node, cell: CellId, nets: &[u32]) -> bool
+    ensures { IsTrue result → IsNodeRight plan.now trail.now node cell nets.now }
 {
-    if cell.0 >= lib.len() {
-        return false;
-    }
-    let Some(points) = curves.get(node.class) else {
-        return false;
-    };
-    let place = node.place as usize;
-    if place >= points.len() {
-        return false;
-    }
-    match curves.stand(node.class, node.place) {
-        Some(Stand::Gate(gate)) if gate.cell.0 == cell.0 => {
-            let delays = lib.cell(cell).delays();
-            let (pins, time) = (gate.pins.as_slice(), points[place].time.0);
-            are_pins(
-                curves, inputs, count, nodes, node.exact, pins, delays, time, nets,
-            )
-        }
-        _ => false,
+    match demand_of(plan, node) {
+        Some(demand) => demand.cell.0 == cell.0 && are_pins(plan, trail, &demand, nets),
+        None => false,
     }
 }
 
@@ -259,24 +177,20 @@ fn is_own(trail: &Trail, node: Node, number: usize) -> bool
 }
 
 // Whether the gate with a number is right.
-fn is_gate(
-    curves: &Curves,
-    inputs: &[Option<u32>],
-    count: u32,
-    lib: &Library,
-    trail: &Trail,
-    walk: &Walk,
-    number: usize,
-) -> bool
-    requires { HasNumber trail.now walk.now number }
-    ensures { IsTrue result → IsGateRight curves.now inputs.now count lib.now trail.now.nodes.items
-        trail.now.owners.items trail.now.spares.items walk.now.cells.items walk.now.pins.items
-        walk.now.nets.items number }
+fn is_gate(plan: &Plan, trail: &Trail, number: usize) -> bool
+    requires { HasNumber trail.now number }
+    ensures { IsTrue result → IsGateRight plan.now trail.now number }
 {
-    let (nodes, pins) = (trail.nodes.as_slice(), walk.pins.as_slice());
-    let (node, cell, nets) = (nodes[number], walk.cells[number], pins[number].as_slice());
-    if !is_node(curves, inputs, count, lib, nodes, node, cell, nets)
-        || !is_used(count, pins, &walk.nets, trail.users[number], number)
+    let (node, pins) = (trail.nodes[number], trail.walk.pins.as_slice());
+    let (cell, nets) = (trail.walk.cells[number], pins[number].as_slice());
+    if !is_node(plan, trail, node, cell, nets)
+        || !is_used(
+            plan.count,
+            pins,
+            &trail.walk.nets,
+            trail.users[number],
+            number,
+        )
         || !is_own(trail, node, number)
     {
         return false;
@@ -286,35 +200,21 @@ fn is_gate(
 
 /// Whether what a walk has found is right: there are no more gates than points, each is that of a
 /// point of its own, has its cell and the nets of its pins, and is used; and so have the roots.
-pub(crate) fn is_right(
-    curves: &Curves,
-    inputs: &[Option<u32>],
-    count: u32,
-    lib: &Library,
-    trail: &Trail,
-    walk: &Walk,
-    roots: &[ClassId],
-    times: &[Micro],
-) -> bool
-    ensures { IsTrue result → IsRightWalk curves.now inputs.now count lib.now roots.now times.now
-        trail.now.nodes.items trail.now.owners.items trail.now.spares.items walk.now.cells.items
-        walk.now.pins.items walk.now.nets.items }
+pub(crate) fn is_right(plan: &Plan, trail: &Trail) -> bool
+    ensures { IsTrue result → IsRightWalk plan.now trail.now }
 {
-    let _ = lib.len();
-    let nodes = trail.nodes.as_slice();
-    let number = nodes.len();
+    let number = trail.nodes.len();
     if number > 8_000_000
-        || walk.cells.len() != number
-        || walk.pins.len() != number
+        || trail.walk.cells.len() != number
+        || trail.walk.pins.len() != number
         || trail.users.len() != number
-        || !are_roots(curves, inputs, count, nodes, roots, times, &walk.nets)
     {
         return false;
     }
     for j in 0..number {
-        if !is_gate(curves, inputs, count, lib, trail, walk, j) {
+        if !is_gate(plan, trail, j) {
             return false;
         }
     }
-    true
+    are_roots(plan, trail, &trail.walk.nets)
 }

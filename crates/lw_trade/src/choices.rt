@@ -1,14 +1,11 @@
-ghost use Rattle.std.specs.Prelude.{◌≡◌, ◌+◌, ◌<◌, List, IfOk, OnOk, Some, length};
+ghost use Rattle.std.specs.Prelude.{◌≡◌, ◌<◌, List, IfOk, OnOk, length};
 ghost use Rattle.lw_laws.specs.Covers.{Pattern as TreeOfCell};
 ghost use Rattle.lw_laws.specs.Graphs.{Graph as PlainGraph};
-ghost use Rattle.lw_match.specs.Least.{AreOfCells};
 ghost use Rattle.lw_settle.specs.Stores.{IsStoreOf};
 ghost use Rattle.lw_genlib.specs.Cells.{CellParts};
 ghost use Rattle.lw_fixed.specs.declared.micro.Micro.{Micro as MicroOf};
-ghost use Rattle.lw_trade.specs.Areas.{area_cost};
-ghost use Rattle.lw_trade.specs.Choices.{AreListedChoices};
 ghost use Rattle.lw_trade.specs.Points.{task};
-ghost use Rattle.lw_trade.specs.Rows.{AreAllChoices, IsListing, plain_rows};
+ghost use Rattle.lw_trade.specs.Rows.{AreAllChoices, AreMatchesListed, IsClassListed, IsGatePushed, IsListing, plain_rows};
 
 use lw_graph::Graph;
 use lw_match::{Cursor, Pins};
@@ -55,6 +52,15 @@ fn list_inputs(alloc: Global, graph: &Graph) -> Result<Vec<Row>, AllocError>
     Ok(rows)
 }
 
+// Appends a cell at a class.
+fn push_gate(to: &mut Vec<Row>, class: ClassId, cell: CellId, pins: Pins) -> Result<(), AllocError>
+    ensures { OnOk result (IsGatePushed to.old.items to.new.items class cell pins) }
+{
+    let stand = Stand::Gate(Gate { cell, pins });
+    to.push(Row { class, stand })?;
+    Ok(())
+}
+
 // Appends the matches at a class.
 fn list_class(
     graph: &Graph,
@@ -63,25 +69,12 @@ fn list_class(
     rows: &mut Vec<Row>,
 ) -> Result<(), AllocError>
     requires class { class.0 < length graph.now.pairs }
-    ensures { OnOk result ((cells : List CellParts) (starts : List MicroOf) →
-        AreOfCells (area_cost cells).pin_counts pats.now →
-        IsListing (task graph.now pats.now cells starts)
-        (length graph.now.leaves) class.0 (plain_rows rows.old.items) →
-        IsListing (task graph.now pats.now cells starts) (length graph.now.leaves) (class.0 + 1)
-        (plain_rows rows.new.items)) }
+    ensures { OnOk result (IsClassListed graph.now pats.now class.0 rows.old.items rows.new.items) }
 {
     let _ = graph.classes();
     let mut cursor = Cursor::new(class);
     while let Some(found) = cursor.next(graph, pats) {
-        let cell = pats.get(found.pat).cell;
-        let gate = Gate {
-            cell,
-            pins: found.pins,
-        };
-        rows.push(Row {
-            class,
-            stand: Stand::Gate(gate),
-        })?;
+        push_gate(rows, class, pats.get(found.pat).cell, found.pins)?;
     }
     Ok(())
 }
@@ -89,33 +82,19 @@ fn list_class(
 // Appends the matches of a store.
 fn list_stored(store: &mut Store, rows: &mut Vec<Row>) -> Result<(), AllocError>
     requires { store.old.done ≡ 0 }
-    ensures { OnOk result ((g : PlainGraph) (pats : List TreeOfCell) (cells : List CellParts)
-        (starts : List MicroOf) → IsStoreOf g pats store.old.lists →
-        AreOfCells (area_cost cells).pin_counts pats →
-        IsListing (task g pats cells starts) (length g.leaves) 0 (plain_rows rows.old.items) →
-        AreListedChoices (task g pats cells starts) (plain_rows rows.new.items)) }
+    ensures { OnOk result ((g : PlainGraph) (pats : List TreeOfCell) →
+        IsStoreOf g pats store.old.lists → AreMatchesListed g pats rows.old.items rows.new.items) }
 {
     for place in 0..store.matches() {
         let found = store.read(place);
-        let gate = Gate {
-            cell: found.cell,
-            pins: found.pins,
-        };
-        rows.push(Row {
-            class: found.class,
-            stand: Stand::Gate(gate),
-        })?;
+        push_gate(rows, found.class, found.cell, found.pins)?;
     }
     Ok(())
 }
 
 // Appends the matches by a search at each class.
 fn list_sought(graph: &Graph, pats: &Patterns, rows: &mut Vec<Row>) -> Result<(), AllocError>
-    ensures { OnOk result ((cells : List CellParts) (starts : List MicroOf) →
-        AreOfCells (area_cost cells).pin_counts pats.now →
-        IsListing (task graph.now pats.now cells starts) (length graph.now.leaves) 0
-        (plain_rows rows.old.items) →
-        AreListedChoices (task graph.now pats.now cells starts) (plain_rows rows.new.items)) }
+    ensures { OnOk result (AreMatchesListed graph.now pats.now rows.old.items rows.new.items) }
 {
     for class in 0..graph.classes() {
         list_class(graph, pats, ClassId(class), rows)?;
@@ -130,11 +109,7 @@ fn list_matches(
     pats: &Patterns,
     rows: &mut Vec<Row>,
 ) -> Result<(), AllocError>
-    ensures { OnOk result ((cells : List CellParts) (starts : List MicroOf) →
-        AreOfCells (area_cost cells).pin_counts pats.now →
-        IsListing (task graph.now pats.now cells starts) (length graph.now.leaves) 0
-        (plain_rows rows.old.items) →
-        AreListedChoices (task graph.now pats.now cells starts) (plain_rows rows.new.items)) }
+    ensures { OnOk result (AreMatchesListed graph.now pats.now rows.old.items rows.new.items) }
 {
     match store_matches(alloc, graph, pats) {
         Ok(mut store) => list_stored(&mut store, rows),

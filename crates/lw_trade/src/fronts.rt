@@ -94,6 +94,23 @@ fn area_at(links: &Links, points: &[Found], class: ClassId, time: u64, place: u6
     Some(found.area)
 }
 
+// From a point the place of one before the one that it leads to, where that is as near to that as
+// it is to the point.
+fn far_jump(points: &[Found], point: Found) -> Option<u32> {
+    if point.jump as usize >= points.len() {
+        return None;
+    }
+    let near = points[point.jump as usize];
+    if near.jump as usize >= points.len() {
+        return None;
+    }
+    let far = near.depth.saturating_sub(points[near.jump as usize].depth);
+    if point.depth.saturating_sub(near.depth) != far {
+        return None;
+    }
+    Some(near.jump)
+}
+
 // How many points of a class are before a new one, and the place of one of them: from one to the
 // next a search leaves out about half of those that are left.
 fn jump_for(links: &Links, points: &[Found], class: ClassId, time: u64) -> (u32, u32)
@@ -106,23 +123,10 @@ fn jump_for(links: &Links, points: &[Found], class: ClassId, time: u64) -> (u32,
     if point.time.0 == time {
         return (point.depth, point.jump);
     }
-    let depth = point.depth.saturating_add(1);
-    if point.jump as usize >= points.len() {
-        return (depth, last);
-    }
-    let near = points[point.jump as usize];
-    if near.jump as usize >= points.len() {
-        return (depth, last);
-    }
-    let far = points[near.jump as usize];
-    let (one, other) = (
-        point.depth.saturating_sub(near.depth),
-        near.depth.saturating_sub(far.depth),
-    );
-    if one == other {
-        return (depth, near.jump);
-    }
-    (depth, last)
+    (
+        point.depth.saturating_add(1),
+        far_jump(points, point).unwrap_or(last),
+    )
 }
 
 // Puts a point of a class behind all, or in place of the last one of the class where that is of the

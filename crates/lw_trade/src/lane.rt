@@ -67,15 +67,11 @@ impl Lane {
     pub(crate) fn take(&mut self, left: u64) -> Option<(u64, u32)>
         ensures { IsLaneTaken self.old self.new left result }
     {
-        let Some(first) = self.queue.front() else {
-            return None;
-        };
+        let first = self.queue.front()?;
         if first.0 != left {
             return None;
         }
-        let Some(taken) = self.queue.pop_front() else {
-            return None;
-        };
+        let taken = self.queue.pop_front()?;
         Some(taken.1)
     }
 }

@@ -18,6 +18,7 @@ mod looking;
 mod looks;
 mod making;
 mod ordering;
+mod plan;
 mod point;
 mod pricing;
 mod queue;

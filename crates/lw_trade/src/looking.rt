@@ -1,8 +1,6 @@
 // The choices with a pin in a group, looked at at the time at which the group comes.
 ghost use Rattle.std.specs.Prelude.{◌≡◌, ◌<◌, ◌≤◌, IsFalse, IsTrue, OnOk, length};
-ghost use Rattle.lw_trade.specs.Jobs.{AreGroupsOver, AreTalliedIn, ForAnyTask, IsReadyAt, IsReadyFor, IsUnderWay};
-ghost use Rattle.lw_trade.specs.Seen.{HasUnseen};
-ghost use Rattle.lw_trade.specs.Settling.{GivesNoMoreSeen, IsGroupLookedAt, IsLookedAt};
+ghost use Rattle.lw_trade.specs.Jobs.{AreGroupsOver, AreTalliedIn, GivesNoMoreIn, IsGroupLookedAtIn, IsLookedAtIn, IsReadyAt, IsReadyFor, IsUnderWay};
 
 use crate::area::MOST_AREA;
 use crate::fronts::Fronts;
@@ -16,9 +14,7 @@ use std::alloc::AllocError;
 pub(crate) fn may_give(job: &Job, seen: &Seen, fronts: &Fronts, number: u32, time: u64) -> bool
     requires { IsReadyFor job.now time seen.now fronts.now }
     ensures listed { IsTrue result → number < length job.now.rows.now }
-    ensures no_more { IsFalse result → ForAnyTask job.now (λ s choices.
-        GivesNoMoreSeen s choices fronts.now.spots
-        (HasUnseen job.now.uses.now seen.now.areas.items fronts.now.spots time) time number) }
+    ensures no_more { IsFalse result → GivesNoMoreIn job.now seen.now fronts.now time number }
 {
     let place = number as usize;
     if place >= seen.tallies.len() {
@@ -46,10 +42,8 @@ fn look_at(
     requires time { time ≤ queue.old.horizon }
     requires ready { IsReadyFor job.now time seen.now fronts.now }
     ensures horizon { queue.new.horizon ≡ queue.old.horizon }
-    ensures looked { OnOk result (ForAnyTask job.now (λ s choices.
-        IsLookedAt s choices fronts.now.spots
-        (HasUnseen job.now.uses.now seen.now.areas.items fronts.now.spots time)
-        queue.old queue.new time number)) }
+    ensures looked { OnOk result (IsLookedAtIn job.now seen.now fronts.now time number queue.old
+        queue.new) }
 {
     if may_give(job, seen, fronts, number, time) {
         queue.push(0, time, 0, number)?;
@@ -71,11 +65,8 @@ fn look_at_group(
     requires time { time ≤ queue.old.horizon }
     requires ready { IsReadyAt job.now time seen.now fronts.now group }
     ensures horizon { queue.new.horizon ≡ queue.old.horizon }
-    ensures looked { OnOk result (ForAnyTask job.now (λ s choices.
-        IsGroupLookedAt s choices fronts.now.spots
-        (HasUnseen job.now.uses.now seen.now.areas.items fronts.now.spots time)
-        job.now.uses.now.members.classes job.now.uses.now.owners.items queue.old queue.new time
-        group)) }
+    ensures looked { OnOk result (IsGroupLookedAtIn job.now seen.now fronts.now time group
+        queue.old queue.new) }
 {
     let uses = job.uses;
     let _ = uses.members.len();

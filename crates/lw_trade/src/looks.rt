@@ -15,22 +15,17 @@ pub(crate) struct Looks {
 }
 
 // Appends the choices with a pin in a group, the last pin first.
-fn list_group(
-    members: &Links,
-    owners: &[u32],
-    group: u32,
-    numbers: &mut Vec<u32>,
-) -> Result<(), AllocError>
-    requires group { group < members.now.count }
-    requires one_each { length owners.now ≡ length members.now.classes }
-    ensures { OnOk result (AreOwnersAdded members.now.classes owners.now group numbers.old.items
-        numbers.new.items) }
+fn list_group(pins: &Links, owners: &[u32], group: u32, to: &mut Vec<u32>) -> Result<(), AllocError>
+    requires group { group < pins.now.count }
+    requires one_each { length owners.now ≡ length pins.now.classes }
+    ensures { OnOk result (AreOwnersAdded pins.now.classes owners.now group to.old.items
+        to.new.items) }
 {
-    let _ = members.len();
-    let mut next = members.last(ClassId(group));
+    let _ = pins.len();
+    let mut next = pins.last(ClassId(group));
     while let Some(place) = next {
-        numbers.push(owners[place as usize])?;
-        next = members.before(place);
+        to.push(owners[place as usize])?;
+        next = pins.before(place);
     }
     Ok(())
 }

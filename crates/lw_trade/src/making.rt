@@ -1,14 +1,10 @@
-ghost use Rattle.std.specs.Prelude.{◌<◌, ◌≤◌, List, IfErr, IfOk, OnOk, length};
-ghost use Rattle.lw_laws.specs.Covers.{Pattern as TreeOfCell};
-ghost use Rattle.lw_laws.specs.Graphs.{Graph as PlainGraph};
+ghost use Rattle.std.specs.Prelude.{◌<◌, ◌≤◌, IfErr, IfOk, OnOk, length};
 ghost use Rattle.lw_match.specs.Least.{AreOfCells};
 ghost use Rattle.lw_trade.specs.Areas.{area_cost};
-ghost use Rattle.lw_trade.specs.Choices.{AreListedChoices};
 ghost use Rattle.lw_trade.specs.Groups.{HaveWays};
-ghost use Rattle.lw_trade.specs.Jobs.{HasNoPoints, HaveFronts, IsJob, MayBegin, WhereListed};
+ghost use Rattle.lw_trade.specs.Jobs.{AreListedSomewhere, HasNoPoints, HaveFronts, HaveFrontsOf, IsJob, IsStopFor, IsStopOf, MayBegin};
 ghost use Rattle.lw_trade.specs.Points.{AreCurves, BoundCovers, IsWhy, most_points, point_count, task};
-ghost use Rattle.lw_trade.specs.Rows.{AreRowsFor, plain_rows};
-ghost use Rattle.lw_trade.specs.Settling.{IsStop};
+ghost use Rattle.lw_trade.specs.Rows.{AreRowsFor};
 
 use crate::choices::{Row, list_choices};
 use crate::fronts::Fronts;
@@ -37,10 +33,9 @@ fn settle_fronts(
     requires job { IsJob (length fronts.old.least) job.now }
     requires begun { MayBegin job.now horizon queue.old }
     requires none { HasNoPoints fronts.old }
-    ensures settled { OnOk result (HaveFronts job.now.lib.now job.now.starts.now job.now.rows.now
-        (length fronts.old.least) horizon fronts.new) }
-    ensures stop { IfErr result (λ fault. WhereListed job.now.lib.now job.now.starts.now
-        job.now.rows.now (λ s choices. IsStop s choices horizon fault)) }
+    ensures settled { OnOk result (HaveFrontsOf job.now (length fronts.old.least) horizon
+        fronts.new) }
+    ensures stop { IfErr result (IsStopOf job.now horizon) }
 {
     let _ = job.lib.len();
     let mut coming = Queue::new(alloc, horizon, job.uses.steps.len())?;
@@ -58,10 +53,8 @@ fn settle_job(
 ) -> Result<Fronts, CurveFault>
     requires job { IsJob classes job.now }
     requires begun { MayBegin job.now horizon queue.old }
-    ensures settled { IfOk result (HaveFronts job.now.lib.now job.now.starts.now job.now.rows.now
-        classes horizon) }
-    ensures stop { IfErr result (λ fault. WhereListed job.now.lib.now job.now.starts.now
-        job.now.rows.now (λ s choices. IsStop s choices horizon fault)) }
+    ensures settled { IfOk result (HaveFrontsOf job.now classes horizon) }
+    ensures stop { IfErr result (IsStopOf job.now horizon) }
 {
     let mut fronts = Fronts::new(alloc, classes as usize)?;
     settle_fronts(alloc, job, &mut fronts, queue, horizon)?;
@@ -78,11 +71,9 @@ fn settle_rows(
     horizon: u64,
 ) -> Result<Fronts, CurveFault>
     requires rows { AreRowsFor lib.now classes rows.now }
-    requires listed { (g : PlainGraph) × (pats : List TreeOfCell) ×
-        AreListedChoices (task g pats lib.now starts.now) (plain_rows rows.now) }
+    requires listed { AreListedSomewhere lib.now starts.now rows.now }
     ensures settled { IfOk result (HaveFronts lib.now starts.now rows.now classes horizon) }
-    ensures stop { IfErr result (λ fault. WhereListed lib.now starts.now rows.now
-        (λ s choices. IsStop s choices horizon fault)) }
+    ensures stop { IfErr result (IsStopFor lib.now starts.now rows.now horizon) }
 {
     let uses = uses_of(alloc, rows, lib, classes as usize)?;
     let mut queue = started(alloc, rows, starts, horizon)?;

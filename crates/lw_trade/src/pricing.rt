@@ -4,7 +4,7 @@ ghost use Rattle.lw_laws.specs.Covers.{start_of};
 ghost use Rattle.lw_laws.specs.Graphs.{Graph as PlainGraph};
 ghost use Rattle.lw_laws.specs.Covers.{Pattern as TreeOfCell};
 ghost use Rattle.lw_trade.specs.Areas.{most_area};
-ghost use Rattle.lw_trade.specs.Points.{task};
+ghost use Rattle.lw_trade.specs.Jobs.{task_of};
 ghost use Rattle.lw_trade.specs.Pricing.{IsBestOfPins, IsPartFor};
 ghost use Rattle.lw_trade.specs.Rows.{plain_part};
 ghost use Rattle.lw_trade.specs.Settling.{IsBest};
@@ -13,8 +13,8 @@ ghost use Rattle.lw_pool.specs.Numbers.{numbers};
 use crate::area::joined;
 use crate::choices::Stand;
 use crate::fronts::Fronts;
+use crate::job::Job;
 use lw_fixed::Micro;
-use lw_genlib::Library;
 use lw_pool::ClassId;
 
 /// When an input starts.
@@ -43,41 +43,26 @@ fn area_of_pins(delays: &[Micro], pins: &[ClassId], fronts: &Fronts, time: u64) 
         if delays[pin].0 > time {
             return None;
         }
-        let Some(first) = fronts.area_by(pins[pin], time - delays[pin].0) else {
-            return None;
-        };
+        let first = fronts.area_by(pins[pin], time - delays[pin].0)?;
         area = joined(first, area);
     }
     Some(area)
 }
 
 /// The least area that a choice gives by a time, with the points that were found so far.
-pub(crate) fn price(
-    stand: &Stand,
-    lib: &Library,
-    starts: &[Micro],
-    fronts: &Fronts,
-    time: u64,
-) -> Option<u64>
-    requires { IsPartFor lib.now (length fronts.now.least) (plain_part stand.now) }
+pub(crate) fn price(stand: &Stand, job: &Job, fronts: &Fronts, time: u64) -> Option<u64>
+    requires { IsPartFor job.now.lib.now (length fronts.now.least) (plain_part stand.now) }
     ensures low { IfSome result (λ area. area ≤ most_area) }
     ensures best { (g : PlainGraph) (pats : List TreeOfCell) →
-        IsBest (task g pats lib.now starts.now) fronts.now.spots
-        (plain_part stand.now) time result }
+        IsBest (task_of job.now g pats) fronts.now.spots (plain_part stand.now) time result }
 {
     match stand {
-        Stand::Input(input) => {
-            if start_of(starts, *input) > time {
-                return None;
-            }
-            Some(0)
-        }
+        Stand::Input(input) if start_of(job.starts, *input) > time => None,
+        Stand::Input(_) => Some(0),
         Stand::Gate(gate) => {
-            let cell = lib.cell(gate.cell);
-            match area_of_pins(cell.delays(), gate.pins.as_slice(), fronts, time) {
-                Some(pins) => Some(joined(cell.area().0, pins)),
-                None => None,
-            }
+            let cell = job.lib.cell(gate.cell);
+            let pins = area_of_pins(cell.delays(), gate.pins.as_slice(), fronts, time)?;
+            Some(joined(cell.area().0, pins))
         }
     }
 }

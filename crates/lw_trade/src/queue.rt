@@ -123,15 +123,11 @@ impl Queue {
             self.at = lane;
             return Some(found);
         }
-        let Some(first) = most_in_heap(&self.heap) else {
-            return None;
-        };
+        let first = most_in_heap(&self.heap)?;
         if first != left {
             return None;
         }
-        let Some(taken) = self.heap.pop() else {
-            return None;
-        };
+        let taken = self.heap.pop()?;
         Some(taken.1)
     }
 }

@@ -95,7 +95,7 @@ fn next_gain(
             continue;
         }
         let row = &job.rows[number as usize];
-        let Some(area) = price(&row.stand, job.lib, job.starts, fronts, time) else {
+        let Some(area) = price(&row.stand, job, fronts, time) else {
             continue;
         };
         if fronts.gain(row.class, time, area, number)? {

@@ -2,9 +2,9 @@
 use crate::checking::is_cut;
 use crate::choices::Stand;
 use crate::grouping::Curves;
-use crate::walking::{NO_GATE, Node, gate_of};
+use crate::plan::{Plan, demand_of, small};
+use crate::walking::{NO_GATE, Node, Trail};
 use lw_fixed::Micro;
-use lw_genlib::Library;
 use lw_pool::ClassId;
 use std::alloc::{AllocError, Global};
 
@@ -30,18 +30,12 @@ fn rank_of(curves: &Curves, class: ClassId) -> Option<Rank> {
 }
 
 // The ranks of the classes that no input has, the lowest first.
-fn ranks_of(
-    alloc: Global,
-    curves: &Curves,
-    inputs: &[Option<u32>],
-) -> Result<Vec<Rank>, AllocError> {
+fn ranks_of(alloc: Global, plan: &Plan) -> Result<Vec<Rank>, AllocError> {
     let mut ranks = Vec::new(alloc);
-    for class in 0..inputs.len() {
-        let Ok(number) = u32::try_from(class) else {
-            return Err(AllocError);
-        };
-        if inputs[class].is_none() {
-            if let Some(rank) = rank_of(curves, ClassId(number)) {
+    for class in 0..plan.inputs.len() {
+        let number = small(class)?;
+        if plan.inputs[class].is_none() {
+            if let Some(rank) = rank_of(plan.curves, ClassId(number)) {
                 ranks.push(rank)?;
             }
         }
@@ -51,54 +45,49 @@ fn ranks_of(
 }
 
 // Whether a class is an input's, or of lower rank than another.
-fn is_lower(curves: &Curves, inputs: &[Option<u32>], class: ClassId, rank: Rank) -> bool {
-    if class.0 as usize >= inputs.len() {
+fn is_lower(plan: &Plan, class: ClassId, rank: Rank) -> bool {
+    if class.0 as usize >= plan.inputs.len() {
         return false;
     }
-    if inputs[class.0 as usize].is_some() {
+    if plan.inputs[class.0 as usize].is_some() {
         return true;
     }
-    match rank_of(curves, class) {
+    match rank_of(plan.curves, class) {
         Some(own) => own < rank,
         None => false,
     }
 }
 
 // Whether each pin of the gate of a point is an input's, or of lower rank than its class.
-fn fits(curves: &Curves, inputs: &[Option<u32>], rank: Rank, place: u32) -> bool {
-    match curves.stand(rank.class, place) {
-        Some(Stand::Gate(gate)) => {
-            for pin in gate.pins.as_slice() {
-                if !is_lower(curves, inputs, *pin, rank) {
-                    return false;
-                }
-            }
-            true
+fn fits(plan: &Plan, rank: Rank, place: u32) -> bool {
+    let Some(Stand::Gate(gate)) = plan.curves.stand(rank.class, place) else {
+        return false;
+    };
+    for pin in gate.pins.as_slice() {
+        if !is_lower(plan, *pin, rank) {
+            return false;
         }
-        _ => false,
     }
+    true
 }
 
 // The latest place that is no later than a last one and has an exact gate.
 fn owned_place(gates: &[u32], last: u32) -> Option<u32> {
     for place in (0..gates.len()).rev() {
-        if gates[place] != NO_GATE {
-            match u32::try_from(place) {
-                Ok(place) if place <= last => return Some(place),
-                _ => {}
-            }
+        if gates[place] != NO_GATE && place <= last as usize {
+            return u32::try_from(place).ok();
         }
     }
     None
 }
 
 // The latest place that is no later than a last one, and whose gate has pins of lower rank only.
-fn fitting_place(curves: &Curves, inputs: &[Option<u32>], rank: Rank, last: u32) -> Option<u32> {
-    if fits(curves, inputs, rank, last) {
+fn fitting_place(plan: &Plan, rank: Rank, last: u32) -> Option<u32> {
+    if fits(plan, rank, last) {
         return Some(last);
     }
     for place in (0..last).rev() {
-        if fits(curves, inputs, rank, place) {
+        if fits(plan, rank, place) {
             return Some(place);
         }
     }
@@ -117,113 +106,62 @@ fn need(needs: &mut Vec<Option<u64>>, class: ClassId, time: u64) {
 }
 
 // Notes what the pins of the gate of a point need.
-fn need_pins(
-    curves: &Curves,
-    lib: &Library,
-    needs: &mut Vec<Option<u64>>,
-    node: Node,
-) -> Result<(), AllocError> {
-    let Some((gate, time)) = gate_of(curves, node) else {
-        return Err(AllocError);
-    };
-    if gate.cell.0 >= lib.len() {
-        return Err(AllocError);
-    }
-    let delays = lib.cell(gate.cell).delays();
-    for (pin, delay) in gate.pins.as_slice().iter().zip(delays) {
-        need(needs, *pin, time.saturating_sub(delay.0));
-    }
-    Ok(())
-}
-
-// The times by which the roots that are cut need their classes.
-fn needs_of_roots(
-    alloc: Global,
-    curves: &Curves,
-    classes: usize,
-    roots: &[ClassId],
-    times: &[Micro],
-) -> Result<Vec<Option<u64>>, AllocError> {
-    let mut needs = vec![in alloc; None; classes]?;
-    for (root, time) in roots.iter().zip(times) {
-        if is_cut(curves, *root, time.0) {
-            need(&mut needs, *root, time.0);
-        }
-    }
-    Ok(needs)
-}
-
-// The place of the point that is shared of a class needed by a time: the latest with an exact gate,
-// or else the latest that fits, whose pins are needed then.
-fn choose(
-    curves: &Curves,
-    inputs: &[Option<u32>],
-    lib: &Library,
-    gates: &[u32],
-    needs: &mut Vec<Option<u64>>,
-    rank: Rank,
-    time: u64,
-) -> Result<u32, AllocError> {
-    let Some(last) = curves.last_by(rank.class, 0, time) else {
-        return Err(AllocError);
-    };
-    let Ok(last) = u32::try_from(last) else {
-        return Err(AllocError);
-    };
-    if let Some(place) = owned_place(gates, last) {
-        return Ok(place);
-    }
-    let Some(place) = fitting_place(curves, inputs, rank, last) else {
-        return Err(AllocError);
-    };
-    let class = rank.class;
+fn need_pins(plan: &Plan, trail: &mut Trail, class: ClassId, place: u32) -> Result<(), AllocError> {
     let node = Node {
         class,
         place,
         exact: false,
     };
-    need_pins(curves, lib, needs, node)?;
+    let demand = demand_of(plan, node).ok_or(AllocError)?;
+    for (pin, delay) in demand.pins.iter().zip(demand.delays) {
+        need(&mut trail.needs, *pin, demand.time.saturating_sub(delay.0));
+    }
+    Ok(())
+}
+
+// Notes the times by which the roots that are cut need their classes.
+fn need_roots(plan: &Plan, trail: &mut Trail) {
+    for (root, time) in plan.roots.iter().zip(plan.times) {
+        if is_cut(plan.curves, *root, time.0) {
+            need(&mut trail.needs, *root, time.0);
+        }
+    }
+}
+
+// The place of the point that is shared of a class needed by a time: the latest with an exact gate,
+// or else the latest that fits, whose pins are needed then.
+fn place_by(plan: &Plan, trail: &mut Trail, rank: Rank, time: u64) -> Result<u32, AllocError> {
+    let last = plan.curves.last_by(rank.class, 0, time).ok_or(AllocError)?;
+    let last = small(last)?;
+    let gates = trail.owners.get(rank.class.0 as usize).ok_or(AllocError)?;
+    if let Some(place) = owned_place(gates.as_slice(), last) {
+        return Ok(place);
+    }
+    let place = fitting_place(plan, rank, last).ok_or(AllocError)?;
+    need_pins(plan, trail, rank.class, place)?;
     Ok(place)
 }
 
-// Chooses the place of the point that is shared of each class that is needed, the highest first.
-fn choose_places(
-    curves: &Curves,
-    inputs: &[Option<u32>],
-    lib: &Library,
-    owners: &[Vec<u32>],
-    ranks: &[Rank],
-    needs: &mut Vec<Option<u64>>,
-    places: &mut Vec<u32>,
-) -> Result<(), AllocError> {
-    for rank in ranks.iter().rev() {
-        let class = rank.class.0 as usize;
-        if class >= owners.len() || class >= needs.len() {
-            return Err(AllocError);
-        }
-        if let Some(time) = needs[class] {
-            let place = choose(curves, inputs, lib, &owners[class], needs, *rank, time)?;
-            if class < places.len() {
-                places[class] = place;
-            }
+// Chooses the place of the point that is shared of a class, if that is needed.
+fn choose(plan: &Plan, trail: &mut Trail, rank: Rank) -> Result<(), AllocError> {
+    let class = rank.class.0 as usize;
+    if let Some(time) = *trail.needs.get(class).ok_or(AllocError)? {
+        let place = place_by(plan, trail, rank, time)?;
+        if class < trail.places.len() {
+            trail.places[class] = place;
         }
     }
     Ok(())
 }
 
-/// Chooses the place of the point of each class that is shared, given the exact gates of each. Each
-/// class is needed by a time by roots, or by the pins of those that are chosen before it.
-pub(crate) fn share_places(
-    alloc: Global,
-    curves: &Curves,
-    inputs: &[Option<u32>],
-    lib: &Library,
-    owners: &[Vec<u32>],
-    places: &mut Vec<u32>,
-    roots: &[ClassId],
-    times: &[Micro],
-) -> Result<(), AllocError> {
-    let mut needs = needs_of_roots(alloc, curves, inputs.len(), roots, times)?;
-    let ranks = ranks_of(alloc, curves, inputs)?;
-    choose_places(curves, inputs, lib, owners, &ranks, &mut needs, places)
+/// Chooses the place of the point of each class that is shared, given the exact gates of each, the
+/// highest class first. Each class is needed by a time by roots, or by the pins of those that are
+/// chosen before it.
+pub(crate) fn share(alloc: Global, plan: &Plan, trail: &mut Trail) -> Result<(), AllocError> {
+    need_roots(plan, trail);
+    let ranks = ranks_of(alloc, plan)?;
+    for rank in ranks.iter().rev() {
+        choose(plan, trail, *rank)?;
+    }
+    Ok(())
 }

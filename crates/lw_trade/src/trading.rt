@@ -39,8 +39,6 @@ pub fn trade(
     ensures { IfOk result (IsTraded (task graph.now pats.now lib.now starts.now) targets.now) }
 {
     let _ = lib.len();
-    let roots = targets.roots.as_slice();
-    let times = targets.times.as_slice();
-    let walk = walk_down(alloc, graph, lib, curves, roots, times)?;
+    let walk = walk_down(alloc, graph, lib, curves, targets)?;
     assemble(alloc, graph.inputs(), &walk, targets)
 }

@@ -185,12 +185,7 @@ fn no_uses(alloc: Global, classes: usize) -> Result<Uses, AllocError>
 }
 
 // Adds the pins of all choices, and then what looks need.
-fn add_choices(
-    alloc: Global,
-    uses: &mut Uses,
-    rows: &[Row],
-    lib: &Library,
-) -> Result<(), AllocError>
+fn add_all(alloc: Global, uses: &mut Uses, rows: &[Row], lib: &Library) -> Result<(), AllocError>
     requires rows { ArePartsFor lib.now uses.old.links.count rows.now }
     requires none { HasNoUses uses.old }
     ensures count { uses.new.links.count ≡ uses.old.links.count }
@@ -217,6 +212,6 @@ pub(crate) fn uses_of(
     ensures uses { IfOk result (AreUses lib.now (plain_rows rows.now)) }
 {
     let mut uses = no_uses(alloc, classes)?;
-    add_choices(alloc, &mut uses, rows, lib)?;
+    add_all(alloc, &mut uses, rows, lib)?;
     Ok(uses)
 }

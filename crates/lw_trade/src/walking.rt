@@ -1,17 +1,13 @@
 // The points that get a gate, as a walk from the roots down finds them.
-ghost use Rattle.std.specs.Prelude.{◌≡◌, ◌<◌, IfOk, IsTrue, List, length};
+ghost use Rattle.std.specs.Prelude.{◌<◌, IfOk, IsTrue, length};
 ghost use Rattle.lw_trade.specs.Checks.{IsRightWalk};
-ghost use Rattle.lw_trade.specs.Points.{Task};
-ghost use Rattle.lw_trade.specs.Targets.{AreCurvesFor};
-ghost use Rattle.lw_trade.specs.Trades.{Site};
-ghost use Rattle.lw_trade.specs.Walks.{AreInputsTo, IsWalk};
-ghost use Rattle.lw_trade.specs.declared.targets.Targets.{Targets as PlainTargets};
+ghost use Rattle.lw_trade.specs.Walks.{AreInputsTo, IsWalkBy, IsWalkDown};
 
 use crate::checking::{is_cut, is_right};
-use crate::choices::{Gate, Stand};
 use crate::grouping::Curves;
-use crate::sharing::share_places;
-use lw_fixed::Micro;
+use crate::plan::{Plan, Want, demand_of, pin_want, root_want, small};
+use crate::sharing::share;
+use crate::targets::Targets;
 use lw_genlib::Library;
 use lw_graph::Graph;
 use lw_pool::{CellId, ClassId, Numbers};
@@ -43,7 +39,8 @@ pub(crate) struct User {
 }
 
 /// The points that get a gate, what uses the net of each first, the exact gate of each point of
-/// each class, the shared gate of each class, and the place of the point that shared uses take.
+/// each class, the shared gate of each class, the place of the point that shared uses take, the time
+/// by which these need the class, whether roots that are cut share gates, and the walk.
 #[derive(Drop)]
 pub(crate) struct Trail {
     pub nodes: Vec<Node>,
@@ -51,15 +48,9 @@ pub(crate) struct Trail {
     pub owners: Vec<Vec<u32>>,
     pub spares: Vec<u32>,
     pub places: Vec<u32>,
-}
-
-// What a pin or a root uses: a class by a time, with a delay, by an exact gate or a shared one.
-#[derive(Clone, Copy, Debug)]
-struct Want {
-    class: ClassId,
-    delay: u64,
-    time: u64,
-    exact: bool,
+    pub needs: Vec<Option<u64>>,
+    pub sharing: bool,
+    pub walk: Walk,
 }
 
 /// The gate of a point that has none.
@@ -79,21 +70,36 @@ fn inputs_of(alloc: Global, graph: &Graph) -> Result<Vec<Option<u32>>, AllocErro
     Ok(inputs)
 }
 
-// No gates.
-fn no_trail(alloc: Global, curves: &Curves, classes: u32) -> Result<Trail, AllocError> {
-    let mut owners = Vec::with_capacity(alloc, classes as usize)?;
-    for class in 0..classes {
-        let Some(points) = curves.get(ClassId(class)) else {
-            return Err(AllocError);
-        };
+// No gates yet.
+fn no_walk(alloc: Global) -> Walk {
+    Walk {
+        cells: Vec::new(alloc),
+        pins: Vec::new(alloc),
+        nets: Vec::new(alloc),
+    }
+}
+
+// No gate for each point of each class.
+fn no_owners(alloc: Global, plan: &Plan) -> Result<Vec<Vec<u32>>, AllocError> {
+    let mut owners = Vec::with_capacity(alloc, plan.inputs.len())?;
+    for class in 0..plan.inputs.len() {
+        let points = plan.curves.get(ClassId(small(class)?)).ok_or(AllocError)?;
         owners.push(vec![in alloc; NO_GATE; points.len()]?)?;
     }
+    Ok(owners)
+}
+
+// The same with what else is known of them.
+fn no_trail(alloc: Global, plan: &Plan, sharing: bool) -> Result<Trail, AllocError> {
     Ok(Trail {
         nodes: Vec::new(alloc),
         users: Vec::new(alloc),
-        owners,
-        spares: vec![in alloc; NO_GATE; classes as usize]?,
-        places: vec![in alloc; NO_GATE; classes as usize]?,
+        owners: no_owners(alloc, plan)?,
+        spares: vec![in alloc; NO_GATE; plan.inputs.len()]?,
+        places: vec![in alloc; NO_GATE; plan.inputs.len()]?,
+        needs: vec![in alloc; None; plan.inputs.len()]?,
+        sharing,
+        walk: no_walk(alloc),
     })
 }
 
@@ -121,317 +127,151 @@ fn note_gate(trail: &mut Trail, node: Node, gate: u32) {
 
 // The gate of a point, which a user is the first to use where it has none.
 fn gate_at(trail: &mut Trail, node: Node, user: User) -> Result<u32, AllocError> {
-    let Some(gate) = gate_of_node(trail, node) else {
-        return Err(AllocError);
-    };
+    let gate = gate_of_node(trail, node).ok_or(AllocError)?;
     if gate != NO_GATE {
         return Ok(gate);
     }
-    let Ok(gate) = u32::try_from(trail.nodes.len()) else {
-        return Err(AllocError);
-    };
+    let gate = small(trail.nodes.len())?;
     trail.nodes.push(node)?;
     trail.users.push(user)?;
     note_gate(trail, node, gate);
     Ok(gate)
 }
 
-// The point that is wanted: the last one by the time, or for a shared use that of its class.
-fn node_for(curves: &Curves, trail: &Trail, want: Want) -> Option<Node> {
-    let (class, exact) = (want.class, want.exact);
-    if !exact {
-        let place = *trail.places.get(class.0 as usize)?;
-        return Some(Node {
-            class,
-            place,
-            exact,
-        });
+// The place of the point that is wanted: of the last one by the time, or for a shared use of that
+// of its class.
+fn place_for(plan: &Plan, trail: &Trail, want: Want) -> Option<u32> {
+    if !want.exact {
+        return Some(*trail.places.get(want.class.0 as usize)?);
     }
-    let last = curves.last_by(class, want.delay, want.time)?;
-    let Ok(place) = u32::try_from(last) else {
-        return None;
-    };
+    let last = plan.curves.last_by(want.class, want.delay, want.time)?;
+    u32::try_from(last).ok()
+}
+
+// The point that is wanted.
+fn node_for(plan: &Plan, trail: &Trail, want: Want) -> Option<Node> {
     Some(Node {
-        class,
-        place,
-        exact,
+        class: want.class,
+        place: place_for(plan, trail, want)?,
+        exact: want.exact,
     })
 }
 
 // The net that is wanted: that of the input of the class, or of a point's gate.
-fn net_for(
-    curves: &Curves,
-    inputs: &[Option<u32>],
-    count: u32,
-    trail: &mut Trail,
-    want: Want,
-    user: User,
-) -> Result<u32, AllocError> {
-    if want.class.0 as usize >= inputs.len() {
-        return Err(AllocError);
-    }
-    if let Some(input) = inputs[want.class.0 as usize] {
+fn net_for(plan: &Plan, trail: &mut Trail, want: Want, user: User) -> Result<u32, AllocError> {
+    let input = plan.inputs.get(want.class.0 as usize).ok_or(AllocError)?;
+    if let Some(input) = *input {
         return Ok(input);
     }
-    let Some(node) = node_for(curves, trail, want) else {
-        return Err(AllocError);
-    };
+    let node = node_for(plan, trail, want).ok_or(AllocError)?;
     let gate = gate_at(trail, node, user)?;
-    match count.checked_add(gate) {
-        Some(net) => Ok(net),
-        None => Err(AllocError),
-    }
+    plan.count.checked_add(gate).ok_or(AllocError)
 }
 
 // Appends the nets of the roots, of which those that are cut may share gates.
-fn push_roots(
-    nets: &mut Vec<u32>,
-    curves: &Curves,
-    inputs: &[Option<u32>],
-    count: u32,
-    trail: &mut Trail,
-    roots: &[ClassId],
-    times: &[Micro],
-    sharing: bool,
-) -> Result<(), AllocError> {
-    nets.reserve(roots.len())?;
-    for (k, (root, time)) in roots.iter().zip(times).enumerate() {
-        let Ok(place) = u32::try_from(k) else {
-            return Err(AllocError);
-        };
-        let user = User { gate: None, place };
-        let want = Want {
-            class: *root,
-            delay: 0,
-            time: time.0,
-            exact: !sharing || !is_cut(curves, *root, time.0),
-        };
-        nets.push(net_for(curves, inputs, count, trail, want, user)?)?;
+fn push_roots(plan: &Plan, trail: &mut Trail) -> Result<(), AllocError> {
+    trail.walk.nets.reserve(plan.roots.len())?;
+    for (k, (root, time)) in plan.roots.iter().zip(plan.times).enumerate() {
+        let exact = !trail.sharing || !is_cut(plan.curves, *root, time.0);
+        let (want, place) = (root_want(*root, *time, exact), small(k)?);
+        let net = net_for(plan, trail, want, User { gate: None, place })?;
+        trail.walk.nets.push(net)?;
     }
     Ok(())
 }
 
 // Finds the exact gates of the roots whose last points by their times are not cut.
-fn start_at_roots(
-    curves: &Curves,
-    inputs: &[Option<u32>],
-    count: u32,
-    trail: &mut Trail,
-    roots: &[ClassId],
-    times: &[Micro],
-) -> Result<(), AllocError> {
-    for (k, (root, time)) in roots.iter().zip(times).enumerate() {
-        let Ok(place) = u32::try_from(k) else {
-            return Err(AllocError);
-        };
-        if !is_cut(curves, *root, time.0) {
-            let user = User { gate: None, place };
-            let want = Want {
-                class: *root,
-                delay: 0,
-                time: time.0,
-                exact: true,
-            };
-            net_for(curves, inputs, count, trail, want, user)?;
+fn start_at_roots(plan: &Plan, trail: &mut Trail) -> Result<(), AllocError> {
+    for (k, (root, time)) in plan.roots.iter().zip(plan.times).enumerate() {
+        let place = small(k)?;
+        if !is_cut(plan.curves, *root, time.0) {
+            let want = root_want(*root, *time, true);
+            net_for(plan, trail, want, User { gate: None, place })?;
         }
     }
     Ok(())
 }
 
-// Appends the nets of the pins of a gate with a number, whose point has a time.
-fn push_pins(
-    nets: &mut Vec<u32>,
-    curves: &Curves,
-    inputs: &[Option<u32>],
-    count: u32,
-    trail: &mut Trail,
-    delays: &[Micro],
-    pins: &[ClassId],
-    time: u64,
-    exact: bool,
-    number: u32,
-) -> Result<(), AllocError> {
-    for (pin, class) in pins.iter().enumerate() {
-        if pin >= delays.len() {
-            return Err(AllocError);
-        }
-        let Ok(place) = u32::try_from(pin) else {
-            return Err(AllocError);
-        };
-        let user = User {
-            gate: Some(number),
-            place,
-        };
-        let want = Want {
-            class: *class,
-            delay: delays[pin].0,
-            time,
-            exact,
-        };
-        nets.push(net_for(curves, inputs, count, trail, want, user)?)?;
-    }
-    Ok(())
-}
-
-/// The gate of a point, and the time of the point.
-pub(crate) fn gate_of(curves: &Curves, node: Node) -> Option<(&Gate, u64)> {
-    let points = curves.get(node.class)?;
-    let place = node.place as usize;
-    if place >= points.len() {
-        return None;
-    }
-    match curves.stand(node.class, node.place) {
-        Some(Stand::Gate(gate)) => Some((gate, points[place].time.0)),
-        _ => None,
-    }
-}
-
-// The cell of the gate of a node that was found, and the nets of its pins.
-fn go_through(
-    alloc: Global,
-    curves: &Curves,
-    inputs: &[Option<u32>],
-    count: u32,
-    lib: &Library,
-    trail: &mut Trail,
-    at: usize,
-) -> Result<(CellId, Numbers), AllocError>
+// Goes on to the pins of a gate that was found: its cell, and the nets of the pins.
+fn go_through(alloc: Global, plan: &Plan, trail: &mut Trail, at: usize) -> Result<(), AllocError>
     requires { at < length trail.old.nodes.items }
 {
-    let node = trail.nodes[at];
-    let Some((gate, time)) = gate_of(curves, node) else {
-        return Err(AllocError);
-    };
-    if gate.cell.0 >= lib.len() {
-        return Err(AllocError);
+    let demand = demand_of(plan, trail.nodes[at]).ok_or(AllocError)?;
+    let gate = Some(small(at)?);
+    let mut row = Vec::with_capacity(alloc, demand.pins.len())?;
+    for pin in 0..demand.pins.len().min(demand.delays.len()) {
+        let place = small(pin)?;
+        let want = pin_want(&demand, pin);
+        row.push(net_for(plan, trail, want, User { gate, place })?)?;
     }
-    let Ok(number) = u32::try_from(at) else {
-        return Err(AllocError);
-    };
-    let (delays, pins) = (lib.cell(gate.cell).delays(), gate.pins.as_slice());
-    let mut row = Vec::with_capacity(alloc, pins.len())?;
-    push_pins(
-        &mut row, curves, inputs, count, trail, delays, pins, time, node.exact, number,
-    )?;
-    Ok((gate.cell, Numbers::new(row)))
+    trail.walk.cells.push(demand.cell)?;
+    trail.walk.pins.push(Numbers::new(row))?;
+    Ok(())
 }
 
 // Goes on to the pins of each gate that was found and not yet gone through.
-fn walk_on(
-    alloc: Global,
-    curves: &Curves,
-    inputs: &[Option<u32>],
-    count: u32,
-    lib: &Library,
-    trail: &mut Trail,
-    walk: &mut Walk,
-) -> Result<(), AllocError> {
-    for at in walk.cells.len()..MOST_GATES {
+fn walk_on(alloc: Global, plan: &Plan, trail: &mut Trail) -> Result<(), AllocError> {
+    for at in trail.walk.cells.len()..MOST_GATES {
         if at >= trail.nodes.len() {
             break;
         }
-        let (cell, row) = go_through(alloc, curves, inputs, count, lib, trail, at)?;
-        walk.cells.push(cell)?;
-        walk.pins.push(row)?;
+        go_through(alloc, plan, trail, at)?;
     }
     Ok(())
 }
 
 // Walks from the roots that are not cut, and then chooses the points that the others share.
-fn walk_first(
-    alloc: Global,
-    curves: &Curves,
-    inputs: &[Option<u32>],
-    count: u32,
-    lib: &Library,
-    trail: &mut Trail,
-    walk: &mut Walk,
-    roots: &[ClassId],
-    times: &[Micro],
-) -> Result<(), AllocError> {
-    start_at_roots(curves, inputs, count, trail, roots, times)?;
-    walk_on(alloc, curves, inputs, count, lib, trail, walk)?;
-    let places = &mut trail.places;
-    share_places(
-        alloc,
-        curves,
-        inputs,
-        lib,
-        &trail.owners,
-        places,
-        roots,
-        times,
-    )
+fn walk_first(alloc: Global, plan: &Plan, trail: &mut Trail) -> Result<(), AllocError> {
+    start_at_roots(plan, trail)?;
+    walk_on(alloc, plan, trail)?;
+    share(alloc, plan, trail)
 }
 
-// Walks from the roots down, of which those that are cut may share gates, and says whether what was
-// found is right.
-fn walk_through(
-    alloc: Global,
-    curves: &Curves,
-    inputs: &[Option<u32>],
-    count: u32,
-    lib: &Library,
-    trail: &mut Trail,
-    walk: &mut Walk,
-    roots: &[ClassId],
-    times: &[Micro],
-    sharing: bool,
-) -> Result<bool, AllocError>
-    ensures { IfOk result (λ right. IsTrue right → IsRightWalk curves.now inputs.now count lib.now
-        roots.now times.now trail.new.nodes.items trail.new.owners.items trail.new.spares.items
-        walk.new.cells.items walk.new.pins.items walk.new.nets.items) }
+// Walks from the roots down, and says whether what was found is right.
+fn walk_through(alloc: Global, plan: &Plan, trail: &mut Trail) -> Result<bool, AllocError>
+    ensures { IfOk result (λ right. IsTrue right → IsRightWalk plan.now trail.new) }
 {
-    if sharing {
-        walk_first(alloc, curves, inputs, count, lib, trail, walk, roots, times)?;
+    if trail.sharing {
+        walk_first(alloc, plan, trail)?;
     }
-    let nets = &mut walk.nets;
-    push_roots(nets, curves, inputs, count, trail, roots, times, sharing)?;
-    walk_on(alloc, curves, inputs, count, lib, trail, walk)?;
-    Ok(is_right(curves, inputs, count, lib, trail, walk, roots, times))
+    push_roots(plan, trail)?;
+    walk_on(alloc, plan, trail)?;
+    Ok(is_right(plan, trail))
 }
 
 // Walks from the roots down, of which those that are cut may share gates. What was found is looked
 // through once more, so that the walk itself need not be known to be right.
-fn walk_by(
-    alloc: Global,
-    graph: &Graph,
-    inputs: &[Option<u32>],
-    lib: &Library,
-    curves: &Curves,
-    roots: &[ClassId],
-    times: &[Micro],
-    sharing: bool,
-) -> Result<Walk, AllocError>
-    ensures { IfOk result (λ w. AreInputsTo graph.now (length graph.now.leaves) inputs.now →
-        (s : Task) (t : PlainTargets) (c : AreCurvesFor s t curves.now) →
-        s.graph ≡ graph.now → s.cells ≡ lib.now → t.roots ≡ roots.now → t.times ≡ times.now →
-        (sites : List Site) × IsWalk s curves.now.choices c.ways.held sites roots.now times.now
-        w.cells.items w.pins.items w.nets.items) }
+fn walk_by(alloc: Global, plan: &Plan, sharing: bool) -> Result<Walk, AllocError>
+    ensures { IfOk result (IsWalkBy plan.now) }
 {
-    let count = graph.inputs();
-    let mut trail = no_trail(alloc, curves, graph.classes())?;
-    let mut walk = Walk {
-        cells: Vec::new(alloc),
-        pins: Vec::new(alloc),
-        nets: Vec::new(alloc),
-    };
-    if walk_through(
-        alloc, curves, inputs, count, lib, &mut trail, &mut walk, roots, times, sharing,
-    )? {
-        return Ok(walk);
+    let mut trail = no_trail(alloc, plan, sharing)?;
+    if walk_through(alloc, plan, &mut trail)? {
+        return Ok(trail.walk);
     }
     Err(AllocError)
 }
 
 // Whether a root is cut.
-fn has_cut(curves: &Curves, roots: &[ClassId], times: &[Micro]) -> bool {
-    for (root, time) in roots.iter().zip(times) {
-        if is_cut(curves, *root, time.0) {
+fn has_cut(plan: &Plan) -> bool {
+    for (root, time) in plan.roots.iter().zip(plan.times) {
+        if is_cut(plan.curves, *root, time.0) {
             return true;
         }
     }
     false
+}
+
+// Walks from the roots down. A root whose last point has the greatest area that is told takes any
+// point in time, and shares gates. Where that fails, no root does.
+fn walk_either(alloc: Global, plan: &Plan) -> Result<Walk, AllocError>
+    ensures { IfOk result (IsWalkBy plan.now) }
+{
+    if has_cut(plan) {
+        if let Ok(walk) = walk_by(alloc, plan, true) {
+            return Ok(walk);
+        }
+    }
+    walk_by(alloc, plan, false)
 }
 
 /// Walks from the roots down: each root takes the last point of its class by its time, and each
@@ -443,19 +283,18 @@ pub(crate) fn walk_down(
     graph: &Graph,
     lib: &Library,
     curves: &Curves,
-    roots: &[ClassId],
-    times: &[Micro],
+    targets: &Targets,
 ) -> Result<Walk, AllocError>
-    ensures { IfOk result (λ w. (s : Task) (t : PlainTargets) (c : AreCurvesFor s t curves.now) →
-        s.graph ≡ graph.now → s.cells ≡ lib.now → t.roots ≡ roots.now → t.times ≡ times.now →
-        (sites : List Site) × IsWalk s curves.now.choices c.ways.held sites roots.now times.now
-        w.cells.items w.pins.items w.nets.items) }
+    ensures { IfOk result (IsWalkDown graph.now lib.now curves.now targets.now) }
 {
     let inputs = inputs_of(alloc, graph)?;
-    if has_cut(curves, roots, times) {
-        if let Ok(walk) = walk_by(alloc, graph, &inputs, lib, curves, roots, times, true) {
-            return Ok(walk);
-        }
-    }
-    walk_by(alloc, graph, &inputs, lib, curves, roots, times, false)
+    let plan = Plan {
+        curves,
+        inputs: &inputs,
+        count: graph.inputs(),
+        lib,
+        roots: targets.roots.as_slice(),
+        times: targets.times.as_slice(),
+    };
+    walk_either(alloc, &plan)
 }

@@ -5,4 +5,4 @@ use Rattle.lw_trade.specs.Checks.{IsRootBy}
 use Rattle.lw_trade.proofs.checking.are_roots.Given as goal
 
 abbrev pub invariant-loop-k : goal.invariant-loop-k
-invariant-loop-k l = (i : ℕ) (root : ClassId) (time : Micro) (net : ℕ) → i < l.k → slice_get l.roots i ≡ Some root → slice_get l.times i ≡ Some time → slice_get l.nets i ≡ Some net → IsRootBy l.curves.points l.inputs l.count l.nodes root.0 time.0 net
+invariant-loop-k l = (i : ℕ) (root : ClassId) (time : Micro) (net : ℕ) → i < l.k → slice_get l.plan.roots.now i ≡ Some root → slice_get l.plan.times.now i ≡ Some time → slice_get l.nets i ≡ Some net → IsRootBy l.plan l.trail root time net

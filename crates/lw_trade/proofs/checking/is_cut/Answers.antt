@@ -1,6 +1,8 @@
 use Rattle.std.proofs.Common.{◌≡◌, slice_index_or, ap, sym, ◌∙◌, arith}
+use Rattle.std.proofs.lemmas.Bool.{leb-true}
 use Rattle.std.proofs.lemmas.Option.{same_Some, slice_get_within}
 use Rattle.lw_trade.specs.declared.point.Point.{Point}
+use Rattle.lw_trade.specs.Areas.{most_area}
 use Rattle.lw_trade.proofs.Lists.{got}
 use Rattle.lw_trade.proofs.checking.is_cut.Goals as goal
 
@@ -13,4 +15,4 @@ returns c = λ yes.
     let lt = slice_get_within row place is.point is.at in
     let same : is.point ≡ slice_index_or row place d = same_Some is.point (slice_index_or row place d) (sym is.at ∙ got row place d lt) in
     let area = ap (λ (p : Point). p.area) same in
-    record { row = row; at = c.in-Some.ensures.points; place = place; last = is; cut = omega (arith, area, c.if-points-place-lt-MOST_AREA.false) }
+    record { row = row; at = c.in-Some.ensures.points; place = place; last = is; cut = let low = leb-true most_area (slice_index_or row place d).area yes in omega (arith, area, low) }

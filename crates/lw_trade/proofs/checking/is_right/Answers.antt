@@ -6,8 +6,8 @@ use Rattle.lw_trade.proofs.checking.is_right.Goals as goal
 pub loop-j-preserved : goal.loop-j-preserved
 loop-j-preserved c = λ i lt. by_order i lt (cases_lt i c.loop-j.j)
   where
-    by_order : (i : ℕ) → i < c.loop-j.j + 1 → (i < c.loop-j.j) ⊎ (c.loop-j.j ≤ i) → IsGateRight c.args.curves.now c.args.inputs.now c.args.count c.args.lib.now c.args.trail.now.nodes.items c.args.trail.now.owners.items c.args.trail.now.spares.items c.args.walk.now.cells.items c.args.walk.now.pins.items c.args.walk.now.nets.items i
+    by_order : (i : ℕ) → i < c.loop-j.j + 1 → (i < c.loop-j.j) ⊎ (c.loop-j.j ≤ i) → IsGateRight c.args.plan.now c.args.trail.now i
     by_order i lt (inl less) = c.loop-j.invariant i less
     by_order i lt (inr ge) =
         let same : c.loop-j.j ≡ i = omega (arith, lt, ge) in
-        subst (λ k. IsGateRight c.args.curves.now c.args.inputs.now c.args.count c.args.lib.now c.args.trail.now.nodes.items c.args.trail.now.owners.items c.args.trail.now.spares.items c.args.walk.now.cells.items c.args.walk.now.pins.items c.args.walk.now.nets.items k) same (c.is_gate.ensures c.if-not-is_gate.false)
+        subst (IsGateRight c.args.plan.now c.args.trail.now) same (c.is_gate.ensures c.if-not-is_gate.false)

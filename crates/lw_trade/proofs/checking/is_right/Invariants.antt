@@ -3,4 +3,4 @@ use Rattle.lw_trade.specs.Checks.{IsGateRight}
 use Rattle.lw_trade.proofs.checking.is_right.Given as goal
 
 abbrev pub invariant-loop-j : goal.invariant-loop-j
-invariant-loop-j l = (i : ℕ) → i < l.j → IsGateRight l.curves l.inputs l.count l.lib l.trail.nodes.items l.trail.owners.items l.trail.spares.items l.walk.cells.items l.walk.pins.items l.walk.nets.items i
+invariant-loop-j l = (i : ℕ) → i < l.j → IsGateRight l.plan l.trail i

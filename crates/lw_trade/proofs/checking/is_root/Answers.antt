@@ -1,8 +1,10 @@
-use Rattle.std.proofs.Common.{inl, inr}
+use Rattle.std.proofs.Common.{inl, inr, subst}
+use Rattle.lw_trade.specs.declared.plan.Want.{Want}
+use Rattle.lw_trade.specs.Checks.{IsNetBy}
 use Rattle.lw_trade.proofs.checking.is_root.Goals as goal
 
 pub returns-then-is_net : goal.returns-then-is_net
-returns-then-is_net c = λ yes. record { right = inl (c.is_net.ensures c.if-is_net.true) }
+returns-then-is_net c = λ yes. record { right = inl (subst (λ (w : Want). IsNetBy c.args.plan.now c.args.trail.now w c.args.net) c.root_want.ensures (c.is_net.ensures c.if-is_net.true)) }
 
-pub returns : goal.returns
-returns c = λ yes. record { right = inr (c.is_cut.ensures c.if-not-is_cut.false, c.is_net-2.ensures yes) }
+pub returns-then-is_cut : goal.returns-then-is_cut
+returns-then-is_cut c = λ yes. record { right = inr (c.is_cut.ensures c.if-is_cut.true, subst (λ (w : Want). IsNetBy c.args.plan.now c.args.trail.now w c.args.net) c.root_want-then-is_cut.ensures (c.is_net-then-is_cut.ensures yes)) }

@@ -6,7 +6,7 @@ use Rattle.lw_pattern.specs.Listed.{pattern_of}
 use Rattle.lw_trade.specs.Points.{task}
 use Rattle.lw_trade.specs.Rows.{plain_rows}
 use Rattle.lw_trade.proofs.Stepping.{in_tail}
-use Rattle.lw_trade.proofs.Listing.{IsListingAt, rows_push, listing_start, listing_next, listing_over}
+use Rattle.lw_trade.proofs.Listing.{IsListingAt, listing_start, listing_next, listing_over}
 use Rattle.lw_trade.proofs.choices.list_class.Goals as goal
 
 pub loop-found-init : goal.loop-found-init
@@ -39,8 +39,7 @@ loop-found-preserved c =
           let xs = plain_rows c.loop-found.rows.items in
           let here = subst (λ ms. IsListingAt s (length c.args.graph.now.leaves) c.args.class.0 ms xs) first (c.loop-found.invariant.listing cells starts of_cells is) in
           let next = listing_next s of_cells (length c.args.graph.now.leaves) c.args.class.0 m left xs (pattern_of c.get.result.now) c.requires.class c.get.ensures.listed here in
-          let e = rows_push c.loop-found.rows.items _ in
-          subst (λ rows. IsListingAt s (length c.args.graph.now.leaves) c.args.class.0 left (plain_rows rows)) (sym c.in_ok-push.ensures.items) (subst (IsListingAt s (length c.args.graph.now.leaves) c.args.class.0 left) (sym e) next);
+          subst (IsListingAt s (length c.args.graph.now.leaves) c.args.class.0 left) (sym c.in_ok-push_gate.ensures) next;
     }
 
 pub returns : goal.returns

@@ -5,7 +5,6 @@ use Rattle.lw_trade.specs.Choices.{Choice}
 use Rattle.lw_trade.specs.Choices.Part.{gate}
 use Rattle.lw_trade.specs.Points.{task}
 use Rattle.lw_trade.specs.Rows.{plain_rows}
-use Rattle.lw_trade.proofs.Listing.{rows_push}
 use Rattle.lw_trade.proofs.Storing.{AreStoredTo, stored_first, stored_next, stored_over}
 use Rattle.lw_trade.proofs.choices.list_stored.Goals as goal
 
@@ -34,11 +33,10 @@ loop-place-preserved c = record {
       let x : Choice = record { class = read.class.0; part = gate read.cell.0 (numbers read.pins) } in
       let same : x ≡ record { class = found.at.class; part = gate found.at.stored.cell (pins_of found.at) } = λ j. record { class = found.class_is j; part = gate (found.cell_is j) (found.pins_are j) } in
       let next = stored_next s lists store of_cells c.loop-place.place xs x found.at c.matches-place-end.ensures.kept found.listed same (c.loop-place.invariant.listing g pats cells starts store of_cells is) in
-      let e = rows_push c.loop-place.rows.items _ in
-      subst (λ rows. AreStoredTo s (placed lists) (c.loop-place.place + 1) (plain_rows rows)) (sym c.in_ok-push.ensures.items) (subst (AreStoredTo s (placed lists) (c.loop-place.place + 1)) (sym e) next);
+      subst (AreStoredTo s (placed lists) (c.loop-place.place + 1)) (sym c.in_ok-push_gate.ensures) next;
 }
 
 pub returns : goal.returns
-returns c g pats cells starts store of_cells is =
+returns c g pats store cells starts of_cells is =
     let over : c.loop-place.place ≡ length (placed c.args.store.now.lists) = omega (arith, c.loop-place-test.false, c.loop-place.auto.place-end, c.matches-place-end.ensures.matches) in
     stored_over (task g pats cells starts) c.args.store.now.lists store of_cells c.loop-place.place (plain_rows c.loop-place.rows.items) over (c.loop-place.invariant.listing g pats cells starts store of_cells is)

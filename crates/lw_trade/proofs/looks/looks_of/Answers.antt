@@ -22,7 +22,7 @@ loop-group-preserved c =
     let started' = subst (λ ss. AreOwnersListed groups owners k ss numbers) (sym c.in_ok-push.ensures.items) started in
     let last = subst₂ (λ j b. slice_get (starts ++ c.len.result ∷ []) j ≡ Some b) c.loop-group.invariant.2.one_each begin (get_last starts c.len.result) in
     let here = subst (λ ss. slice_get ss k ≡ Some (length numbers)) (sym c.in_ok-push.ensures.items) last in
-    listed_more groups owners k c.push.new.self.items numbers c.list_group.new.numbers.items started' here c.in_ok-list_group.ensures
+    listed_more groups owners k c.push.new.self.items numbers c.list_group.new.to.items started' here c.in_ok-list_group.ensures
 
 pub returns : goal.returns
 returns c =

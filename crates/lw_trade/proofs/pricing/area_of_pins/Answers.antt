@@ -1,6 +1,9 @@
-use Rattle.std.proofs.Common.{◌≡◌, ◌<◌, ◌-◌, suc, Some, length, refl, subst, arith}
+use Rattle.std.proofs.Common.{◌≡◌, ◌<◌, ◌-◌, suc, Some, length, map, refl, sym, subst, arith}
 use Rattle.lw_pool.specs.declared.id.ClassId.{ClassId}
 use Rattle.lw_fixed.specs.declared.micro.Micro.{Micro}
+use Rattle.lw_pool.specs.Numbers.{numbers}
+use Rattle.lw_genlib.specs.Tables.{millionths}
+use Rattle.lw_trade.specs.Pricing.{IsBestOfPins}
 use Rattle.lw_trade.proofs.Prices.{IsBestFrom, from_last, from_late, from_none, from_some}
 use Rattle.lw_trade.proofs.pricing.area_of_pins.Goals as goal
 
@@ -17,12 +20,13 @@ returns-then-delays-pin c =
     let lt : c.loop-pin.pin - 1 < length c.args.pins.now = omega (arith, c.loop-pin-test.true, c.loop-pin.invariant.within) in
     from_late c.args.fronts.now.spots c.args.time c.args.delays.now c.args.pins.now c.requires.one_each (c.loop-pin.pin - 1) lt z y c.if-delays-pin.true
 
-pub returns-in_default : goal.returns-in_default
-returns-in_default c =
+pub returns-in_err-first : goal.returns-in_err-first
+returns-in_err-first c =
     let y : ClassId = record { 0 = 0 } in
     let z : Micro = record { 0 = 0 } in
     let lt : c.loop-pin.pin - 1 < length c.args.pins.now = omega (arith, c.loop-pin-test.true, c.loop-pin.invariant.within) in
-    from_none c.args.fronts.now.spots c.args.time c.args.delays.now c.args.pins.now c.requires.one_each (c.loop-pin.pin - 1) lt z y (omega (arith, c.if-delays-pin.false)) c.in_default.ensures
+    let none = from_none c.args.fronts.now.spots c.args.time c.args.delays.now c.args.pins.now c.requires.one_each (c.loop-pin.pin - 1) lt z y (omega (arith, c.if-delays-pin.false)) c.in_err-first.ensures in
+    subst (IsBestOfPins c.args.fronts.now.spots (map millionths c.args.delays.now) (numbers c.args.pins.now) c.args.time) (sym c.from_residual.ensures) none
 
 pub loop-pin-preserved : goal.loop-pin-preserved
 loop-pin-preserved c =
@@ -33,7 +37,7 @@ loop-pin-preserved c =
     let best = subst (λ n. IsBestFrom c.args.fronts.now.spots c.args.time c.args.delays.now c.args.pins.now c.requires.one_each n (Some c.loop-pin.area)) one c.loop-pin.invariant.best in
     record {
       within = omega (arith, lt);
-      best = from_some c.args.fronts.now.spots c.args.time c.args.delays.now c.args.pins.now c.requires.one_each (c.loop-pin.pin - 1) lt z y c.in-Some.first c.loop-pin.area c.joined-area.result (omega (arith, c.if-delays-pin.false)) c.in-Some.ensures best c.joined-area.ensures;
+      best = from_some c.args.fronts.now.spots c.args.time c.args.delays.now c.args.pins.now c.requires.one_each (c.loop-pin.pin - 1) lt z y c.in_ok-first.first c.loop-pin.area c.joined-area.result (omega (arith, c.if-delays-pin.false)) c.in_ok-first.ensures best c.joined-area.ensures;
     }
 
 pub returns : goal.returns

@@ -1,7 +1,7 @@
 use Rattle.std.proofs.Common.{◌≡◌}
 use Rattle.lw_trade.specs.Rows.{plain_rows}
 use Rattle.lw_trade.specs.Uses.{AreGroupsTo, AreUsesTo}
-use Rattle.lw_trade.proofs.uses.add_choices.Given as goal
+use Rattle.lw_trade.proofs.uses.add_all.Given as goal
 
 abbrev pub invariant-loop-choice : goal.invariant-loop-choice
 invariant-loop-choice l = record {

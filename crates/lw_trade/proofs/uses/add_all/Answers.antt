@@ -8,7 +8,7 @@ use Rattle.lw_trade.specs.Rows.{plain_part, plain_row, plain_rows}
 use Rattle.lw_trade.specs.Uses.{AreUses, AreUsesTo}
 use Rattle.lw_trade.proofs.Lists.{read_at}
 use Rattle.lw_trade.proofs.Using.{none_used, uses_looked, with_looks}
-use Rattle.lw_trade.proofs.uses.add_choices.Goals as goal
+use Rattle.lw_trade.proofs.uses.add_all.Goals as goal
 
 pub loop-choice-init : goal.loop-choice-init
 loop-choice-init c = record {

@@ -1,0 +1,49 @@
+-- A trade of a problem: its netlist of least area by a deadline, and what that is made from.
+use Rattle.std.specs.Prelude.{All, ℕ, ◌^◌, ◌<◌, ◌≡◌, List, Option, map, length}
+use Rattle.lw_pool.specs.declared.id.ClassId.{ClassId}
+use Rattle.lw_fixed.specs.declared.micro.Micro.{Micro}
+use Rattle.lw_match.specs.declared.mark.Mark.{Mark}
+use Rattle.lw_netlist.specs.Netlists.{NetlistParts}
+use Rattle.lw_trade.specs.declared.targets.Targets.{Targets}
+use Rattle.lw_map.specs.declared.fault.MapFault.{MapFault}
+use Rattle.lw_map.specs.declared.problem.Problem.{Problem}
+use Rattle.lw_map.specs.Faults.{IsTradeFault}
+use Rattle.lw_map.specs.Options.{plain_options}
+use Rattle.lw_map.specs.Ports.{ArePortsOf}
+use Rattle.lw_map.specs.Trading.{AreEarliest, HaveLabelsTo, IsTradeable, IsTradedNetlist, micros, put_off}
+
+-- there are no more classes than are numbered, and a mark for each
+pub record CanBeRead (marks : List (Option Mark)) (roots : List ClassId) : Type 0 where
+  pub few : length roots < 2 ^ 32
+  pub in_range : All (λ (root : ClassId). root.0 < length marks) roots
+
+-- the labels of these classes
+abbrev pub HaveLabels : List (Option Mark) → List ClassId → List Micro → Type 0
+HaveLabels marks roots labels = HaveLabelsTo marks roots (length roots) labels
+
+-- the least time of each output of the network
+abbrev pub AreTimes : Problem → List ℕ → Type 0
+AreTimes p times = AreEarliest (plain_options p.choices.now.options) p.lib.now p.net.now p.starts.now times
+
+-- each output of the network has a least time
+abbrev pub HasTimes : Problem → Type 0
+HasTimes p = (times : List ℕ) × AreTimes p times
+
+-- the least time of each output, none of which is cut
+pub record AreLeastTimes (p : Problem) (times : List Micro) : Type 0 where
+  pub earliest : AreTimes p (micros times)
+  pub low : All (λ (time : Micro). time.0 < 9223372036854775808) times
+
+-- the ports of the network, whose outputs arrive by these times, or the deadline where that is later
+pub record AreTargets (p : Problem) (deadline : Micro) (least : List Micro) (t : Targets) : Type 0 where
+  pub ports : ArePortsOf p.net.now p.choices.now (record { model = t.model; inputs = t.inputs; outputs = t.outputs; roots = t.roots })
+  pub times : t.times ≡ map (put_off deadline) least
+
+-- a netlist of least area by the deadline, which is traded for where each output has a cover and there are no more points than are dealt with
+pub record IsTrade (p : Problem) (deadline : Option Micro) (n : NetlistParts) : Type 0 where
+  pub netlist : IsTradedNetlist (plain_options p.choices.now.options) p.lib.now p.net.now p.starts.now deadline n
+  pub tradeable : IsTradeable (plain_options p.choices.now.options) p.lib.now p.net.now p.starts.now deadline
+
+-- why there is none
+abbrev pub IsFault : Problem → Option Micro → MapFault → Type 0
+IsFault p deadline fault = IsTradeFault p.lib.now p.net.now p.starts.now p.choices.now deadline fault

@@ -1,0 +1,16 @@
+use crate::Choices;
+use lw_fixed::Micros;
+use lw_genlib::Library;
+use lw_net::Network;
+use lw_pattern::Patterns;
+
+/// The choices of a network, the cells that they are covered by with their patterns, and when the
+/// inputs start.
+#[derive(Drop)]
+pub(crate) struct Problem<'a> {
+    pub lib: &'a Library,
+    pub net: &'a Network,
+    pub starts: &'a Micros,
+    pub choices: &'a Choices,
+    pub pats: Patterns,
+}
