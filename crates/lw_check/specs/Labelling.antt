@@ -1,5 +1,5 @@
 -- Labels in hand, with the graph and the prices that they are for.
-use Rattle.std.specs.Prelude.{ℕ, ◌⊎◌, Option}
+use Rattle.std.specs.Prelude.{ℕ, ◌<◌, ◌⊎◌, Option, length}
 use Rattle.lw_laws.specs.Costs.{Cost}
 use Rattle.lw_laws.specs.Extracts.{Match}
 use Rattle.lw_laws.specs.Rounds.{labels_in}
@@ -47,6 +47,11 @@ FindsUnboundedIn costs l found = FindsUnbounded l.graph.now (costs l.by.cost.now
 -- the table bounds what matches cost under the labels
 abbrev pub HasTable : {C : Type 0} → (C → Cost) → ℕ → Trial C → Type 0
 HasTable costs most t = IsTableFor t.given.now.graph.now (costs t.given.now.by.cost.now) t.given.now.by.pats.now most t.bounds.now t.marks.now
+
+-- so that the class, which is one of the graph, can be searched
+pub record CanSearch {C : Type 0} (costs : C → Cost) (most : ℕ) (t : Trial C) (c : ℕ) : Type 0 where
+  pub inside : c < length t.given.now.graph.now.pairs
+  pub table : HasTable costs most t
 
 -- a match at the class with labelled pins costs d
 abbrev pub IsMatchCostIn : {C : Type 0} → (C → Cost) → Trial C → ℕ → ℕ → Type 0

@@ -1,5 +1,5 @@
 -- The least of some numbers, and what is looked for at classes and matches.
-use Rattle.std.specs.Prelude.{ℕ, ◌<◌, ◌≤◌, ◌≡◌, nat_lt, if◌then◌else◌, List, length, Option, Some, None, option_map, slice_get, slice_index_or}
+use Rattle.std.specs.Prelude.{ℕ, ◌<◌, ◌≤◌, ◌≡◌, nat_lt, if◌then◌else◌, Bool, true, false, List, length, Option, Some, None, option_map, slice_get, slice_index_or}
 use Rattle.lw_fixed.specs.declared.micro.Micro.{Micro}
 use Rattle.lw_genlib.specs.Tables.{millionths}
 use Rattle.lw_laws.specs.Graphs.{Graph}
@@ -48,6 +48,11 @@ pub record CostsBy (cost : Cost) (pats : List Pattern) (labels : Labels) (m : Ma
   pub pin_labels : List ℕ
   pub have : HaveLabels labels m.pins pin_labels
   pub value : d ≡ cost.value pattern.cell pin_labels
+
+-- these are the labels of the classes, or a class has none
+abbrev pub ReadsLabels : Labels → List ℕ → List ℕ → Bool → Type 0
+ReadsLabels labels classes ls true = HaveLabels labels classes ls
+ReadsLabels labels classes ls false = (other : List ℕ) → HaveLabels labels classes other → ⊥
 
 -- what a match costs, or none where a pin has no label
 abbrev pub IsCostOf : Cost → List Pattern → Labels → Match → Option ℕ → Type 0

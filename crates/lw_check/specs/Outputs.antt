@@ -1,5 +1,5 @@
 -- Outputs at their roots, and on time.
-use Rattle.std.specs.Prelude.{ℕ, ◌<◌, List, length, map, Option, None, Some}
+use Rattle.std.specs.Prelude.{ℕ, ◌<◌, ◌≡◌, List, length, map, Option, None, Some}
 use Rattle.lw_fixed.specs.declared.micro.Micro.{Micro}
 use Rattle.lw_pool.specs.declared.id.NetId.{NetId}
 use Rattle.lw_laws.specs.Netlists.{AreArrivals}
@@ -28,6 +28,11 @@ label_of_net k net = label_at k (class_of_net k net)
 -- when the nets arrive
 abbrev pub AreArrivalsOf : Claim → List Micro → Type 0
 AreArrivalsOf k arrivals = AreArrivals (timing_in k) (plain k.mapped.netlist) (map millionths arrivals)
+
+-- there is one arrival for each net, and it is when the net arrives
+pub record ArriveAt (k : Claim) (arrivals : List Micro) : Type 0 where
+  pub one_each : length arrivals ≡ length k.mapped.netlist.names
+  pub are : AreArrivalsOf k arrivals
 
 -- the place of the first output that is not on time
 pub record IsOffTimeAt (k : Claim) (place : ℕ) : Type 0 where

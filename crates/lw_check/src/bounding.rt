@@ -1,6 +1,5 @@
 // Whether labels are a potential, by a look at each match.
-ghost use Rattle.std.specs.Prelude.{◌≡◌, ◌↔◌, ◌<◌, ◌≤◌, List, ℕ, IfSome, IsNone, IsTrue, IsFalse, length, option_map, take};
-ghost use Rattle.lw_laws.specs.Choices.{HaveLabels};
+ghost use Rattle.std.specs.Prelude.{◌≡◌, ◌↔◌, ◌<◌, ◌≤◌, IfSome, IsNone, IsTrue, length, option_map, take};
 ghost use Rattle.lw_laws.specs.Laws.{BoundsCovers};
 ghost use Rattle.lw_laws.specs.Mapped.{IsPotentialOf};
 ghost use Rattle.lw_laws.specs.Rounds.{labels_in};
@@ -9,7 +8,7 @@ ghost use Rattle.lw_match.specs.Values.{plain_match};
 ghost use Rattle.lw_check.specs.Claims.{class_number};
 ghost use Rattle.lw_check.specs.Failing.{IsAbove, IsFirstFailing};
 ghost use Rattle.lw_check.specs.Labelling.{HasCells, HasPattern, IsCostBy, IsLateIn, IsLowBy, IsLowIn};
-ghost use Rattle.lw_check.specs.Least.{IsLeastOf, lesser_of};
+ghost use Rattle.lw_check.specs.Least.{IsLeastOf, ReadsLabels, lesser_of};
 ghost use Rattle.lw_pool.specs.Numbers.{numbers};
 
 use crate::labelling::{Labelling, Prices};
@@ -54,10 +53,8 @@ pub(crate) fn earlier(one: Option<ClassId>, other: Option<ClassId>) -> Option<Cl
 // Puts the labels of some classes at the front, where each has one.
 fn read_labels(labels: &[Option<u64>], classes: &[ClassId], values: &mut [u64]) -> bool
     requires { length classes.now ≤ length values.old }
-    ensures all { IsTrue result → HaveLabels (labels_in labels.now) (numbers classes.now)
-        (take (length classes.now) values.new) }
-    ensures none { IsFalse result → (ls : List ℕ) →
-        HaveLabels (labels_in labels.now) (numbers classes.now) ls → ⊥ }
+    ensures read { ReadsLabels (labels_in labels.now) (numbers classes.now)
+        (take (length classes.now) values.new) result }
     ensures length { length values.new ≡ length values.old }
 {
     for (k, class) in classes.iter().enumerate() {

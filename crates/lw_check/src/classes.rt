@@ -43,9 +43,8 @@ pub(crate) fn first_unknown(case: &Case) -> Option<u32>
     ensures { result ≡ first_unknown_class (claim_of case.now) }
 {
     let classes = case.graph.classes();
-    let cert = &case.mapped.cert;
-    match first_labelled(cert.labels.as_slice(), classes) {
+    match first_labelled(case.mapped.cert.labels.as_slice(), classes) {
         Some(class) => Some(class),
-        None => first_beyond(cert.nets.as_slice(), classes),
+        None => first_beyond(case.mapped.cert.nets.as_slice(), classes),
     }
 }

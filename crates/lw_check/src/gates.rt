@@ -1,12 +1,12 @@
 // Whether each gate is a match at the class of its net.
-ghost use Rattle.std.specs.Prelude.{◌≡◌, ◌↔◌, ◌<◌, ◌≤◌, ℕ, IfOk, IfSome, IsTrue, IsFalse, Some, length, option_map, slice_get};
+ghost use Rattle.std.specs.Prelude.{◌≡◌, ◌↔◌, ◌<◌, ◌≤◌, IfOk, IfSome, IsTrue, Some, length, option_map, slice_get};
 ghost use Rattle.lw_netlist.specs.declared.gate.Gate.{Gate as NetGate};
 ghost use Rattle.lw_netlist.specs.Plain.{HasCell};
 ghost use Rattle.lw_mapped.specs.Texts.{net_name};
 ghost use Rattle.lw_check.specs.Cases.{claim_of, PassesClasses, Tells};
 ghost use Rattle.lw_check.specs.Claims.{AreMatches, class_number, class_of_net, HasKnownClasses, IsMatchGate};
-ghost use Rattle.lw_check.specs.Gates.{AreClassesOf, FindsNoMatch, IsMatchBy};
-ghost use Rattle.lw_check.specs.Spans.{AreSpans, IsIn};
+ghost use Rattle.lw_check.specs.Gates.{AreClassesOf, FindsMatch, FindsNoMatch, IsMatchBy};
+ghost use Rattle.lw_check.specs.Spans.{AreSpans};
 ghost use Rattle.lw_check.specs.Standing.{AreWithin};
 ghost use Rattle.lw_pool.specs.Numbers.{numbers};
 
@@ -80,10 +80,7 @@ fn is_match_by(case: &Case, place: u32, cell: CellId, pins: &[ClassId], class: C
 fn is_match_in(case: &Case, span: Span, cell: CellId, pins: &[ClassId], class: ClassId) -> bool
     requires end { span.end ≤ length case.now.pats.now }
     requires pins { AreWithin case.now.graph.now pins.now }
-    ensures some { IsTrue result → (place : ℕ) ×
-        IsMatchBy (claim_of case.now) place cell (numbers pins.now) class }
-    ensures none { IsFalse result → (place : ℕ) → IsIn span place →
-        IsMatchBy (claim_of case.now) place cell (numbers pins.now) class → ⊥ }
+    ensures { FindsMatch (claim_of case.now) span cell (numbers pins.now) class result }
 {
     for place in span.first..span.end {
         if is_match_by(case, place, cell, pins, class) {

@@ -1,5 +1,5 @@
 // Whether the labels of a certificate are a potential, by searches that a table cuts.
-ghost use Rattle.std.specs.Prelude.{◌≡◌, ◌≤◌, ℕ, Some, IfOk, None, length, map, option_map, slice_index_or};
+ghost use Rattle.std.specs.Prelude.{◌≡◌, ◌≤◌, ℕ, Some, IfOk, None, map, option_map, slice_index_or};
 ghost use Rattle.lw_genlib.specs.Tables.{millionths};
 ghost use Rattle.lw_laws.specs.Laws.{IsLeafCost};
 ghost use Rattle.lw_laws.specs.Rounds.{labels_in};

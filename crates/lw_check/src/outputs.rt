@@ -2,7 +2,7 @@
 ghost use Rattle.std.specs.Prelude.{◌≡◌, ◌↔◌, ◌<◌, IfOk, IsTrue, Some, length, slice_get};
 ghost use Rattle.lw_check.specs.Cases.{claim_of, IsAskable, PassesLabels, PassesRoots, Tells};
 ghost use Rattle.lw_check.specs.Claims.{AreAtRoots, AreOnTime, HasSamePorts};
-ghost use Rattle.lw_check.specs.Outputs.{AreArrivalsOf, FindsOffRoot, FindsOffTime, label_of_net};
+ghost use Rattle.lw_check.specs.Outputs.{ArriveAt, FindsOffRoot, FindsOffTime, label_of_net};
 
 use crate::Reason;
 use crate::case::Case;
@@ -74,8 +74,7 @@ fn is_label(label: Option<Micro>, arrival: Micro) -> bool
 
 // The place of the first output that arrives at another time than the label of its class.
 fn first_off_time(case: &Case, arrivals: &[Micro]) -> Option<usize>
-    requires one_each { length arrivals.now ≡ length case.now.mapped.now.netlist.names }
-    requires arrivals { AreArrivalsOf (claim_of case.now) arrivals.now }
+    requires { ArriveAt (claim_of case.now) arrivals.now }
     ensures { FindsOffTime (claim_of case.now) result }
 {
     for (place, port) in case.mapped.netlist.outputs().iter().enumerate() {
@@ -91,9 +90,7 @@ fn first_off_time(case: &Case, arrivals: &[Micro]) -> Option<usize>
 fn arrivals_of(alloc: Global, case: &Case) -> Result<Vec<Micro>, AllocError>
     requires askable { IsAskable (claim_of case.now) }
     requires ports { HasSamePorts (claim_of case.now) }
-    ensures one_each { IfOk result
-        (λ arrivals. length arrivals.items ≡ length case.now.mapped.now.netlist.names) }
-    ensures arrivals { IfOk result (λ arrivals. AreArrivalsOf (claim_of case.now) arrivals.items) }
+    ensures { IfOk result (λ arrivals. ArriveAt (claim_of case.now) arrivals.items) }
 {
     let netlist = &case.mapped.netlist;
     let _ = case.net.inputs();

@@ -1,7 +1,7 @@
 // Labels on trial: searches, cut by a table, for what costs less than they say.
-ghost use Rattle.std.specs.Prelude.{◌<◌, ◌↔◌, IsTrue, length, option_map};
+ghost use Rattle.std.specs.Prelude.{◌↔◌, IsTrue, option_map};
 ghost use Rattle.lw_check.specs.Claims.{class_number};
-ghost use Rattle.lw_check.specs.Labelling.{FailsIn, FindsUnboundedIn, HasTable, IsLeastIn, IsLowIn, IsMatchCostIn};
+ghost use Rattle.lw_check.specs.Labelling.{CanSearch, FailsIn, FindsUnboundedIn, HasTable, IsLeastIn, IsLowIn, IsMatchCostIn};
 ghost use Rattle.lw_check.specs.Least.{IsLeastOf};
 
 use crate::bounding::earlier;
@@ -21,8 +21,7 @@ impl<C: Cost> Trial<'_, C> {
     // Whether a match at a class with labelled pins costs less than its label, or the class has
     // none.
     fn is_low_at(&self, class: ClassId) -> bool
-        requires class { class.0 < length self.now.given.now.graph.now.pairs }
-        requires table { HasTable C.costs C.CAP self.now }
+        requires { CanSearch C.costs C.CAP self.now class.0 }
         ensures { IsTrue result ↔ IsLowIn C.costs self.now.given.now class.0 }
     {
         let mark = self.marks[class.0 as usize];
@@ -60,8 +59,7 @@ impl<C: Cost> Trial<'_, C> {
 
     // The least that a match at a class with labelled pins costs.
     fn least_match(&self, class: ClassId) -> Option<u64>
-        requires class { class.0 < length self.now.given.now.graph.now.pairs }
-        requires table { HasTable C.costs C.CAP self.now }
+        requires { CanSearch C.costs C.CAP self.now class.0 }
         ensures { IsLeastOf (IsMatchCostIn C.costs self.now class.0) result }
     {
         let (given, bounds, marks) = (self.given, self.bounds, self.marks);
@@ -74,8 +72,7 @@ impl<C: Cost> Trial<'_, C> {
 
     // The least that a class is given, with the class.
     fn least_at(&self, class: ClassId) -> Option<Unbounded>
-        requires class { class.0 < length self.now.given.now.graph.now.pairs }
-        requires table { HasTable C.costs C.CAP self.now }
+        requires { CanSearch C.costs C.CAP self.now class.0 }
         ensures { IsLeastIn C.costs self.now class.0 result }
     {
         let (given, by_match) = (self.given, self.least_match(class));

@@ -1,12 +1,12 @@
 -- The needed classes, each with its table, and how they are found from the deepest down.
-use Rattle.std.specs.Prelude.{ℕ, suc, ◌<◌, ◌≡◌, ◌⊎◌, List, All, Contains, length, Option, Some, slice_get}
+use Rattle.std.specs.Prelude.{ℕ, suc, ◌<◌, ◌≤◌, ◌≡◌, ◌⊎◌, List, All, Contains, length, Option, Some, slice_get}
 use Rattle.lw_pool.specs.declared.id.ClassId.{ClassId}
 use Rattle.lw_laws.specs.Graphs.{Graph}
 use Rattle.lw_laws.specs.Extracts.{IsLeafClass}
 use Rattle.lw_naming.specs.declared.places.Place.{Place}
 use Rattle.lw_naming.specs.Places.{AreInClassOrder, AreInDepthOrder}
 use Rattle.lw_lut.specs.Depths.{DepthLists, AreLeastDepths}
-use Rattle.lw_lut.specs.Searches.{depth_in, IsBelow}
+use Rattle.lw_lut.specs.Searches.{depth_in, IsBelow, IsKnown}
 use Rattle.lw_lut.specs.Tables.{IsTableAt, AreRisingClasses}
 use Rattle.lw_lut.specs.declared.table.Table.{Table}
 use Rattle.lw_pool.specs.Numbers.{numbers}
@@ -41,6 +41,12 @@ pub record AreTables (g : Graph) (most : ℕ) (depths : List (Option ℕ)) (root
   pub needed : (t : Table) → Contains tables t → IsNeeded roots tables t.out.0 × (IsLeafClass g t.out.0 → ⊥)
   pub all : (c : ℕ) → IsNeeded roots tables c → (IsLeafClass g c → ⊥) → (t : Table) × Contains tables t × (t.out.0 ≡ c)
   pub sorted : (i j : ℕ) (t u : Table) → slice_get tables i ≡ Some t → slice_get tables j ≡ Some u → i < j → IsTableBefore depths t u
+
+-- Tables of at most six fan-ins: where these are the least depths of a graph, and each root has one, a table for each needed
+-- class.
+pub record AreChosen (d : DepthLists) (roots : List ClassId) (chosen : List Table) : Type 0 where
+  pub tables : (g : Graph) (most : ℕ) → AreLeastDepths g most d → All (λ (root : ClassId). IsKnown d.depths root.0) roots → AreTables g most d.depths (numbers roots) chosen
+  pub few : All (λ (t : Table). length t.fanins ≤ 6) chosen
 
 -- Places.
 

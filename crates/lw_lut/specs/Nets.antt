@@ -12,6 +12,11 @@ use Rattle.lw_pool.specs.Numbers.{numbers}
 abbrev pub table_classes : List Table → List ℕ
 table_classes tables = map (λ (t : Table). t.out.0) tables
 
+-- the name of each table: that of the first output of its class, or else the next of n1, n2 and so on that no port has
+abbrev pub table_names : TablePorts → List Table → List (List ℕ)
+table_names ports tables =
+    gate_names ports.outputs (numbers ports.roots) (free_names (ports.inputs ++ ports.outputs) (length tables)) (table_classes tables)
+
 -- the ports, the class of each input, the tables, and a name for each of them
 pub record PlainTableNet : Type 0 where
   pub ports : TablePorts
@@ -37,10 +42,9 @@ pub record AreFit (g : Graph) (ports : TablePorts) : Type 0 where
   pub in_range : All (λ (root : ClassId). root.0 < length g.pairs) ports.roots
   pub apart : AreDistinctLeaves g
 
--- One table for each needed class that is no input's, with the name of the first output of its class, or else the next of n1,
--- n2 and so on that no port has.
+-- One table for each needed class that is no input's, with its name.
 pub record IsTableNetOf (g : Graph) (most : ℕ) (depths : List (Option ℕ)) (ports : TablePorts) (n : PlainTableNet) : Type 0 where
   pub ports_are : n.ports ≡ ports
   pub inputs : numbers n.inputs ≡ g.leaves
   pub tables : AreTables g most depths (numbers ports.roots) n.tables
-  pub names : n.names ≡ gate_names ports.outputs (numbers ports.roots) (free_names (ports.inputs ++ ports.outputs) (length n.tables)) (table_classes n.tables)
+  pub names : n.names ≡ table_names ports n.tables

@@ -12,6 +12,10 @@ use Rattle.lw_words.specs.Texts.{line}
 abbrev pub HasPlaces : List ℕ → List ℕ → Type 0
 HasPlaces classes places = (i c : ℕ) → slice_get classes i ≡ Some c → slice_get places c ≡ Some i
 
+-- at the class of each input and each table there is its place among the inputs and then the tables
+abbrev pub ArePlacesOf : List ClassId → List Table → List ℕ → Type 0
+ArePlacesOf inputs tables places = HasPlaces (numbers inputs ++ table_classes tables) places
+
 -- inputs and tables at different classes, all of them below n
 pub record ArePlaceable (n : ℕ) (inputs : List ClassId) (tables : List Table) : Type 0 where
   pub few : length inputs + length tables < 2 ^ 32

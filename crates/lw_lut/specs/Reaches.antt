@@ -1,5 +1,5 @@
 -- Which classes hold pairs with a class, between two numbers.
-use Rattle.std.specs.Prelude.{ℕ, ◌/◌, ◌<◌, ◌≤◌, ◌≡◌, List, Option, length, slice_index, slice_index_or}
+use Rattle.std.specs.Prelude.{ℕ, ◌*◌, ◌/◌, ◌<◌, ◌≤◌, ◌≡◌, List, Option, length, slice_index, slice_index_or}
 use Rattle.lw_laws.specs.Graphs.{Graph, HoldsPair}
 use Rattle.lw_lut.specs.Searches.{IsBoundedAt, IsKnown, count_at}
 use Rattle.lw_lut.specs.declared.span.Span.{Span}
@@ -30,6 +30,11 @@ pub record AreGrown (old new : List Span) : Type 0 where
 -- Each class that holds a pair is in the spans of the places of both its classes.
 abbrev pub AreReaches : Graph → List Span → Type 0
 AreReaches g reach = (c x y : ℕ) → HoldsPair g c x y → IsIn (span_at reach (x / 2)) c × IsIn (span_at reach (y / 2)) c
+
+-- a span for each place
+pub record AreReachesOf (g : Graph) (reach : List Span) : Type 0 where
+  pub one_each : length g.pairs ≡ 2 * length reach
+  pub reaches : AreReaches g reach
 
 -- each class that is not in the span is bounded
 abbrev pub AreBoundedBut : Graph → List ℕ → Span → Type 0

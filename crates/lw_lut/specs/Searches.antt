@@ -1,6 +1,7 @@
 -- The search for depths: leaf counts, cuts and pins of the pairs of a class and its complement, and depths of classes.
 use Rattle.std.specs.Prelude.{ℕ, suc, ◌+◌, ◌*◌, ◌/◌, ◌<◌, ◌≤◌, ◌≡◌, ◌⊎◌, List, [], ◌∷◌, length, Option, Some, None, IfSome, IsNone, Bool, true, false, slice_get, slice_index, slice_index_or, sum_by}
 use Rattle.lw_pool.specs.declared.id.ClassId.{ClassId}
+use Rattle.lw_graph.specs.declared.pair.Pair.{Pair}
 use Rattle.lw_laws.specs.Graphs.{Graph, Unfolds, HoldsPair}
 use Rattle.lw_lut.specs.Covers.{TableCover, IsTableCover, tree_of, depth_of}
 use Rattle.lw_lut.specs.Cuts.{PlainCut, IsCutAt, is_odd}
@@ -36,6 +37,13 @@ count_at counts c = slice_index counts (c / 2)
 abbrev pub IsBoundedAt : Graph → List ℕ → ℕ → Type 0
 IsBoundedAt g counts c = (x y : ℕ) → HoldsPair g c x y → count_at counts c ≤ count_at counts x + count_at counts y
 
+-- a pair of class c with fewer leaves than the class, each at a place
+pub record HasFewer (g : Graph) (counts : List ℕ) (c : ℕ) (pair : Pair) : Type 0 where
+  pub holds : HoldsPair g c pair.x.0 pair.y.0
+  pub fewer : count_at counts pair.x.0 + count_at counts pair.y.0 < count_at counts c
+  pub x : pair.x.0 / 2 < length counts
+  pub y : pair.y.0 / 2 < length counts
+
 -- The cut of a place: a tree over at most so many pins stands there, which are less deep than a limit, and than a class of the
 -- place that has a depth other than 0.
 pub record IsKept (g : Graph) (most limit : ℕ) (depths : List (Option ℕ)) (place : ℕ) (cut : PlainCut) : Type 0 where
@@ -67,6 +75,12 @@ pub record AreLists (g : Graph) (most cut_limit pin_limit : ℕ) (counts : List 
 
 abbrev pub AreCounts : Graph → ℕ → ℕ → Search → Type 0
 AreCounts g most limit s = AreLists g most limit limit s.counts.items s.cuts.items s.pins.items s.depths.items
+
+-- where counts hold and the place of class c has few enough leaves, the cut stands at the class, and each of its pins, one for
+-- each of these leaves, is less deep than the limit
+abbrev pub IsSide : Search → ℕ → PlainCut → Type 0
+IsSide s c cut =
+    (g : Graph) (most limit : ℕ) → AreCounts g most limit s → count_at s.counts.items c ≤ most → IsCutAt g c (is_odd c) cut × (length cut.pins ≡ count_at s.counts.items c) × ((k : ℕ) (q : ClassId) → slice_get cut.pins k ≡ Some q → IsBelow s.depths.items limit q.0)
 
 -- The same while classes get the depth d: known depths are d at most.
 abbrev pub AreSettling : Graph → ℕ → ℕ → Search → Type 0
@@ -137,3 +151,6 @@ pub record IsStarted (g : Graph) (most seen : ℕ) (counts : List ℕ) (cuts : L
   pub given : (k : ℕ) (q : ClassId) → slice_get pins k ≡ Some (Some q) → IsGiven g counts cuts depths k q
   pub known : (c e : ℕ) → depth_in depths c ≡ Some e → (e ≡ 0) × ((i : ℕ) × (slice_get g.leaves i ≡ Some c)) × ((q : ClassId) × (slice_get pins (c / 2) ≡ Some (Some q)))
   pub inputs : (i c : ℕ) → i < seen → slice_get g.leaves i ≡ Some c → depth_in depths c ≡ Some 0
+
+abbrev pub HasStarted : Graph → ℕ → ℕ → Search → Type 0
+HasStarted g most seen s = IsStarted g most seen s.counts.items s.cuts.items s.pins.items s.depths.items

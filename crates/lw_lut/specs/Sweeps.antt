@@ -1,53 +1,49 @@
 -- What the steps of the search for depths ask for, and what they leave.
-use Rattle.std.specs.Prelude.{ℕ, suc, ◌+◌, ◌*◌, ◌/◌, ◌^◌, ◌<◌, ◌≤◌, ◌≡◌, ◌⊎◌, ◌||◌, Bool, true, false, List, length, slice_index}
+use Rattle.std.specs.Prelude.{ℕ, suc, ◌+◌, ◌*◌, ◌/◌, ◌^◌, ◌<◌, ◌≤◌, ◌≡◌, ◌⊎◌, ◌||◌, Bool, true, false, length, slice_index}
 use Rattle.lw_laws.specs.Graphs.{Graph}
 use Rattle.lw_lut.specs.Covers.{IsLeastDepth}
-use Rattle.lw_lut.specs.Reaches.{AreBoundedBut, AreKnownBut, AreReaches, IsIn, IsOutside, IsWithin}
+use Rattle.lw_lut.specs.Reaches.{AreBoundedBut, AreKnownBut, AreReaches, IsIn, IsOutside, IsWithin, span_at}
 use Rattle.lw_lut.specs.Searches.{AreBounded, AreCounts, AreDepthsUpTo, AreSettled, AreSettling, Falls, IsBoundedAt, depth_in, total, unknown_count}
 use Rattle.lw_lut.specs.declared.search.Search.{Search}
 use Rattle.lw_lut.specs.declared.span.Span.{Span}
-
--- a span for each place
-pub record AreReachesOf (g : Graph) (reach : List Span) : Type 0 where
-  pub one_each : length g.pairs ≡ 2 * length reach
-  pub reaches : AreReaches g reach
+use Rattle.lw_lut.specs.declared.task.Task.{Task}
 
 -- counts may fall
-pub record MayLower (g : Graph) (most : ℕ) (s : Search) : Type 0 where
-  pub low : most ≤ 6
-  pub counts : (d : ℕ) × AreCounts g most d s
+pub record MayLower (t : Task) (s : Search) : Type 0 where
+  pub low : t.leaves ≤ 6
+  pub counts : (d : ℕ) × AreCounts t.graph.now t.leaves d s
 
 -- the count of the place of a class has fallen to that of a pair of the class, or no pair has fewer leaves
-pub record LowersCount (g : Graph) (most : ℕ) (old new : Search) (c : ℕ) (changed : Bool) : Type 0 where
-  pub counts : (d : ℕ) → AreCounts g most d old → AreCounts g most d new
+pub record LowersCount (t : Task) (old new : Search) (c : ℕ) (changed : Bool) : Type 0 where
+  pub counts : (d : ℕ) → AreCounts t.graph.now t.leaves d old → AreCounts t.graph.now t.leaves d new
   pub depths : new.depths ≡ old.depths
-  pub falls : Falls g old new (λ d. d ≡ c) changed
+  pub falls : Falls t.graph.now old new (λ d. d ≡ c) changed
   pub fewer : (k : ℕ) → slice_index new.counts.items k ≤ slice_index old.counts.items k
   pub elsewhere : (k : ℕ) → (k ≡ c / 2 → ⊥) → slice_index new.counts.items k ≡ slice_index old.counts.items k
 
 -- the same, where the classes that are then to be looked at again are in a span
-pub record LowersIn (g : Graph) (most : ℕ) (reach : List Span) (old new : Search) (c : ℕ) (next span : Span) : Type 0 where
-  pub counts : (d : ℕ) → AreCounts g most d old → AreCounts g most d new
+pub record LowersIn (t : Task) (old new : Search) (c : ℕ) (next span : Span) : Type 0 where
+  pub counts : (d : ℕ) → AreCounts t.graph.now t.leaves d old → AreCounts t.graph.now t.leaves d new
   pub depths : new.depths ≡ old.depths
   pub elsewhere : (k : ℕ) → (k ≡ c / 2 → ⊥) → slice_index new.counts.items k ≡ slice_index old.counts.items k
   pub grown : IsWithin next span
   pub falls : (total new.counts.items < total old.counts.items) ⊎ ((span ≡ next) × (new ≡ old))
-  pub bounded : AreReaches g reach → (d : ℕ) → (IsIn span d → ⊥) → (d ≡ c) ⊎ IsBoundedAt g old.counts.items d → IsBoundedAt g new.counts.items d
+  pub bounded : (d : ℕ) → (IsIn span d → ⊥) → (d ≡ c) ⊎ IsBoundedAt t.graph.now old.counts.items d → IsBoundedAt t.graph.now new.counts.items d
 
 -- the same for each class of a span: counts have fallen in it alone, and all have where a class is to be looked at again
-pub record LowersRound (g : Graph) (most : ℕ) (old new : Search) (span next : Span) : Type 0 where
-  pub counts : (d : ℕ) → AreCounts g most d old → AreCounts g most d new
+pub record LowersRound (t : Task) (old new : Search) (span next : Span) : Type 0 where
+  pub counts : (d : ℕ) → AreCounts t.graph.now t.leaves d old → AreCounts t.graph.now t.leaves d new
   pub depths : new.depths ≡ old.depths
-  pub bounded : AreBoundedBut g new.counts.items next
+  pub bounded : AreBoundedBut t.graph.now new.counts.items next
   pub elsewhere : (k : ℕ) → IsOutside span k → slice_index new.counts.items k ≡ slice_index old.counts.items k
   pub fewer : total new.counts.items ≤ total old.counts.items
   pub falls : (c : ℕ) → IsIn next c → total new.counts.items < total old.counts.items
 
 -- no pair would lower a count any more, and counts have fallen in one span alone, which the first one is in
-pub record LowersAll (g : Graph) (most : ℕ) (old new : Search) (span swept : Span) : Type 0 where
-  pub counts : (d : ℕ) → AreCounts g most d old → AreCounts g most d new
+pub record LowersAll (t : Task) (old new : Search) (span swept : Span) : Type 0 where
+  pub counts : (d : ℕ) → AreCounts t.graph.now t.leaves d old → AreCounts t.graph.now t.leaves d new
   pub depths : new.depths ≡ old.depths
-  pub bounded : AreBounded g new.counts.items
+  pub bounded : AreBounded t.graph.now new.counts.items
   pub within : IsWithin span swept
   pub elsewhere : (k : ℕ) → IsOutside swept k → slice_index new.counts.items k ≡ slice_index old.counts.items k
 
@@ -69,12 +65,17 @@ pub record Settles (most d : ℕ) (old new : Search) (place : ℕ) (changed : Bo
   pub same : (slice_index old.counts.items place ≤ 1) ⊎ (most < slice_index old.counts.items place) → slice_index new.counts.items place ≡ slice_index old.counts.items place
   pub few : (k : ℕ) → slice_index new.counts.items k ≤ most → slice_index old.counts.items k ≤ most
 
+-- a span grows by that of the place, where the place has several leaves and few enough for a table
+pub record SeesPlace (t : Task) (s : Search) (place : ℕ) (next span : Span) : Type 0 where
+  pub grown : IsWithin next span
+  pub seen : (slice_index s.counts.items place ≤ 1 → ⊥) → slice_index s.counts.items place ≤ t.leaves → IsWithin (span_at t.reach.now place) span
+
 -- the same for all places, where only those of a span had few enough leaves and no depth; what is to be looked at then is in another
-pub record SettlesAll (most d : ℕ) (reach : List Span) (old new : Search) (swept next : Span) (changed : Bool) : Type 0 where
-  pub lists : (g : Graph) → AreSettling g most d old → AreSettling g most d new
-  pub settled : (g : Graph) → AreSettling g most d old → AreKnownBut most old.counts.items old.depths.items swept → AreSettled most d old new (length old.counts.items) changed
-  pub few : (k : ℕ) → slice_index new.counts.items k ≤ most → slice_index old.counts.items k ≤ most
-  pub bounded : (g : Graph) → AreReaches g reach → AreBounded g old.counts.items → AreBoundedBut g new.counts.items next
+pub record SettlesAll (t : Task) (d : ℕ) (old new : Search) (swept next : Span) (changed : Bool) : Type 0 where
+  pub lists : (g : Graph) → AreSettling g t.leaves d old → AreSettling g t.leaves d new
+  pub settled : (g : Graph) → AreSettling g t.leaves d old → AreKnownBut t.leaves old.counts.items old.depths.items swept → AreSettled t.leaves d old new (length old.counts.items) changed
+  pub few : (k : ℕ) → slice_index new.counts.items k ≤ t.leaves → slice_index old.counts.items k ≤ t.leaves
+  pub bounded : (g : Graph) → AreReaches g t.reach.now → AreBounded g old.counts.items → AreBoundedBut g new.counts.items next
 
 -- all classes that are less deep than d have their depths, and counts go by these
 pub record IsAtDepth (g : Graph) (most d : ℕ) (s : Search) : Type 0 where
@@ -88,11 +89,11 @@ pub record IsSweptBut (g : Graph) (most : ℕ) (s : Search) (span : Span) : Type
   pub known : AreKnownBut most s.counts.items s.depths.items span
 
 -- one depth more: some class has got one, or each class has its least depth
-pub record Deepens (g : Graph) (most d : ℕ) (old new : Search) (span : Span) (changed : Bool) : Type 0 where
-  pub at : IsAtDepth g most (suc d) new
-  pub swept : IsSweptBut g most new span
+pub record Deepens (t : Task) (d : ℕ) (old new : Search) (span : Span) (changed : Bool) : Type 0 where
+  pub at : IsAtDepth t.graph.now t.leaves (suc d) new
+  pub swept : IsSweptBut t.graph.now t.leaves new span
   pub falls : changed ≡ true → unknown_count new.depths.items < unknown_count old.depths.items
-  pub least : changed ≡ false → 2 ≤ most → (c : ℕ) → IsLeastDepth g most c (depth_in new.depths.items c)
+  pub least : changed ≡ false → 2 ≤ t.leaves → (c : ℕ) → IsLeastDepth t.graph.now t.leaves c (depth_in new.depths.items c)
 
 -- each class has its least depth
 pub record HasAllDepths (g : Graph) (most : ℕ) (s : Search) : Type 0 where

@@ -1,10 +1,6 @@
 // The classes that are needed, each with its table.
-ghost use Rattle.std.specs.Prelude.{◌<◌, ◌≤◌, ◌^◌, ℕ, All, IfOk, length, reverse};
-ghost use Rattle.lw_laws.specs.Graphs.{Graph as PlainGraph};
-ghost use Rattle.lw_lut.specs.Choosing.{AreByDepth, AreListed, AreRootsIn, AreTables};
-ghost use Rattle.lw_lut.specs.Depths.{AreLeastDepths};
-ghost use Rattle.lw_lut.specs.Searches.{IsKnown};
-ghost use Rattle.lw_pool.specs.Numbers.{numbers};
+ghost use Rattle.std.specs.Prelude.{◌<◌, ◌^◌, IfOk, length, reverse};
+ghost use Rattle.lw_lut.specs.Choosing.{AreByDepth, AreChosen, AreListed, AreRootsIn};
 
 use crate::found::Depths;
 use crate::table::Table;
@@ -17,6 +13,13 @@ use std::alloc::{AllocError, Global};
 struct ClassDepths<'a> {
     depths: &'a [Option<u32>],
     ghost few: { length depths.now < 2 ^ 32 },
+}
+
+// The depths of classes, and some of the classes, which are to have tables.
+#[derive(Clone, Copy)]
+struct Wanted<'a> {
+    depths: &'a Depths,
+    roots: &'a [ClassId],
 }
 
 // The classes that have a depth other than 0, in the order of their numbers.
@@ -49,26 +52,18 @@ fn by_depth(alloc: Global, of: &ClassDepths) -> Result<Vec<Place>, AllocError>
 
 // The tables of the needed classes that are no input's, from the deepest down. A class is less
 // deep than each whose table has it as a fan-in.
-fn choose_down(
-    alloc: Global,
-    depths: &Depths,
-    roots: &[ClassId],
-    places: &[Place],
-) -> Result<Vec<Table>, AllocError>
-    requires roots { AreRootsIn depths.now roots.now }
-    requires places { AreByDepth depths.now.depths places.now }
-    ensures tables { (g : PlainGraph) (most : ℕ) → AreLeastDepths g most depths.now →
-        All (λ root. IsKnown depths.now.depths root.0) roots.now →
-        IfOk result (λ tables. AreTables g most depths.now.depths (numbers roots.now)
-        (reverse tables.items)) }
-    ensures few { IfOk result (λ tables. All (λ x. length x.fanins ≤ 6) (reverse tables.items)) }
+fn choose_down(alloc: Global, of: &Wanted, places: &[Place]) -> Result<Vec<Table>, AllocError>
+    requires roots { AreRootsIn of.now.depths.now of.now.roots.now }
+    requires places { AreByDepth of.now.depths.now.depths places.now }
+    ensures { IfOk result (λ tables.
+        AreChosen of.now.depths.now of.now.roots.now (reverse tables.items)) }
 {
-    let mut needed = needed_by(alloc, roots, depths.len())?;
+    let mut needed = needed_by(alloc, of.roots, of.depths.len())?;
     let mut tables = Vec::new(alloc);
     for k in (0..places.len()).rev() {
         let class = places[k].class;
         if needed[class.0 as usize] {
-            let table = Table::of(alloc, class, depths.cut(class))?;
+            let table = Table::of(alloc, class, of.depths.cut(class))?;
             need(&mut needed, table.fanins.as_slice());
             tables.push(table)?;
         }
@@ -84,17 +79,13 @@ pub(crate) fn choose(
 ) -> Result<Vec<Table>, AllocError>
     requires few { length depths.now.depths < 2 ^ 32 }
     requires roots { AreRootsIn depths.now roots.now }
-    ensures tables { (g : PlainGraph) (most : ℕ) → AreLeastDepths g most depths.now →
-        All (λ root. IsKnown depths.now.depths root.0) roots.now →
-        IfOk result (λ tables.
-        AreTables g most depths.now.depths (numbers roots.now) tables.items) }
-    ensures few { IfOk result (λ tables. All (λ x. length x.fanins ≤ 6) tables.items) }
+    ensures { IfOk result (λ tables. AreChosen depths.now roots.now tables.items) }
 {
     let all = ClassDepths {
         depths: depths.depths(),
     };
     let places = by_depth(alloc, &all)?;
-    let mut tables = choose_down(alloc, depths, roots, &places)?;
+    let mut tables = choose_down(alloc, &Wanted { depths, roots }, &places)?;
     tables.reverse();
     Ok(tables)
 }

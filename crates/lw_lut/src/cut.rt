@@ -3,6 +3,7 @@ ghost use Rattle.std.specs.Prelude.{◌≡◌, ◌+◌, ◌*◌, ◌^◌, ◌<�
 ghost use Rattle.lw_lut.specs.Cuts.{ArePinsOfCut, IsConstantCut, IsPinCut, PlainCut, is_set, turned, is_odd};
 ghost use Rattle.lw_lut.specs.Packed.{joined_bits, joined_value};
 
+use lw_graph::Pair;
 use lw_pool::ClassId;
 use std::marker::Model;
 
@@ -151,26 +152,25 @@ fn joined_value(x: &Cut, left: ClassId, y: &Cut, right: ClassId, class: ClassId,
     )
 }
 
-// Two cuts at classes with no more than six pins, and a class that holds their pair.
+// Two cuts with no more than six pins at the classes of a pair, and a class that holds it.
 #[derive(Clone, Copy)]
 pub(crate) struct Joint<'a> {
     pub(crate) x: &'a Cut,
-    pub(crate) left: ClassId,
     pub(crate) y: &'a Cut,
-    pub(crate) right: ClassId,
+    pub(crate) pair: Pair,
     pub(crate) class: ClassId,
     ghost few: { length x.now.pins + length y.now.pins ≤ 6 },
 }
 
 // The values of the NAND of two cuts at classes, as bits.
 fn joined_bits(of: &Joint) -> u64
-    ensures { result ≡ joined_bits of.now.x.now of.now.left.0 of.now.y.now of.now.right.0
+    ensures { result ≡ joined_bits of.now.x.now of.now.pair.x.0 of.now.y.now of.now.pair.y.0
         of.now.class.0 }
 {
     let mut bits = 0;
     let count = of.x.pins().len() + of.y.pins().len();
     for place in (0..numbers_of(PinCount { count })).rev() {
-        let value = joined_value(of.x, of.left, of.y, of.right, of.class, place);
+        let value = joined_value(of.x, of.pair.x, of.y, of.pair.y, of.class, place);
         bits = appended(bits, value);
     }
     bits
@@ -180,7 +180,7 @@ fn joined_bits(of: &Joint) -> u64
 pub(crate) fn joined(of: &Joint) -> Cut
     ensures { result ≡ record {
       pins = of.now.x.now.pins ++ of.now.y.now.pins;
-      bits = joined_bits of.now.x.now of.now.left.0 of.now.y.now of.now.right.0 of.now.class.0;
+      bits = joined_bits of.now.x.now of.now.pair.x.0 of.now.y.now of.now.pair.y.0 of.now.class.0;
     } }
 {
     let mut cut = of.x.copy();

@@ -1,28 +1,28 @@
 ghost use Rattle.std.specs.Prelude.{◌≤◌, IfOk};
 ghost use Rattle.lw_lut.specs.Depths.{AreLeastDepths};
-ghost use Rattle.lw_lut.specs.Sweeps.{AreReachesOf, IsAtDepth, HasAllDepths};
+ghost use Rattle.lw_lut.specs.Sweeps.{IsAtDepth, HasAllDepths};
 
 use crate::found::Depths;
 use crate::reach::reaches;
 use crate::search::Search;
 use crate::span::Span;
+use crate::task::Task;
 use lw_graph::Graph;
 use std::alloc::{AllocError, Global};
 
 impl Search {
     // Finds all depths.
-    fn find_all(&mut self, graph: &Graph, leaves: u8, reach: &[Span])
-        requires reach { AreReachesOf graph.now reach.now }
-        requires some { 2 ≤ leaves }
-        requires at { IsAtDepth graph.now leaves 1 self.old }
-        ensures { HasAllDepths graph.now leaves self.new }
+    fn find_all(&mut self, task: &Task)
+        requires some { 2 ≤ task.now.leaves }
+        requires at { IsAtDepth task.now.graph.now task.now.leaves 1 self.old }
+        ensures { HasAllDepths task.now.graph.now task.now.leaves self.new }
     {
         let mut span = Span {
             low: 0,
-            high: graph.classes(),
+            high: task.graph.classes(),
         };
         let mut depth = 1;
-        while self.deepen_all(graph, leaves, depth, reach, &mut span) {
+        while self.deepen_all(task, depth, &mut span) {
             depth += 1;
         }
     }
@@ -37,7 +37,11 @@ pub fn depths(alloc: Global, graph: &Graph, leaves: u8) -> Result<Depths, AllocE
 {
     let reach = reaches(alloc, graph)?;
     let mut search = Search::new(alloc, graph, leaves)?;
-    search.find_all(graph, leaves, &reach);
+    search.find_all(&Task {
+        graph,
+        leaves,
+        reach: &reach,
+    });
     Ok(Depths {
         depths: search.depths,
         cuts: search.cuts,

@@ -19,6 +19,7 @@ mod search;
 mod span;
 mod start;
 mod table;
+mod task;
 mod writing;
 
 pub use finding::depths;

@@ -1,7 +1,6 @@
 // The names of nets.
-ghost use Rattle.std.specs.Prelude.{◌≡◌, ◌+◌, ◌<◌, ◌^◌, ◌++◌, All, IfOk, length};
-ghost use Rattle.lw_laws.specs.Names.{free_names, gate_names};
-ghost use Rattle.lw_lut.specs.Nets.{table_classes};
+ghost use Rattle.std.specs.Prelude.{◌≡◌, ◌+◌, ◌<◌, ◌^◌, All, IfOk, length};
+ghost use Rattle.lw_lut.specs.Nets.{table_classes, table_names};
 ghost use Rattle.lw_lut.specs.Placed.{HaveRootsBelow};
 ghost use Rattle.lw_pool.specs.Numbers.{numbers};
 
@@ -33,10 +32,7 @@ pub(crate) fn names_of(
     requires few { length ports.now.inputs + length ports.now.outputs + length tables.now < 2 ^ 63 }
     requires roots { HaveRootsBelow classes ports.now }
     requires tables { All (λ x. x.out.0 < classes) tables.now }
-    ensures { IfOk result (λ names. names
-        ≡ gate_names ports.now.outputs (numbers ports.now.roots)
-        (free_names (ports.now.inputs ++ ports.now.outputs) (length tables.now))
-        (table_classes tables.now)) }
+    ensures { IfOk result (λ names. names ≡ table_names ports.now tables.now) }
 {
     let gates = classes_of(alloc, tables)?;
     let (inputs, outputs, roots) = (&ports.inputs, &ports.outputs, ports.roots.as_slice());

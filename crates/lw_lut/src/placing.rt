@@ -1,8 +1,6 @@
 // Places of nets.
-ghost use Rattle.std.specs.Prelude.{◌++◌, IfOk};
-ghost use Rattle.lw_lut.specs.Nets.{table_classes};
-ghost use Rattle.lw_lut.specs.Placed.{ArePlaceable, HasPlaces};
-ghost use Rattle.lw_pool.specs.Numbers.{numbers};
+ghost use Rattle.std.specs.Prelude.{IfOk};
+ghost use Rattle.lw_lut.specs.Placed.{ArePlaceable, ArePlacesOf};
 
 use crate::table::Table;
 use lw_pool::ClassId;
@@ -17,8 +15,7 @@ pub(crate) fn places_of(
     tables: &[Table],
 ) -> Result<Vec<u32>, AllocError>
     requires { ArePlaceable classes inputs.now tables.now }
-    ensures { IfOk result (λ places.
-        HasPlaces (numbers inputs.now ++ table_classes tables.now) places.items) }
+    ensures { IfOk result (λ places. ArePlacesOf inputs.now tables.now places.items) }
 {
     let mut places = vec![in alloc; 0; classes]?;
     for input in 0..inputs.len() {

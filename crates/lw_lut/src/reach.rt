@@ -1,8 +1,7 @@
 // Which classes hold pairs with a class.
 ghost use Rattle.std.specs.Prelude.{◌-◌, ◌/◌, ◌<◌, ◌^◌, All, Contains, IfOk, length};
 ghost use Rattle.lw_graph.specs.declared.pair.Pair.{Pair};
-ghost use Rattle.lw_lut.specs.Reaches.{AreGrown, IsIn, span_at};
-ghost use Rattle.lw_lut.specs.Sweeps.{AreReachesOf};
+ghost use Rattle.lw_lut.specs.Reaches.{AreGrown, AreReachesOf, IsIn, span_at};
 ghost use Rattle.lw_lut.specs.declared.span.Span.{Span};
 
 use crate::span::Span;

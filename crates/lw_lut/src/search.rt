@@ -1,14 +1,13 @@
 // The search for depths, leaf count by leaf count.
-ghost use Rattle.std.specs.Prelude.{◌≡◌, ◌+◌, ◌*◌, ◌/◌, ◌<◌, ◌≤◌, ◌^◌, ◌||◌, ℕ, length, All, MatchOption, Some, None, slice_get, slice_index};
-ghost use Rattle.lw_laws.specs.Graphs.{HoldsPair};
-ghost use Rattle.lw_lut.specs.Cuts.{IsCutAt, is_odd};
-ghost use Rattle.lw_lut.specs.Searches.{AreCounts, IsBoundedAt, IsBelow, IsDeepened, IsServing, count_at};
-ghost use Rattle.lw_lut.specs.Reaches.{AreBoundedBut, IsWithin, span_at};
-ghost use Rattle.lw_lut.specs.Sweeps.{AreInPlace, AreReachesOf, Deepens, IsAtDepth, IsSweptBut, LowersCount, LowersAll, LowersIn, LowersRound, MayLower, Settles, SettlesAll};
+ghost use Rattle.std.specs.Prelude.{◌≡◌, ◌+◌, ◌*◌, ◌/◌, ◌<◌, ◌≤◌, ◌^◌, ◌||◌, length, All, MatchOption, Some, None};
+ghost use Rattle.lw_lut.specs.Searches.{HasFewer, IsBoundedAt, IsDeepened, IsServing, IsSide, count_at};
+ghost use Rattle.lw_lut.specs.Reaches.{AreBoundedBut};
+ghost use Rattle.lw_lut.specs.Sweeps.{AreInPlace, Deepens, IsAtDepth, IsSweptBut, LowersCount, LowersAll, LowersIn, LowersRound, MayLower, SeesPlace, Settles, SettlesAll};
 ghost use Rattle.lw_pool.specs.declared.id.ClassId.{ClassId};
 
 use crate::cut::{Cut, Joint, joined};
 use crate::span::Span;
+use crate::task::Task;
 use lw_graph::{Graph, Pair};
 use lw_pool::ClassId;
 use std::alloc::{AllocError, Global};
@@ -55,9 +54,7 @@ fn better_pair(graph: &Graph, counts: &[u8], class: ClassId) -> Option<Pair>
     requires places { length graph.now.pairs ≡ 2 * length counts.now }
     requires few { All (λ n. n ≤ 7) counts.now }
     ensures { MatchOption result (IsBoundedAt graph.now counts.now class.0)
-        (λ pair. HoldsPair graph.now class.0 pair.x.0 pair.y.0 ×
-        (count_at counts.now pair.x.0 + count_at counts.now pair.y.0 < count_at counts.now class.0)
-        × (pair.x.0 / 2 < length counts.now) × (pair.y.0 / 2 < length counts.now)) }
+        (HasFewer graph.now counts.now class.0) }
 {
     let mut best = counts[place_of(class)];
     let mut found = None;
@@ -108,12 +105,7 @@ impl Search {
         requires within { class.0 / 2 < length self.now.cuts.items }
         requires pins { length self.now.pins.items ≡ length self.now.cuts.items }
         requires counts { length self.now.counts.items ≡ length self.now.cuts.items }
-        ensures { (g : _) (most d : ℕ) → AreCounts g most d self.now →
-            count_at self.now.counts.items class.0 ≤ most →
-            IsCutAt g class.0 (is_odd class.0) result ×
-            (length result.pins ≡ count_at self.now.counts.items class.0) ×
-            ((k : ℕ) (q : _) → slice_get result.pins k ≡ Some q →
-            IsBelow self.now.depths.items d q.0) }
+        ensures { IsSide self.now class.0 result }
     {
         let place = place_of(class);
         match serving(self.pins[place], self.counts[place]) {
@@ -124,76 +116,60 @@ impl Search {
 
     // Gives the place of a class the cut of a pair of the class that has fewer leaves, if there
     // is one.
-    fn lower(&mut self, graph: &Graph, leaves: u8, class: ClassId) -> bool
-        requires class { class.0 < length graph.now.pairs }
-        requires may { MayLower graph.now leaves self.old }
-        ensures { LowersCount graph.now leaves self.old self.new class.0 result }
+    fn lower(&mut self, task: &Task, class: ClassId) -> bool
+        requires class { class.0 < length task.now.graph.now.pairs }
+        requires may { MayLower task.now self.old }
+        ensures { LowersCount task.now self.old self.new class.0 result }
     {
-        let Some(pair) = better_pair(graph, &self.counts, class) else {
+        let Some(pair) = better_pair(task.graph, &self.counts, class) else {
             return false;
         };
         let (left, right) = (self.side(pair.x), self.side(pair.y));
-        let joint = Joint {
-            x: &left,
-            left: pair.x,
-            y: &right,
-            right: pair.y,
-            class,
-        };
-        let cut = joined(&joint);
+        let (x, y) = (&left, &right);
+        let cut = joined(&Joint { x, y, pair, class });
         let place = (class.0 / 2) as usize;
         self.counts[place] = cut.pins().len() as u8;
         self.cuts[place] = cut;
         true
     }
 
-    // The same. Where a count falls the class and those that hold pairs with its place, whose span
-    // is given, are to be looked at again.
-    fn lower_at(
-        &mut self,
-        graph: &Graph,
-        leaves: u8,
-        reach: &[Span],
-        class: ClassId,
-        next: Span,
-    ) -> Span
-        requires class { class.0 < length graph.now.pairs }
-        requires places { length graph.now.pairs ≡ 2 * length reach.now }
-        requires may { MayLower graph.now leaves self.old }
-        ensures { LowersIn graph.now leaves reach.now self.old self.new class.0 next result }
+    // The same. Where a count falls the class and those that hold pairs with its place are to be
+    // looked at again.
+    fn lower_at(&mut self, task: &Task, class: ClassId, next: Span) -> Span
+        requires class { class.0 < length task.now.graph.now.pairs }
+        requires may { MayLower task.now self.old }
+        ensures { LowersIn task.now self.old self.new class.0 next result }
     {
-        let _ = graph.classes();
-        if !self.lower(graph, leaves, class) {
+        let _ = task.graph.classes();
+        if !self.lower(task, class) {
             return next;
         }
-        next.join(reach[place_of(class)]).with(class)
+        next.join(task.reach[place_of(class)]).with(class)
     }
 
     // Goes once through the classes of a span. What is to be looked at again is answered.
-    fn lower_round(&mut self, graph: &Graph, leaves: u8, reach: &[Span], span: Span) -> Span
-        requires reach { AreReachesOf graph.now reach.now }
-        requires may { MayLower graph.now leaves self.old }
-        requires bounded { AreBoundedBut graph.now self.old.counts.items span }
-        ensures { LowersRound graph.now leaves self.old self.new span result }
+    fn lower_round(&mut self, task: &Task, span: Span) -> Span
+        requires may { MayLower task.now self.old }
+        requires bounded { AreBoundedBut task.now.graph.now self.old.counts.items span }
+        ensures { LowersRound task.now self.old self.new span result }
     {
         let mut next = Span::nothing();
-        for class in span.low..span.high.min(graph.classes()) {
-            next = self.lower_at(graph, leaves, reach, ClassId(class), next);
+        for class in span.low..span.high.min(task.graph.classes()) {
+            next = self.lower_at(task, ClassId(class), next);
         }
         next
     }
 
     // Lets counts fall until no pair would lower one. Only classes of the span are not bounded. A
     // span with the places where counts have fallen is answered.
-    fn lower_all(&mut self, graph: &Graph, leaves: u8, reach: &[Span], span: Span) -> Span
-        requires reach { AreReachesOf graph.now reach.now }
-        requires may { MayLower graph.now leaves self.old }
-        requires bounded { AreBoundedBut graph.now self.old.counts.items span }
-        ensures { LowersAll graph.now leaves self.old self.new span result }
+    fn lower_all(&mut self, task: &Task, span: Span) -> Span
+        requires may { MayLower task.now self.old }
+        requires bounded { AreBoundedBut task.now.graph.now self.old.counts.items span }
+        ensures { LowersAll task.now self.old self.new span result }
     {
         let (mut span, mut swept) = (span, span);
         while span.low < span.high {
-            span = self.lower_round(graph, leaves, reach, span);
+            span = self.lower_round(task, span);
             swept = swept.join(span);
         }
         swept
@@ -216,41 +192,31 @@ impl Search {
     }
 
     // A span with those that hold pairs with a place whose count falls when it is settled.
-    fn seen(&self, leaves: u8, reach: &[Span], place: usize, next: Span) -> Span
+    fn seen(&self, task: &Task, place: usize, next: Span) -> Span
         requires place { place < length self.now.counts.items }
-        requires places { length reach.now ≡ length self.now.counts.items }
-        ensures grown { IsWithin next result }
-        ensures seen { (slice_index self.now.counts.items place ≤ 1 → ⊥) →
-            slice_index self.now.counts.items place ≤ leaves →
-            IsWithin (span_at reach.now place) result }
+        requires places { length task.now.reach.now ≡ length self.now.counts.items }
+        ensures { SeesPlace task.now self.now place next result }
     {
-        if self.counts[place] > 1 && self.counts[place] <= leaves {
-            return next.join(reach[place]);
+        if self.counts[place] > 1 && self.counts[place] <= task.leaves {
+            return next.join(task.reach[place]);
         }
         next
     }
 
     // The same for the places of a span. The classes of the others that have few enough leaves
     // have depths. The other span grows by the classes that are then to be looked at.
-    fn settle_all(
-        &mut self,
-        leaves: u8,
-        depth: u32,
-        reach: &[Span],
-        swept: Span,
-        next: &mut Span,
-    ) -> bool
+    fn settle_all(&mut self, task: &Task, depth: u32, swept: Span, next: &mut Span) -> bool
         requires places { AreInPlace self.old }
-        requires reach { length reach.now ≡ length self.old.counts.items }
-        ensures { SettlesAll leaves depth reach.now self.old self.new swept next.new result }
+        requires reach { length task.now.reach.now ≡ length self.old.counts.items }
+        ensures { SettlesAll task.now depth self.old self.new swept next.new result }
     {
         let places = self.counts.len();
         let first = ((swept.low / 2) as usize).min(places);
         let last = ((swept.high / 2) as usize + 1).min(places);
         let mut changed = false;
         for place in first..last {
-            *next = self.seen(leaves, reach, place, *next);
-            let deeper = self.settle(leaves, place, depth);
+            *next = self.seen(task, place, *next);
+            let deeper = self.settle(task.leaves, place, depth);
             changed = either(deeper, changed);
         }
         changed
@@ -258,22 +224,14 @@ impl Search {
 
     // One depth more: the classes whose tables need no deeper pins get it. Says whether there are
     // any. Only classes of the span are not bounded, or have few enough leaves and no depth.
-    pub(crate) fn deepen_all(
-        &mut self,
-        graph: &Graph,
-        leaves: u8,
-        depth: u32,
-        reach: &[Span],
-        span: &mut Span,
-    ) -> bool
-        requires reach { AreReachesOf graph.now reach.now }
-        requires at { IsAtDepth graph.now leaves depth self.old }
-        requires swept { IsSweptBut graph.now leaves self.old span.old }
-        ensures { Deepens graph.now leaves depth self.old self.new span.new result }
+    pub(crate) fn deepen_all(&mut self, task: &Task, depth: u32, span: &mut Span) -> bool
+        requires at { IsAtDepth task.now.graph.now task.now.leaves depth self.old }
+        requires swept { IsSweptBut task.now.graph.now task.now.leaves self.old span.old }
+        ensures { Deepens task.now depth self.old self.new span.new result }
     {
-        let _ = graph.classes();
-        let swept = self.lower_all(graph, leaves, reach, *span);
+        let _ = task.graph.classes();
+        let swept = self.lower_all(task, *span);
         *span = Span::nothing();
-        self.settle_all(leaves, depth, reach, swept, span)
+        self.settle_all(task, depth, swept, span)
     }
 }

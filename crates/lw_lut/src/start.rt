@@ -1,6 +1,6 @@
 // The start of a search.
 ghost use Rattle.std.specs.Prelude.{◌≡◌, ◌≤◌, ◌<◌, ◌+◌, length, replicate, None, IfOk};
-ghost use Rattle.lw_lut.specs.Searches.{AreCounts, AreDepthsUpTo, IsStarted};
+ghost use Rattle.lw_lut.specs.Searches.{AreCounts, AreDepthsUpTo, HasStarted};
 ghost use Rattle.lw_lut.specs.Sweeps.{IsAtDepth};
 
 use crate::cut::Cut;
@@ -45,8 +45,7 @@ impl Search {
     // Nothing is known.
     fn none(alloc: Global, graph: &Graph, leaves: u8) -> Result<Self, AllocError>
         requires { leaves ≤ 6 }
-        ensures { IfOk result (λ s. IsStarted graph.now leaves 0 s.counts.items s.cuts.items
-            s.pins.items s.depths.items) }
+        ensures { IfOk result (HasStarted graph.now leaves 0) }
     {
         let classes = graph.classes() as usize;
         Ok(Search {
@@ -59,11 +58,8 @@ impl Search {
 
     // Gives the inputs' classes the depth 0, and their places pins.
     fn give_inputs(&mut self, graph: &Graph, leaves: u8)
-        requires { IsStarted graph.now leaves 0 self.old.counts.items self.old.cuts.items
-            self.old.pins.items self.old.depths.items }
-        ensures { IsStarted graph.now leaves
-            (length graph.now.leaves) self.new.counts.items self.new.cuts.items self.new.pins.items
-            self.new.depths.items }
+        requires { HasStarted graph.now leaves 0 self.old }
+        ensures { HasStarted graph.now leaves (length graph.now.leaves) self.new }
     {
         let _ = (graph.classes(), leaves);
         for input in 0..graph.inputs() {
@@ -79,9 +75,7 @@ impl Search {
     // Gives the place of true its constant.
     fn give_constants(&mut self, graph: &Graph, leaves: u8)
         requires few { 1 ≤ leaves }
-        requires started { IsStarted graph.now leaves
-            (length graph.now.leaves) self.old.counts.items self.old.cuts.items self.old.pins.items
-            self.old.depths.items }
+        requires started { HasStarted graph.now leaves (length graph.now.leaves) self.old }
         ensures counts { AreCounts graph.now leaves 1 self.new }
         ensures depths { AreDepthsUpTo graph.now leaves self.new.depths.items 0 }
     {

@@ -12,14 +12,14 @@ use Rattle.lw_map.specs.Options.{plain_options}
 use Rattle.lw_map.specs.Ports.{ArePortsOf}
 use Rattle.lw_map.specs.Trading.{AreEarliest, HaveLabelsTo, IsTradeable, IsTradedNetlist, micros, put_off}
 
--- there are no more classes than are numbered, and a mark for each
-pub record CanBeRead (marks : List (Option Mark)) (roots : List ClassId) : Type 0 where
-  pub few : length roots < 2 ^ 32
-  pub in_range : All (λ (root : ClassId). root.0 < length marks) roots
+-- there are no more outputs than are numbered, and a mark for the class of each
+pub record CanBeRead (p : Problem) (marks : List (Option Mark)) : Type 0 where
+  pub few : length p.choices.now.roots < 2 ^ 32
+  pub in_range : All (λ (root : ClassId). root.0 < length marks) p.choices.now.roots
 
--- the labels of these classes
-abbrev pub HaveLabels : List (Option Mark) → List ClassId → List Micro → Type 0
-HaveLabels marks roots labels = HaveLabelsTo marks roots (length roots) labels
+-- the labels of the outputs' classes
+abbrev pub HaveLabels : Problem → List (Option Mark) → List Micro → Type 0
+HaveLabels p marks labels = HaveLabelsTo marks p.choices.now.roots (length p.choices.now.roots) labels
 
 -- the least time of each output of the network
 abbrev pub AreTimes : Problem → List ℕ → Type 0

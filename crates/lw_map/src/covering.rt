@@ -56,16 +56,16 @@ pub(crate) fn ports(alloc: Global, net: &Network, choices: &Choices) -> Result<P
 impl Problem<'_> {
     // The netlist of the matches that labels choose for the outputs, or the first output that has
     // none.
-    fn cover<C: Cost>(&self, alloc: Global, cost: &C, by: &Labelled) -> Result<Cover, ExtractFault>
+    fn covered<C: Cost>(&self, cost: &C, labelled: &Labelled) -> Result<Cover, ExtractFault>
         requires given { CanBeMapped (C.costs cost.now) self.now }
-        requires labels { HasLeastLabels (C.costs cost.now) self.now by.now }
-        ensures cover { IfOk result (IsCoverAtPorts (C.costs cost.now) self.now by.now.labels) }
-        ensures lacks { IfErr result (LacksLabel by.now.labels self.now.choices.now.roots) }
+        requires labels { HasLeastLabels (C.costs cost.now) self.now labelled.now }
+        ensures cover { IfOk result (IsCoverAtPorts (C.costs cost.now) self.now labelled.now.labels) }
+        ensures lacks { IfErr result (LacksLabel labelled.now.labels self.now.choices.now.roots) }
     {
         let _ = self.net.inputs();
-        let ports = ports(alloc, self.net, self.choices)?;
-        let (graph, pats, labels) = (&self.choices.graph, &self.pats, &by.labels);
-        let bounds = by.bounds.as_ref();
+        let ports = ports(self.alloc, self.net, self.choices)?;
+        let (alloc, graph, pats) = (self.alloc, &self.choices.graph, &self.pats);
+        let (labels, bounds) = (&labelled.labels, labelled.bounds.as_ref());
         let cover = extract_with(alloc, graph, pats, self.lib, labels, bounds, &ports, cost);
         drop(ports);
         cover
@@ -73,18 +73,13 @@ impl Problem<'_> {
 
     /// The labels by a cost, and the netlist of the matches that they choose for the outputs, or
     /// the first output that has none.
-    pub fn mapped<C: Cost>(
-        &self,
-        alloc: Global,
-        cost: &C,
-        labeller: Labeller,
-    ) -> Result<Mapping, ExtractFault>
+    pub fn mapped<C: Cost>(&self, cost: &C, labeller: Labeller) -> Result<Mapping, ExtractFault>
         requires { CanBeMapped (C.costs cost.now) self.now }
         ensures mapped { IfOk result (IsMappedBy labeller (C.costs cost.now) self.now) }
         ensures lacks { IfErr result (LacksLeastLabel (C.costs cost.now) self.now) }
     {
-        let labelled = self.label(alloc, cost, labeller)?;
-        let cover = self.cover(alloc, cost, &labelled)?;
+        let labelled = self.label(cost, labeller)?;
+        let cover = self.covered(cost, &labelled)?;
         Ok(Mapping {
             netlist: cover.netlist,
             classes: cover.classes,
@@ -94,18 +89,18 @@ impl Problem<'_> {
     }
 
     // The netlist in which each output has its least time, or the first output that has no cover.
-    fn fastest(&self, alloc: Global, labeller: Labeller) -> Result<Mapping, MapFault>
+    fn fastest(&self, labeller: Labeller) -> Result<Mapping, MapFault>
         requires { IsProblem self.now }
         ensures mapping { IfOk result (IsFastest labeller self.now) }
         ensures fault { IfErr result (IsLack self.now) }
     {
         let cost = DelayCost::new(self.lib, self.starts);
-        match self.mapped(alloc, &cost, labeller) {
+        match self.mapped(&cost, labeller) {
             Ok(mapping) => {
                 let _ = mapping.netlist.gates();
                 Ok(mapping)
             }
-            Err(fault) => Err(refused(alloc, self.net, fault)),
+            Err(fault) => Err(refused(self.alloc, self.net, fault)),
         }
     }
 }
@@ -132,13 +127,14 @@ pub fn cover(
     let _ = (lib.len(), net.inputs());
     let pats = patterns(alloc, lib)?;
     let problem = Problem {
+        alloc,
         lib,
         net,
         starts,
         choices,
         pats,
     };
-    let mapping = problem.fastest(alloc, labeller);
+    let mapping = problem.fastest(labeller);
     drop(problem);
     mapping
 }

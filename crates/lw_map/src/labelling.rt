@@ -9,7 +9,7 @@ use crate::problem::Problem;
 use lw_label::{Labels, relabel_with_bounds};
 use lw_match::{Bounds, Cost};
 use lw_settle::{StoreFault, settle, store_matches};
-use std::alloc::{AllocError, Global};
+use std::alloc::AllocError;
 
 /// The labels of the classes of a graph, the table of bounds for them where they are found in
 /// rounds, and how often a stored match was read to find them: none in rounds, which are taken too
@@ -23,11 +23,11 @@ pub(crate) struct Labelled {
 
 impl Problem<'_> {
     // The least cost of a cover of each class, and the height of the class, in rounds.
-    fn by_rounds<C: Cost>(&self, alloc: Global, cost: &C) -> Result<Labelled, AllocError>
+    fn by_rounds<C: Cost>(&self, cost: &C) -> Result<Labelled, AllocError>
         requires { AreOfCells (C.costs cost.now).pin_counts self.now.pats }
         ensures { IfOk result (AreFoundBy Labeller.Rounds (C.costs cost.now) self.now) }
     {
-        let found = relabel_with_bounds(alloc, &self.choices.graph, &self.pats, cost)?;
+        let found = relabel_with_bounds(self.alloc, &self.choices.graph, &self.pats, cost)?;
         Ok(Labelled {
             labels: found.labels,
             bounds: Some(found.bounds),
@@ -36,18 +36,17 @@ impl Problem<'_> {
     }
 
     // The least cost of a cover of each class, and the height of the class, by stored matches.
-    fn settled<C: Cost>(&self, alloc: Global, cost: &C) -> Result<Labelled, AllocError>
+    fn settled<C: Cost>(&self, cost: &C) -> Result<Labelled, AllocError>
         requires { CanBeMapped (C.costs cost.now) self.now }
         ensures { IfOk result (AreFoundBy Labeller.Store (C.costs cost.now) self.now) }
     {
-        let graph = &self.choices.graph;
-        let _ = graph.classes();
-        let mut store = match store_matches(alloc, graph, &self.pats) {
+        let _ = self.choices.graph.classes();
+        let mut store = match store_matches(self.alloc, &self.choices.graph, &self.pats) {
             Ok(store) => store,
-            Err(StoreFault::TooMany) => return self.by_rounds(alloc, cost),
+            Err(StoreFault::TooMany) => return self.by_rounds(cost),
             Err(StoreFault::Memory) => return Err(AllocError),
         };
-        let labels = settle(alloc, &mut store, graph, cost);
+        let labels = settle(self.alloc, &mut store, &self.choices.graph, cost);
         let steps = Some(store.done());
         drop(store);
         Ok(Labelled {
@@ -58,18 +57,13 @@ impl Problem<'_> {
     }
 
     /// The least cost of a cover of each class, and the height of the class.
-    pub fn label<C: Cost>(
-        &self,
-        alloc: Global,
-        cost: &C,
-        labeller: Labeller,
-    ) -> Result<Labelled, AllocError>
+    pub fn label<C: Cost>(&self, cost: &C, labeller: Labeller) -> Result<Labelled, AllocError>
         requires { CanBeMapped (C.costs cost.now) self.now }
         ensures { IfOk result (AreFoundBy labeller (C.costs cost.now) self.now) }
     {
         match labeller {
-            Labeller::Rounds => self.by_rounds(alloc, cost),
-            Labeller::Store => self.settled(alloc, cost),
+            Labeller::Rounds => self.by_rounds(cost),
+            Labeller::Store => self.settled(cost),
         }
     }
 }

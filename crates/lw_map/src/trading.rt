@@ -23,31 +23,8 @@ use lw_match::Mark;
 use lw_net::Network;
 use lw_netlist::Netlist;
 use lw_pattern::patterns;
-use lw_pool::ClassId;
 use lw_trade::{AreaCost, Targets, curves, trade};
 use std::alloc::{AllocError, Global};
-
-// The labels of some classes, or the first of them that has none.
-fn labels_of(
-    alloc: Global,
-    marks: &[Option<Mark>],
-    roots: &[ClassId],
-) -> Result<Vec<Micro>, ExtractFault>
-    requires { CanBeRead marks.now roots.now }
-    ensures labels { IfOk result (λ labels. HaveLabels marks.now roots.now labels.items) }
-    ensures lacks { IfErr result (LacksLabel marks.now roots.now) }
-{
-    let mut labels = Vec::with_capacity(alloc, roots.len())?;
-    for (k, root) in roots.iter().enumerate() {
-        let Some(mark) = marks[root.0 as usize] else {
-            return Err(ExtractFault::NoCover(k as u32));
-        };
-        let Ok(()) = labels.push(Micro(mark.cost)) else {
-            return Err(ExtractFault::Memory);
-        };
-    }
-    Ok(labels)
-}
 
 // The latest of some times, and at least the deadline.
 fn latest_of(deadline: Micro, times: &[Micro]) -> Micro
@@ -72,30 +49,48 @@ fn put_off(alloc: Global, times: &[Micro], deadline: Micro) -> Result<Vec<Micro>
 }
 
 impl Problem<'_> {
+    // The labels of the outputs' classes, or the first output whose class has none.
+    fn labels_of(&self, marks: &[Option<Mark>]) -> Result<Vec<Micro>, ExtractFault>
+        requires { CanBeRead self.now marks.now }
+        ensures labels { IfOk result (λ labels. HaveLabels self.now marks.now labels.items) }
+        ensures lacks { IfErr result (LacksLabel marks.now self.now.choices.now.roots) }
+    {
+        let roots = self.choices.roots.as_slice();
+        let mut labels = Vec::with_capacity(self.alloc, roots.len())?;
+        for (k, root) in roots.iter().enumerate() {
+            let Some(mark) = marks[root.0 as usize] else {
+                return Err(ExtractFault::NoCover(k as u32));
+            };
+            let Ok(()) = labels.push(Micro(mark.cost)) else {
+                return Err(ExtractFault::Memory);
+            };
+        }
+        Ok(labels)
+    }
+
     // The least time of each output.
-    fn earliest(&self, alloc: Global) -> Result<Vec<Micro>, MapFault>
+    fn earliest(&self) -> Result<Vec<Micro>, MapFault>
         requires { IsProblem self.now }
         ensures least { IfOk result (λ times. AreLeastTimes self.now times.items) }
         ensures fault { IfErr result (IsLack self.now) }
     {
         let cost = DelayCost::new(self.lib, self.starts);
-        let labelled = self.label(alloc, &cost, Labeller::Rounds)?;
-        let roots = self.choices.roots.as_slice();
-        let times = labels_of(alloc, labelled.labels.marks(), roots);
+        let labelled = self.label(&cost, Labeller::Rounds)?;
+        let times = self.labels_of(labelled.labels.marks());
         drop(labelled);
         match times {
             Ok(times) => Ok(times),
-            Err(fault) => Err(refused(alloc, self.net, fault)),
+            Err(fault) => Err(refused(self.alloc, self.net, fault)),
         }
     }
 
     // What a netlist is built for: the ports of the network, whose outputs arrive by the later of
     // these times and the deadline.
-    fn targets(&self, alloc: Global, times: &[Micro], until: Micro) -> Result<Targets, AllocError>
-        ensures { IfOk result (AreTargets self.now until times.now) }
+    fn targets(&self, times: &[Micro], deadline: Micro) -> Result<Targets, AllocError>
+        ensures { IfOk result (AreTargets self.now deadline times.now) }
     {
-        let later = put_off(alloc, times, until)?;
-        let ports = ports(alloc, self.net, self.choices)?;
+        let later = put_off(self.alloc, times, deadline)?;
+        let ports = ports(self.alloc, self.net, self.choices)?;
         Ok(Targets {
             model: ports.model,
             inputs: ports.inputs,
@@ -106,18 +101,18 @@ impl Problem<'_> {
     }
 
     // The netlist of least area by a deadline, where these are the least times of the outputs.
-    fn in_time(&self, alloc: Global, times: &[Micro], deadline: Micro) -> Result<Netlist, MapFault>
+    fn in_time(&self, times: &[Micro], deadline: Micro) -> Result<Netlist, MapFault>
         requires problem { IsProblem self.now }
         requires late { IsSmall deadline }
         requires least { AreLeastTimes self.now times.now }
         ensures traded { IfOk result (IsTrade self.now (Some deadline)) }
         ensures fault { IfErr result (IsFault self.now (Some deadline)) }
     {
-        let (graph, pats, lib, starts) = (&self.choices.graph, &self.pats, self.lib, self.starts);
+        let (graph, pats, lib) = (&self.choices.graph, &self.pats, self.lib);
         let horizon = latest_of(deadline, times);
-        let curves = curves(alloc, graph, pats, lib, starts, horizon)?;
-        let targets = self.targets(alloc, times, deadline)?;
-        let netlist = trade(alloc, graph, pats, lib, starts, &curves, &targets);
+        let curves = curves(self.alloc, graph, pats, lib, self.starts, horizon)?;
+        let targets = self.targets(times, deadline)?;
+        let netlist = trade(self.alloc, graph, pats, lib, self.starts, &curves, &targets);
         drop(curves);
         drop(targets);
         let netlist = netlist?;
@@ -126,14 +121,14 @@ impl Problem<'_> {
     }
 
     // The netlist of least area, where each output has a cover.
-    fn at_any_time(&self, alloc: Global) -> Result<Netlist, MapFault>
+    fn at_any_time(&self) -> Result<Netlist, MapFault>
         requires problem { IsProblem self.now }
         requires covered { HasTimes self.now }
         ensures traded { IfOk result (IsTrade self.now None) }
         ensures memory { IfErr result (λ e. e ≡ MapFault.Memory) }
     {
         let cost = AreaCost::new(self.lib);
-        match self.mapped(alloc, &cost, Labeller::Store) {
+        match self.mapped(&cost, Labeller::Store) {
             Ok(mapping) => {
                 let _ = mapping.netlist.gates();
                 drop(mapping.classes);
@@ -146,16 +141,16 @@ impl Problem<'_> {
     }
 
     // The netlist of least area by a deadline, or of least area of all where there is none.
-    fn traded(&self, alloc: Global, deadline: Option<Micro>) -> Result<Netlist, MapFault>
+    fn traded(&self, deadline: Option<Micro>) -> Result<Netlist, MapFault>
         requires problem { IsProblem self.now }
         requires late { IfSome deadline IsSmall }
         ensures traded { IfOk result (IsTrade self.now deadline) }
         ensures fault { IfErr result (IsFault self.now deadline) }
     {
-        let times = self.earliest(alloc)?;
+        let times = self.earliest()?;
         match deadline {
-            Some(deadline) => self.in_time(alloc, times.as_slice(), deadline),
-            None => self.at_any_time(alloc),
+            Some(deadline) => self.in_time(times.as_slice(), deadline),
+            None => self.at_any_time(),
         }
     }
 }
@@ -186,13 +181,14 @@ pub fn exchange(
     let _ = (lib.len(), net.inputs());
     let pats = patterns(alloc, lib)?;
     let problem = Problem {
+        alloc,
         lib,
         net,
         starts,
         choices,
         pats,
     };
-    let netlist = problem.traded(alloc, deadline);
+    let netlist = problem.traded(deadline);
     drop(problem);
     netlist
 }

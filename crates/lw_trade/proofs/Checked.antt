@@ -1,5 +1,5 @@
 -- What was looked through of a walk makes it a walk.
-use Rattle.std.proofs.Common.{◌≡◌, ℕ, zero, suc, ◌+◌, ◌<◌, ◌≤◌, ◌⊎◌, Bool, true, false, true≢false, inl, inr, length, map, List, [], ◌∷◌, Contains, Option, Some, None, slice_get, slice_index_or, refl, ap, sym, ◌∙◌, subst, subst₂, arith}
+use Rattle.std.proofs.Common.{◌≡◌, ℕ, zero, suc, ◌+◌, ◌<◌, ◌≤◌, ◌⊎◌, Bool, true, false, true≢false, inl, inr, length, map, List, [], ◌∷◌, Contains, Some, None, slice_get, slice_index_or, refl, ap, sym, ◌∙◌, subst, subst₂, arith}
 use Rattle.std.proofs.lemmas.List.{length-map}
 use Rattle.std.proofs.lemmas.Option.{same_Some, get_or_from_slice_get, slice_get_within}
 use Rattle.lw_laws.specs.Covers.{delays_of, start_of}
@@ -25,7 +25,7 @@ use Rattle.lw_trade.specs.Choices.Part.{gate as by_gate}
 use Rattle.lw_trade.specs.Groups.{HaveWays, point_in, way_in, IsHeldRow}
 use Rattle.lw_trade.specs.Lasts.{IsLastIn}
 use Rattle.lw_trade.specs.Points.{Task, timing}
-use Rattle.lw_trade.specs.Trades.{Site, IsPointBy, IsLastBy, IsNetOfPoint, IsPinNet, HavePinNets, IsGateOfPoint}
+use Rattle.lw_trade.specs.Trades.{Site, IsPointBy, IsLastBy, IsPinNet, HavePinNets, IsGateOfPoint}
 use Rattle.lw_trade.specs.Walks.{AreInputsTo, IsRootNet, HaveRootNets, IsUsed, IsWalk}
 use Rattle.lw_trade.specs.Walks.IsUsed.{by_root, by_pin}
 use Rattle.lw_trade.proofs.Grouped.{get_map, map_get}

@@ -178,6 +178,10 @@ pub record HaveFronts (cells : List CellParts) (starts : List Micro) (rows : Lis
 abbrev pub HaveFrontsOf : Job → ℕ → ℕ → FrontState → Type 0
 HaveFrontsOf j classes horizon fronts = HaveFronts j.lib.now j.starts.now j.rows.now classes horizon fronts
 
+-- and of the classes that others have
+abbrev pub HaveFrontsIn : Job → FrontState → ℕ → FrontState → Type 0
+HaveFrontsIn j old horizon fronts = HaveFrontsOf j (length old.least) horizon fronts
+
 -- why the points are not settled up to the horizon
 abbrev pub IsStopFor : List CellParts → List Micro → List Row → ℕ → CurveFault → Type 0
 IsStopFor cells starts rows horizon fault = WhereListed cells starts rows (λ s choices. IsStop s choices horizon fault)

@@ -9,6 +9,7 @@ use Rattle.lw_netlist.specs.declared.gate.Port.{Port}
 use Rattle.lw_netlist.specs.Plain.{port_name}
 use Rattle.lw_trade.specs.declared.targets.Targets.{Targets}
 use Rattle.lw_trade.specs.declared.walking.Walk.{Walk}
+use Rattle.lw_trade.specs.declared.ordering.Placing.{Placing}
 use Rattle.lw_trade.specs.Traded.{port_net}
 
 -- no cycle is behind a node
@@ -56,6 +57,19 @@ placed_gate inputs places cells graph j = record {
 pub record ArePortsAt (inputs : ℕ) (places : List ℕ) (names : List (List ℕ)) (nets : List ℕ) (ports : List Port) : Type 0 where
   pub names_are : map port_name ports ≡ names
   pub nets_are : map port_net ports ≡ map (placed_net inputs places) nets
+
+-- the same by the places of a walk's nodes
+abbrev pub HasNet : Placing → ℕ → Type 0
+HasNet at net = net < at.inputs + length at.places.now
+
+abbrev pub net_in : Placing → ℕ → ℕ
+net_in at net = placed_net at.inputs at.places.now net
+
+abbrev pub gate_in : Placing → ℕ → Gate
+gate_in at j = placed_gate at.inputs at.places.now at.walk.now.cells.items at.walk.now.pins.items j
+
+abbrev pub ArePortsIn : Placing → List (List ℕ) → List ℕ → List Port → Type 0
+ArePortsIn at names nets ports = ArePortsAt at.inputs at.places.now names nets ports
 
 -- each output of the targets has a net of so many inputs and gates, and each input a name
 pub record MayBeNamed (t : Targets) (inputs gates : ℕ) (ports : List Port) : Type 0 where

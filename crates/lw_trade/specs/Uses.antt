@@ -10,7 +10,7 @@ use Rattle.lw_genlib.specs.Cells.{CellParts}
 use Rattle.lw_trade.specs.Choices.{Choice, HasPinAt, pin_delay}
 use Rattle.lw_trade.specs.Choices.Part.{gate}
 use Rattle.lw_trade.specs.Looks.{AreLooks}
-use Rattle.lw_trade.specs.Settling.{Queued, Turns, turns}
+use Rattle.lw_trade.specs.Settling.{Queued, Turns, turns, IsLetWait}
 
 -- the group is of this class and this delay
 abbrev pub IsGroup : List ℕ → List ℕ → ℕ → ℕ → ℕ → Type 0
@@ -26,6 +26,11 @@ pub record HasUse (u : Uses) (n i delay c : ℕ) : Type 0 where
   pub group_is : IsGroup u.links.classes u.delays.items c delay group
   pub member : slice_get u.members.classes place ≡ Some group
   pub owner : slice_get u.owners.items place ≡ Some n
+
+-- the group comes by its delay after a time, unless that is past the horizon
+abbrev pub ComesAfter : Uses → ℕ → ℕ → Queued → Queued → Type 0
+ComesAfter u group time old new =
+    (delay : ℕ) → slice_get u.delays.items group ≡ Some delay → IsLetWait old new (time + delay) group
 
 -- each group has a delay, and each pin a choice
 pub record AreGroups (u : Uses) : Type 0 where

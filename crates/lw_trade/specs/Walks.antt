@@ -4,7 +4,6 @@ use Rattle.lw_pool.specs.declared.id.CellId.{CellId}
 use Rattle.lw_pool.specs.declared.id.ClassId.{ClassId}
 use Rattle.lw_fixed.specs.declared.micro.Micro.{Micro}
 use Rattle.lw_laws.specs.Graphs.{Graph}
-use Rattle.lw_genlib.specs.Cells.{CellParts}
 use Rattle.lw_trade.specs.declared.plan.Plan.{Plan}
 use Rattle.lw_trade.specs.declared.targets.Targets.{Targets}
 use Rattle.lw_trade.specs.declared.walking.Walk.{Walk}
@@ -14,7 +13,10 @@ use Rattle.lw_trade.specs.Backing.{Held, IsHeld}
 use Rattle.lw_trade.specs.Choices.{Choice}
 use Rattle.lw_trade.specs.Groups.{CurveLists}
 use Rattle.lw_trade.specs.Points.{Task, most_points}
-use Rattle.lw_trade.specs.Targets.{AreCurvesFor}
+use Rattle.lw_netlist.specs.Netlists.{NetlistParts}
+use Rattle.lw_genlib.specs.Cells.{CellParts, IsLibrary}
+use Rattle.lw_trade.specs.Targets.{AreCurvesFor, AreTargets}
+use Rattle.lw_trade.specs.Traded.{IsTraded}
 use Rattle.lw_trade.specs.Trades.{Site, IsLastBy, IsPinNet, IsGateOfPoint}
 
 -- one of the first inputs for each class that one of them has
@@ -74,3 +76,13 @@ IsWalkBy plan w =
 abbrev pub IsWalkDown : Graph → List CellParts → CurveLists → Targets → Walk → Type 0
 IsWalkDown g cells curves t w =
     (s : Task) (c : AreCurvesFor s t curves) → s.graph ≡ g → s.cells ≡ cells → WalksFor s t curves c w
+
+-- the gates are those of a walk for some task with so many inputs
+abbrev pub MayAssemble : ℕ → Walk → Targets → Type 0
+MayAssemble inputs w t =
+    (s : Task) × (curves : CurveLists) × (c : AreCurvesFor s t curves) × (sites : List Site) × AreTargets s.graph t × (length s.graph.leaves ≡ inputs) × IsWalk s curves.choices c.ways.held sites t.roots t.times w.cells.items w.pins.items w.nets.items
+
+-- the netlist is what is wanted of each such task
+abbrev pub AssemblesTo : ℕ → Walk → Targets → NetlistParts → Type 0
+AssemblesTo inputs w t n =
+    (s : Task) (curves : CurveLists) (c : AreCurvesFor s t curves) (sites : List Site) → IsLibrary s.cells → AreTargets s.graph t → (length s.graph.leaves ≡ inputs) → IsWalk s curves.choices c.ways.held sites t.roots t.times w.cells.items w.pins.items w.nets.items → IsTraded s t n

@@ -60,19 +60,14 @@ fn area_by(links: &Links, points: &[Found], class: ClassId, time: u64) -> Option
     requires are { AreFoundAt links.now.classes points.now }
     ensures { IsLeastSpot (spots_of links.now.classes points.now) class.0 time result }
 {
-    let Some(mut place) = links.last(class) else {
-        return None;
-    };
+    let mut place = links.last(class)?;
     while points[place as usize].time.0 > time {
         let jump = points[place as usize].jump;
         if jump < place && links.class(jump).0 == class.0 && points[jump as usize].time.0 > time {
             place = jump;
             continue;
         }
-        let Some(before) = links.before(place) else {
-            return None;
-        };
-        place = before;
+        place = links.before(place)?;
     }
     Some(points[place as usize].area)
 }

@@ -2,7 +2,7 @@ ghost use Rattle.std.specs.Prelude.{◌<◌, ◌≤◌, IfErr, IfOk, OnOk, lengt
 ghost use Rattle.lw_match.specs.Least.{AreOfCells};
 ghost use Rattle.lw_trade.specs.Areas.{area_cost};
 ghost use Rattle.lw_trade.specs.Groups.{HaveWays};
-ghost use Rattle.lw_trade.specs.Jobs.{AreListedSomewhere, HasNoPoints, HaveFronts, HaveFrontsOf, IsJob, IsStopFor, IsStopOf, MayBegin};
+ghost use Rattle.lw_trade.specs.Jobs.{AreListedSomewhere, HasNoPoints, HaveFronts, HaveFrontsIn, HaveFrontsOf, IsJob, IsStopFor, IsStopOf, MayBegin};
 ghost use Rattle.lw_trade.specs.Points.{AreCurves, BoundCovers, IsWhy, most_points, point_count, task};
 ghost use Rattle.lw_trade.specs.Rows.{AreRowsFor};
 
@@ -33,8 +33,7 @@ fn settle_fronts(
     requires job { IsJob (length fronts.old.least) job.now }
     requires begun { MayBegin job.now horizon queue.old }
     requires none { HasNoPoints fronts.old }
-    ensures settled { OnOk result (HaveFrontsOf job.now (length fronts.old.least) horizon
-        fronts.new) }
+    ensures settled { OnOk result (HaveFrontsIn job.now fronts.old horizon fronts.new) }
     ensures stop { IfErr result (IsStopOf job.now horizon) }
 {
     let _ = job.lib.len();

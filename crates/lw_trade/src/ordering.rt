@@ -1,17 +1,12 @@
 // Gates by depth.
-ghost use Rattle.std.specs.Prelude.{◌≡◌, ◌+◌, ◌<◌, ◌≤◌, All, IfOk, List, length, map};
+ghost use Rattle.std.specs.Prelude.{◌≡◌, ◌+◌, ◌<◌, ◌≤◌, All, IfOk, length, map};
 ghost use Rattle.std.specs.List.{range_with_len};
 ghost use Rattle.std.specs.List.Sorted.{IsPermutation};
 ghost use Rattle.lw_dag.specs.Graphs.{IsGraph, fanins_at, most_signals};
-ghost use Rattle.lw_genlib.specs.Cells.{IsLibrary};
 ghost use Rattle.lw_laws.specs.Names.{net_names};
-ghost use Rattle.lw_trade.specs.Groups.{CurveLists};
-ghost use Rattle.lw_trade.specs.Placed.{ArePlaces, ArePortsAt, FitPlaces, FitWalk, HaveHeights, IsByHeight, MayBeNamed, placed_gate, placed_net};
-ghost use Rattle.lw_trade.specs.Points.{Task};
-ghost use Rattle.lw_trade.specs.Targets.{AreCurvesFor, AreTargets};
-ghost use Rattle.lw_trade.specs.Traded.{IsTraded, port_net};
-ghost use Rattle.lw_trade.specs.Trades.{Site};
-ghost use Rattle.lw_trade.specs.Walks.{IsWalk};
+ghost use Rattle.lw_trade.specs.Placed.{ArePlaces, ArePortsIn, FitPlaces, FitWalk, HasNet, HaveHeights, IsByHeight, MayBeNamed, gate_in, net_in};
+ghost use Rattle.lw_trade.specs.Traded.{port_net};
+ghost use Rattle.lw_trade.specs.Walks.{AssemblesTo, MayAssemble};
 ghost use Rattle.lw_pool.specs.Numbers.{numbers};
 
 use crate::targets::Targets;
@@ -50,84 +45,76 @@ fn places_in(alloc: Global, order: &[u32]) -> Result<Vec<u32>, AllocError>
     Ok(places)
 }
 
+/// The nodes of a walk beside so many inputs, and the places where they stand.
+#[derive(Drop)]
+pub(crate) struct Placing<'a> {
+    pub inputs: u32,
+    pub places: &'a [u32],
+    pub walk: &'a Walk,
+}
+
 // A net, where the nodes stand in other places.
-fn net_at(inputs: u32, places: &[u32], net: u32) -> NetId
-    requires fit { FitPlaces inputs places.now }
-    requires net { net < inputs + length places.now }
-    ensures { result.0 ≡ placed_net inputs places.now net }
+fn net_at(at: &Placing, net: u32) -> NetId
+    requires fit { FitPlaces at.now.inputs at.now.places.now }
+    requires net { HasNet at.now net }
+    ensures { result.0 ≡ net_in at.now net }
 {
-    if net < inputs {
+    if net < at.inputs {
         NetId(net)
     } else {
-        NetId(inputs + places[(net - inputs) as usize])
+        NetId(at.inputs + at.places[(net - at.inputs) as usize])
     }
 }
 
 // The gate of a node.
-fn gate_of(
-    alloc: Global,
-    inputs: u32,
-    places: &[u32],
-    walk: &Walk,
-    gate: u32,
-) -> Result<Gate, AllocError>
-    requires fit { FitWalk inputs places.now walk.now }
-    requires gate { gate < length places.now }
-    requires pins { All (λ net. net < inputs + length places.now)
-        (fanins_at walk.now.pins.items gate) }
-    ensures { IfOk result (λ g. g
-        ≡ placed_gate inputs places.now walk.now.cells.items walk.now.pins.items gate) }
+fn gate_of(alloc: Global, at: &Placing, gate: u32) -> Result<Gate, AllocError>
+    requires fit { FitWalk at.now.inputs at.now.places.now at.now.walk.now }
+    requires gate { gate < length at.now.places.now }
+    requires pins { All (HasNet at.now) (fanins_at at.now.walk.now.pins.items gate) }
+    ensures { IfOk result (λ g. g ≡ gate_in at.now gate) }
 {
-    let row = walk.pins[gate as usize].as_slice();
+    let row = at.walk.pins[gate as usize].as_slice();
     let mut nets = Vec::with_capacity(alloc, row.len())?;
     for pin in row {
-        nets.push(net_at(inputs, places, *pin))?;
+        nets.push(net_at(at, *pin))?;
     }
     Ok(Gate {
-        cell: walk.cells[gate as usize],
+        cell: at.walk.cells[gate as usize],
         pins: Nets::from_vec(nets),
-        out: net_at(inputs, places, inputs + gate),
+        out: net_at(at, at.inputs + gate),
     })
 }
 
 // The gates of nodes.
-fn gates_of(
-    alloc: Global,
-    inputs: u32,
-    places: &[u32],
-    walk: &Walk,
-    order: &[u32],
-) -> Result<Vec<Gate>, AllocError>
-    requires fit { FitWalk inputs places.now walk.now }
-    requires order { All (λ j. j < length places.now) order.now }
-    requires pins { IsGraph inputs walk.now.pins.items }
-    ensures { IfOk result (λ gates. gates.items ≡ map
-        (placed_gate inputs places.now walk.now.cells.items walk.now.pins.items) order.now) }
+fn gates_of(alloc: Global, at: &Placing, order: &[u32]) -> Result<Vec<Gate>, AllocError>
+    requires fit { FitWalk at.now.inputs at.now.places.now at.now.walk.now }
+    requires order { All (λ j. j < length at.now.places.now) order.now }
+    requires pins { IsGraph at.now.inputs at.now.walk.now.pins.items }
+    ensures { IfOk result (λ gates. gates.items ≡ map (gate_in at.now) order.now) }
 {
     let mut gates = Vec::with_capacity(alloc, order.len())?;
     for gate in order {
-        gates.push(gate_of(alloc, inputs, places, walk, *gate)?)?;
+        gates.push(gate_of(alloc, at, *gate)?)?;
     }
     Ok(gates)
 }
 
 // The outputs with these names at these nets.
-fn outputs_of(
+fn outputs(
     alloc: Global,
-    inputs: u32,
-    places: &[u32],
+    at: &Placing,
     names: &[Name],
     nets: &[u32],
 ) -> Result<Vec<Port>, AllocError>
-    requires fit { FitPlaces inputs places.now }
-    requires nets { All (λ net. net < inputs + length places.now) nets.now }
+    requires fit { FitPlaces at.now.inputs at.now.places.now }
+    requires nets { All (HasNet at.now) nets.now }
     requires one_each { length nets.now ≡ length names.now }
-    ensures { IfOk result (λ ports. ArePortsAt inputs places.now names.now nets.now ports.items) }
+    ensures { IfOk result (λ ports. ArePortsIn at.now names.now nets.now ports.items) }
 {
     let mut outputs = Vec::with_capacity(alloc, names.len())?;
     for k in 0..names.len() {
         let name = Name::from_slice(alloc, names[k].as_bytes())?;
-        let net = net_at(inputs, places, nets[k]);
+        let net = net_at(at, nets[k]);
         outputs.push(Port { name, net })?;
     }
     Ok(outputs)
@@ -181,26 +168,18 @@ pub(crate) fn assemble(
     walk: &Walk,
     targets: &Targets,
 ) -> Result<Netlist, AllocError>
-    requires walk { (s : Task) × (curves : CurveLists) × (c : AreCurvesFor s targets.now curves) ×
-        (sites : List Site) × AreTargets s.graph targets.now × (length s.graph.leaves ≡ inputs) ×
-        IsWalk s curves.choices c.ways.held sites targets.now.roots targets.now.times
-        walk.now.cells.items walk.now.pins.items walk.now.nets.items }
-    ensures { IfOk result (λ n. (s : Task) (curves : CurveLists)
-        (c : AreCurvesFor s targets.now curves) (sites : List Site) →
-        IsLibrary s.cells → AreTargets s.graph targets.now → (length s.graph.leaves ≡ inputs) →
-        IsWalk s curves.choices c.ways.held sites targets.now.roots targets.now.times
-        walk.now.cells.items walk.now.pins.items walk.now.nets.items → IsTraded s targets.now n) }
+    requires walk { MayAssemble inputs walk.now targets.now }
+    ensures { IfOk result (AssemblesTo inputs walk.now targets.now) }
 {
     let order = by_depth(alloc, inputs as usize, &walk.pins)?;
     let places = places_in(alloc, &order)?;
-    let gates = gates_of(alloc, inputs, &places, walk, &order)?;
-    let outputs = outputs_of(
-        alloc,
+    let at = Placing {
         inputs,
-        &places,
-        targets.outputs.as_slice(),
-        &walk.nets,
-    )?;
+        places: &places,
+        walk,
+    };
+    let gates = gates_of(alloc, &at, &order)?;
+    let outputs = outputs(alloc, &at, targets.outputs.as_slice(), &walk.nets)?;
     let names = names_of(alloc, inputs, targets, &outputs, order.len())?;
     let model = Name::from_slice(alloc, targets.model.as_bytes())?;
     let gates = Gates::from_vec(gates);

@@ -2,7 +2,7 @@ ghost use Rattle.std.specs.Prelude.{◌≡◌, ◌+◌, ◌<◌, ◌≤◌, ℕ,
 ghost use Rattle.lw_trade.specs.Jobs.{HaveGained, HaveGainedAll, IsGainBy, IsKeptOf, IsUnderWay, WhereStill, turns_in};
 ghost use Rattle.lw_trade.specs.Queues.{IsFirstOf};
 ghost use Rattle.lw_trade.specs.Settling.{AreGroupsAdded, AreSettledOr, IsLetWait, Waits};
-ghost use Rattle.lw_trade.specs.Uses.{AreGroups};
+ghost use Rattle.lw_trade.specs.Uses.{AreGroups, ComesAfter};
 
 use crate::fronts::Fronts;
 use crate::job::Job;
@@ -27,48 +27,41 @@ pub(crate) fn push_due(queue: &mut Queue, time: u64, number: u32) -> Result<(), 
     Ok(())
 }
 
-// Lets a group come by a delay after a time, unless that is past the horizon.
-fn push_after(
-    queue: &mut Queue,
-    lane: u32,
-    time: u64,
-    delay: u64,
-    hint: u64,
-    group: u32,
-) -> Result<(), AllocError>
-    requires time { time ≤ queue.old.horizon }
-    ensures horizon { queue.new.horizon ≡ queue.old.horizon }
-    ensures due { OnOk result (IsLetWait queue.old queue.new (time + delay) group) }
+/// When a class gained a point, and where that may stand.
+#[derive(Clone, Copy)]
+pub(crate) struct Gain {
+    pub time: u64,
+    pub hint: u64,
+}
+
+// Lets a group come by its delay after a gain, unless that is past the horizon.
+fn push_after(uses: &Uses, to: &mut Queue, group: u32, gain: Gain) -> Result<(), AllocError>
+    requires group { group < length uses.now.delays.items }
+    requires time { gain.time ≤ to.old.horizon }
+    ensures horizon { to.new.horizon ≡ to.old.horizon }
+    ensures due { OnOk result (ComesAfter uses.now group gain.time to.old to.new) }
 {
-    let horizon = queue.horizon();
-    let left = horizon - time;
-    if delay > left {
+    let delay = uses.delays[group as usize];
+    if delay > to.horizon() - gain.time {
         return Ok(());
     }
-    queue.push(lane, time + delay, hint, group)?;
+    to.push(lane_of(uses, group), gain.time + delay, gain.hint, group)?;
     Ok(())
 }
 
-// Lets all groups of a class come that gained a point at a time, with a hint.
-fn push_groups(
-    uses: &Uses,
-    coming: &mut Queue,
-    class: ClassId,
-    time: u64,
-    hint: u64,
-) -> Result<(), AllocError>
+// Lets all groups of a class come that gained a point.
+fn push_groups(uses: &Uses, to: &mut Queue, class: ClassId, gain: Gain) -> Result<(), AllocError>
     requires class { class.0 < uses.now.links.count }
     requires are { AreGroups uses.now }
-    requires time { time ≤ coming.old.horizon }
-    ensures horizon { coming.new.horizon ≡ coming.old.horizon }
+    requires time { gain.time ≤ to.old.horizon }
+    ensures horizon { to.new.horizon ≡ to.old.horizon }
     ensures added { OnOk result (AreGroupsAdded uses.now.links.classes uses.now.delays.items
-        class.0 time coming.old coming.new) }
+        class.0 gain.time to.old to.new) }
 {
     let _ = uses.links.len();
     let mut next = uses.links.last(class);
     while let Some(group) = next {
-        let delay = uses.delays[group as usize];
-        push_after(coming, lane_of(uses, group), time, delay, hint, group)?;
+        push_after(uses, to, group, gain)?;
         next = uses.links.before(group);
     }
     Ok(())
@@ -139,8 +132,8 @@ pub(crate) fn settle_at(
         coming.new queue.old queue.new) }
 {
     while let Some(class) = gain_at(job, seen, fronts, coming, queue, time)? {
-        let place = fronts.last_place(class);
-        push_groups(job.uses, coming, class, time, place)?;
+        let hint = fronts.last_place(class);
+        push_groups(job.uses, coming, class, Gain { time, hint })?;
     }
     Ok(())
 }

@@ -7,8 +7,8 @@ use Rattle.std.proofs.Common.{get_or}
 use Rattle.lw_check.proofs.Looking.{labels_more, no_labels}
 use Rattle.lw_check.proofs.bounding.read_labels.Goals as goal
 
-pub returns-in_default-clause-none : goal.returns-in_default-clause-none
-returns-in_default-clause-none c = λ t ls have.
+pub returns-in_default-clause-read : goal.returns-in_default-clause-read
+returns-in_default-clause-read c = λ ls have.
     let d : ClassId = record { 0 = 0 } in
     no_labels (labels_in c.args.labels.now) c.args.classes.now c.loop-k.k (get_or c.args.classes.now c.loop-k.k d) (slice_get-get_or c.args.classes.now c.loop-k.k d c.loop-k-test.true) (sym c.label_at.ensures ∙ c.in_default.is) ls have
 

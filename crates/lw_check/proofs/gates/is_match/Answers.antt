@@ -1,9 +1,9 @@
-use Rattle.std.proofs.Common.{Some, get_or, map, ap, sym, ◌∙◌, arith}
+use Rattle.std.proofs.Common.{Some, get_or, map, ap, sym, subst, ◌∙◌, arith}
 use Rattle.std.proofs.lemmas.Option.{slice_get_within, slice_get-get_or}
 use Rattle.std.proofs.lemmas.Bool.{true_from_ne_false}
 use Rattle.lw_check.specs.Cases.{claim_of}
 use Rattle.lw_check.specs.Claims.{class_of_net}
-use Rattle.lw_check.specs.Gates.{AreClassesOf}
+use Rattle.lw_check.specs.Gates.{AreClassesOf, FindsMatch}
 use Rattle.lw_check.specs.declared.spans.Span.{Span}
 use Rattle.lw_check.proofs.Matching.{match_by, no_match_by}
 use Rattle.lw_check.proofs.gates.is_match.Goals as goal
@@ -22,7 +22,8 @@ returns c =
     let spans = c.args.spans.now in
     let none : Span = record { first = 0; end = 0 } in
     let below = slice_get_within k.cells gate.cell.0 has.cell has.at in
-    let count = c.requires.spans.one_each in (
-      λ t. (let (place, by) = c.is_match_in.ensures.some t in match_by k gate lib has class pins at are place by),
-      λ is. true_from_ne_false c.is_match_in.result (λ f. no_match_by k gate lib has class pins at are spans (get_or spans gate.cell.0 none) c.requires.spans (slice_get-get_or spans gate.cell.0 none (omega arith)) (c.is_match_in.ensures.none f) is),
+    let count = c.requires.spans.one_each in
+    let span = get_or spans gate.cell.0 none in (
+      λ t. (let (place, by) = subst (λ b. FindsMatch k span gate.cell (numbers pins) class b) t c.is_match_in.ensures in match_by k gate lib has class pins at are place by),
+      λ is. true_from_ne_false c.is_match_in.result (λ f. no_match_by k gate lib has class pins at are spans span c.requires.spans (slice_get-get_or spans gate.cell.0 none (omega arith)) (subst (λ b. FindsMatch k span gate.cell (numbers pins) class b) f c.is_match_in.ensures) is),
     )

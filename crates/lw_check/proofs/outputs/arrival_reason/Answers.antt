@@ -28,7 +28,7 @@ returns-in-Some-label_of_net c =
       c.requires.potential,
       c.requires.roots,
       subst (λ name. IsFirstOffTime k name arrival label) (sym (c.in_ok-name.ensures ∙ c.as_bytes.ensures.bytes))
-          (time_found k arrivals c.in_ok-arrivals.ensures.arrivals c.in-Some.place port arrival label c.in-Some.ensures c.output_at-port.ensures (slice_get-get_or arrivals port.net.0 arrival (omega (arith, inside, count)) ∙ ap Some (sym c.index.ensures)) (sym c.in-Some-label_of_net.ensures)),
+          (time_found k arrivals c.in_ok-arrivals.ensures.are c.in-Some.place port arrival label c.in-Some.ensures c.output_at-port.ensures (slice_get-get_or arrivals port.net.0 arrival (omega (arith, inside, count)) ∙ ap Some (sym c.index.ensures)) (sym c.in-Some-label_of_net.ensures)),
     )
 
 pub returns : goal.returns

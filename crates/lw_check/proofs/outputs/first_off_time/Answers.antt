@@ -21,7 +21,7 @@ returns-then-not-is_label c =
     let same = ap length c.outputs-port-items.ensures.outputs in
     record {
       within = omega (arith, lt, same);
-      off = off_time k c.args.arrivals.now c.requires.arrivals c.outputs-port-items.ensures.kept place port (get_or c.args.arrivals.now port.net.0 d) at (slice_get-get_or c.args.arrivals.now port.net.0 d (omega (arith, inside, count)))
+      off = off_time k c.args.arrivals.now c.requires.are c.outputs-port-items.ensures.kept place port (get_or c.args.arrivals.now port.net.0 d) at (slice_get-get_or c.args.arrivals.now port.net.0 d (omega (arith, inside, count)))
           (λ e. (let f : false ≡ true = c.if-not-is_label.ensures.1 (c.label_of_net-label.ensures ∙ e) in absurd (cc)));
       before = c.loop-place.invariant;
     }
@@ -37,7 +37,7 @@ loop-place-preserved c =
     let inside = port_inside k c.outputs-port-items.ensures.kept place port at in
     let count = c.requires.one_each in
     below_next (IsOnTimeAt k) place c.loop-place.invariant
-    (on_time k c.args.arrivals.now c.requires.arrivals place port (get_or c.args.arrivals.now port.net.0 d) at (slice_get-get_or c.args.arrivals.now port.net.0 d (omega (arith, inside, count))) (sym c.label_of_net-label.ensures ∙ c.if-not-is_label.ensures.0 refl))
+    (on_time k c.args.arrivals.now c.requires.are place port (get_or c.args.arrivals.now port.net.0 d) at (slice_get-get_or c.args.arrivals.now port.net.0 d (omega (arith, inside, count))) (sym c.label_of_net-label.ensures ∙ c.if-not-is_label.ensures.0 refl))
 
 pub returns : goal.returns
 returns c =

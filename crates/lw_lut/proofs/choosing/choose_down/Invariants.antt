@@ -7,7 +7,7 @@ use Rattle.lw_lut.proofs.choosing.choose_down.Given as goal
 
 abbrev pub invariant-loop-k : goal.invariant-loop-k
 invariant-loop-k l = record {
-  one_each : length l.needed.items ≡ length l.depths.depths;
-  down : (g : Graph) (most : ℕ) → AreLeastDepths g most l.depths → IsDown g most l.depths.depths l.roots (drop l.k l.places) l.needed.items (reverse l.tables.items);
+  one_each : length l.needed.items ≡ length l.of.depths.now.depths;
+  down : (g : Graph) (most : ℕ) → AreLeastDepths g most l.of.depths.now → IsDown g most l.of.depths.now.depths l.of.roots.now (drop l.k l.places) l.needed.items (reverse l.tables.items);
   few : All (λ (t : Table). length t.fanins ≤ 6) (reverse l.tables.items);
 }

@@ -5,7 +5,7 @@ use Rattle.lw_lut.proofs.cut.joined_bits.Goals as goal
 
 pub appended-bits-requires : goal.appended-bits-requires
 appended-bits-requires c =
-    let f = joined_value c.args.of.now.x.now c.args.of.now.left.0 c.args.of.now.y.now c.args.of.now.right.0 c.args.of.now.class.0 in
+    let f = joined_value c.args.of.now.x.now c.args.of.now.pair.x.0 c.args.of.now.y.now c.args.of.now.pair.y.0 c.args.of.now.class.0 in
     let all = 2 ^ (length c.args.of.now.x.now.pins + length c.args.of.now.y.now.pins) in
     let place = c.loop-place.place in
     let few : all ≤ 64 = few_numbers (length c.args.of.now.x.now.pins + length c.args.of.now.y.now.pins) c.args.of.now.few in
@@ -13,7 +13,7 @@ appended-bits-requires c =
 
 pub loop-place-preserved : goal.loop-place-preserved
 loop-place-preserved c =
-    let f = joined_value c.args.of.now.x.now c.args.of.now.left.0 c.args.of.now.y.now c.args.of.now.right.0 c.args.of.now.class.0 in
+    let f = joined_value c.args.of.now.x.now c.args.of.now.pair.x.0 c.args.of.now.y.now c.args.of.now.pair.y.0 c.args.of.now.class.0 in
     let all = 2 ^ (length c.args.of.now.x.now.pins + length c.args.of.now.y.now.pins) in
     let place = c.loop-place.place in
     let same : c.numbers_of-place.result ≡ all = c.numbers_of-place.ensures ∙ ap₂ (λ xs ys. 2 ^ (length xs + length ys)) c.pins.ensures.pins c.pins-2.ensures.pins in

@@ -1,5 +1,5 @@
 use Rattle.std.proofs.Common.{sym, subst, arith}
-use Rattle.lw_lut.specs.Sweeps.{AreReachesOf}
+use Rattle.lw_lut.specs.Reaches.{AreReachesOf}
 use Rattle.lw_lut.proofs.Rounds.{found_tables}
 use Rattle.lw_lut.proofs.finding.depths.Goals as goal
 
@@ -13,5 +13,7 @@ returns c =
       tables = found_tables c.args.graph.now c.args.leaves d (let two = c.requires.some in omega (arith, two)) s.counts.items s.cuts.items s.pins.items s.depths.items are;
     }
 
-pub find_all-requires-clause-reach : goal.find_all-requires-clause-reach
-find_all-requires-clause-reach c = subst (AreReachesOf c.args.graph.now) (sym c.deref.ensures.value) c.in_ok-reach.ensures
+pub invariant_of-find_all : goal.invariant_of-find_all
+invariant_of-find_all c = record {
+  reaches = subst (AreReachesOf c.args.graph.now) (sym c.deref.ensures.value) c.in_ok-reach.ensures;
+}

@@ -1,9 +1,9 @@
 use Rattle.std.proofs.Common.{◌+◌, ◌<◌, ◌++◌, ◌^◌, ◌∙◌, All, List, length, ap, subst, subst₂, sym, arith}
 use Rattle.std.proofs.lemmas.List.{length-map}
-use Rattle.lw_laws.specs.Names.{free_names, gate_names}
+use Rattle.lw_laws.specs.Names.{free_names}
 use Rattle.lw_pool.specs.declared.id.ClassId.{ClassId}
 use Rattle.lw_lut.specs.Choosing.{AreTables}
-use Rattle.lw_lut.specs.Nets.{table_classes}
+use Rattle.lw_lut.specs.Nets.{table_classes, table_names}
 use Rattle.lw_lut.specs.Placed.{HasPlaces, IsPlaced}
 use Rattle.lw_lut.specs.Searches.{IsKnown}
 use Rattle.lw_lut.specs.declared.ports.TablePorts.{TablePorts}
@@ -101,5 +101,5 @@ returns c =
       ports_are = c.in_ok-copy_ports.ensures;
       inputs = c.in_ok-inputs.ensures;
       tables = subst (λ (ts : List Table). AreTables g most lists.depths (numbers ports.roots) ts) (sym c.from_vec.ensures) are;
-      names = c.in_ok-names.ensures ∙ ap (λ (ts : List Table). gate_names ports.outputs (numbers ports.roots) (free_names (ports.inputs ++ ports.outputs) (length ts)) (table_classes ts)) (c.deref.ensures.value ∙ sym c.from_vec.ensures);
+      names = c.in_ok-names.ensures ∙ ap (table_names ports) (c.deref.ensures.value ∙ sym c.from_vec.ensures);
     }

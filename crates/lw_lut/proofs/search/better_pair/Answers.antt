@@ -1,9 +1,8 @@
-use Rattle.std.proofs.Common.{◌≡◌, ◌<◌, ◌≤◌, ◌+◌, ◌/◌, ◌∙◌, length, slice_get, get_or, subst, subst₂, sym, Some}
+use Rattle.std.proofs.Common.{◌≡◌, ◌<◌, ◌≤◌, ◌+◌, ◌∙◌, length, slice_get, get_or, subst, subst₂, sym, Some}
 use Rattle.std.proofs.lemmas.Option.{slice_get-get_or}
 use Rattle.std.proofs.lemmas.List.Elements.{All-contains}
 use Rattle.lw_graph.specs.declared.pair.Pair.{Pair}
-use Rattle.lw_laws.specs.Graphs.{HoldsPair}
-use Rattle.lw_lut.specs.Searches.{count_at}
+use Rattle.lw_lut.specs.Searches.{HasFewer, count_at}
 use Rattle.lw_lut.proofs.Pairs.{IsBest, best_less, best_same, best_all, best_is, row_holds, row_bounds, half_below}
 use Rattle.lw_lut.proofs.search.better_pair.Goals.{then-leaves-best, else-leaves-best}
 use Rattle.lw_lut.proofs.search.better_pair.Goals as goal
@@ -34,9 +33,14 @@ returns c =
     let g = c.args.graph.now in
     let l = c.loop-pair in
     let pairs = c.nands-pair-items.ensures.pairs in
-    best_is l.found _ (λ pair. HoldsPair g c.args.class.0 pair.x.0 pair.y.0 × (count_at counts pair.x.0 + count_at counts pair.y.0 < count_at counts c.args.class.0) × (pair.x.0 / 2 < length counts) × (pair.y.0 / 2 < length counts))
+    best_is l.found _ (HasFewer g counts c.args.class.0)
     (λ none. row_bounds g c.args.class.0 row pairs counts l.best (l.invariant.none none) (best_all counts row c.args.class.0 l.best l.pair-index l.found c.loop-pair-test.false l.invariant))
     (λ p e.
     let (found, less) = l.invariant.some p e in
     let within = All-contains (λ (q : Pair). (q.x.0 < length g.pairs) × (q.y.0 < length g.pairs)) row p c.nands-pair-items.ensures.within found in
-    (row_holds g c.args.class.0 row pairs p found, less, half_below p.x.0 (length g.pairs) (length counts) within.0 c.requires.places, half_below p.y.0 (length g.pairs) (length counts) within.1 c.requires.places))
+    record {
+      holds = row_holds g c.args.class.0 row pairs p found;
+      fewer = less;
+      x = half_below p.x.0 (length g.pairs) (length counts) within.0 c.requires.places;
+      y = half_below p.y.0 (length g.pairs) (length counts) within.1 c.requires.places;
+    })

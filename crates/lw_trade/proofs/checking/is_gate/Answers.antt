@@ -1,4 +1,4 @@
-use Rattle.std.proofs.Common.{length, slice_get, slice_index_or, ap, sym, ◌∙◌, subst₂, arith}
+use Rattle.std.proofs.Common.{length, slice_get, ap, sym, ◌∙◌, subst₂, arith}
 use Rattle.lw_trade.specs.Checks.{IsUsedEarlier}
 use Rattle.lw_trade.proofs.Lists.{read_at}
 use Rattle.lw_trade.proofs.checking.is_gate.Goals as goal

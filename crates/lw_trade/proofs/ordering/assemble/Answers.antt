@@ -107,43 +107,43 @@ gates_of-requires-clause-order c =
     let many : n ≡ length c.deref-3.result.now = omega (arith, same, places, c.in_ok-places.ensures.one_each, long) in
     subst (λ l. All (λ j. j < length c.deref-3.result.now) l) (sym c.deref-4.ensures.value) (subst (λ k. All (λ j. j < k) c.in_ok-order.order.items) many (order_low n c.in_ok-order.order.items by.moved))
 
-pub outputs_of-requires-clause-fit : goal.outputs_of-requires-clause-fit
-outputs_of-requires-clause-fit c =
+pub outputs-requires-clause-fit : goal.outputs-requires-clause-fit
+outputs-requires-clause-fit c =
     let (s, curves, are, nodes, fit, e, walk) = c.requires.walk in
     let by = c.in_ok-order.ensures in
     let n = length c.deref.result.now in
     let rows = ap length c.deref.ensures.value in
     let long = order_length n c.in_ok-order.order.items by.moved in
     let same = ap length c.deref-2.ensures.value in
-    let places = ap length c.deref-5.ensures.value in
+    let places = ap length c.deref-3.ensures.value in
     let one = c.in_ok-places.ensures.one_each in
-    let many : length c.deref-2.result.now ≡ length c.deref-5.result.now = omega (arith, places, one) in
-    let low = subst (All (λ p. p < length c.deref-2.result.now)) (sym c.deref-5.ensures.value) c.in_ok-places.ensures.low in
+    let many : length c.deref-2.result.now ≡ length c.deref-3.result.now = omega (arith, places, one) in
+    let low = subst (All (λ p. p < length c.deref-2.result.now)) (sym c.deref-3.ensures.value) c.in_ok-places.ensures.low in
     record {
       few = omega (arith, same, places, one, long, rows, walk.one_row, walk.few, fit.few_inputs, e);
-      low = subst (λ b. All (λ p. p < b) c.deref-5.result.now) many low;
+      low = subst (λ b. All (λ p. p < b) c.deref-3.result.now) many low;
     }
 
-pub outputs_of-requires-clause-nets : goal.outputs_of-requires-clause-nets
-outputs_of-requires-clause-nets c k d lt =
+pub outputs-requires-clause-nets : goal.outputs-requires-clause-nets
+outputs-requires-clause-nets c k d lt =
     let (s, curves, are, nodes, fit, e, walk) = c.requires.walk in
     let by = c.in_ok-order.ensures in
     let n = length c.deref.result.now in
     let rows = ap length c.deref.ensures.value in
     let long = order_length n c.in_ok-order.order.items by.moved in
     let same = ap length c.deref-2.ensures.value in
-    let places = ap length c.deref-5.ensures.value in
+    let places = ap length c.deref-3.ensures.value in
     let t = c.args.targets.now in
-    let nets = ap length c.deref-6.ensures.value in
+    let nets = ap length c.deref-5.ensures.value in
     let low = (roots_low s are.ways.held nodes t.roots t.times c.args.walk.now.nets.items walk.root_nets).1 k d (omega (arith, nets, lt)) in
-    let f = ap (λ l. get_or l k d) c.deref-6.ensures.value in
+    let f = ap (λ l. get_or l k d) c.deref-5.ensures.value in
     omega (arith, same, places, c.in_ok-places.ensures.one_each, long, rows, walk.one_row, e, low, f)
 
-pub outputs_of-requires-clause-one_each : goal.outputs_of-requires-clause-one_each
-outputs_of-requires-clause-one_each c =
+pub outputs-requires-clause-one_each : goal.outputs-requires-clause-one_each
+outputs-requires-clause-one_each c =
     let (s, curves, are, nodes, fit, e, walk) = c.requires.walk in
     let t = c.args.targets.now in
-    let nets = ap length c.deref-6.ensures.value in
+    let nets = ap length c.deref-5.ensures.value in
     let names = ap length c.as_slice.ensures in
     let many = (roots_low s are.ways.held nodes t.roots t.times c.args.walk.now.nets.items walk.root_nets).0 in
     omega (arith, nets, names, many, fit.one_root)
@@ -155,23 +155,23 @@ names_of-requires c =
     let n = length c.deref.result.now in
     let rows = ap length c.deref.ensures.value in
     let long' = order_length n c.in_ok-order.order.items by'.moved in
-    let named : length (map port_name c.deref-7.result.now) ≡ length c.args.targets.now.outputs = ap (λ l. length (map port_name l)) c.deref-7.ensures.value ∙ ap length (c.in_ok-outputs.ensures.names_are ∙ c.as_slice.ensures) in
+    let named : length (map port_name c.deref-6.result.now) ≡ length c.args.targets.now.outputs = ap (λ l. length (map port_name l)) c.deref-6.ensures.value ∙ ap length (c.in_ok-outputs.ensures.names_are ∙ c.as_slice.ensures) in
     let t = c.args.targets.now in
     let w = c.args.walk.now in
     let order = c.in_ok-order.order.items in
     let places = c.in_ok-places.places.items in
     let by = by_of (length s.graph.leaves) c.args.inputs e order places c.deref.result.now w.pins.items c.deref.ensures.value c.in_ok-order.ensures in
     let placed = subst (λ l. ArePlaces l places) c.deref-2.ensures.value c.in_ok-places.ensures in
-    let outs : map port_net c.in_ok-outputs.outputs.items ≡ map (placed_net (length s.graph.leaves) places) w.nets.items = nets_as (length s.graph.leaves) c.args.inputs e order places w.nets.items c.deref-5.result.now c.deref-6.result.now (map port_net c.in_ok-outputs.outputs.items) c.deref-5.ensures.value c.deref-6.ensures.value c.in_ok-outputs.ensures.nets_are in
-    let same : map port_net c.deref-7.result.now ≡ map (placed_net (length s.graph.leaves) places) w.nets.items = ap (map port_net) c.deref-7.ensures.value ∙ outs in
+    let outs : map port_net c.in_ok-outputs.outputs.items ≡ map (placed_net (length s.graph.leaves) places) w.nets.items = nets_as (length s.graph.leaves) c.args.inputs e order places w.nets.items c.deref-3.result.now c.deref-5.result.now (map port_net c.in_ok-outputs.outputs.items) c.deref-3.ensures.value c.deref-5.ensures.value c.in_ok-outputs.ensures.nets_are in
+    let same : map port_net c.deref-6.result.now ≡ map (placed_net (length s.graph.leaves) places) w.nets.items = ap (map port_net) c.deref-6.ensures.value ∙ outs in
     let low = nets_placed s t curves are nodes w.cells.items w.pins.items w.nets.items walk order places by placed in
     let many : length s.graph.leaves + length nodes ≡ c.args.inputs + c.len.result = (let a = long s t curves are nodes w.cells.items w.pins.items w.nets.items walk order places by placed in omega (arith, a, c.len.ensures, e)) in
     record {
       few = omega (arith, c.len.ensures, long', rows, walk.one_row, walk.few, fit.few_inputs, e);
       one_name = fit.one_name ∙ e;
       few_outputs = fit.few_outputs;
-      one_each = omega (arith, named, length-map c.deref-7.result.now port_name);
-      nets = subst (λ b. All (λ x. x < b) (map port_net c.deref-7.result.now)) many (subst (All (λ x. x < length s.graph.leaves + length nodes)) (sym same) low);
+      one_each = omega (arith, named, length-map c.deref-6.result.now port_name);
+      nets = subst (λ b. All (λ x. x < b) (map port_net c.deref-6.result.now)) many (subst (All (λ x. x < length s.graph.leaves + length nodes)) (sym same) low);
     }
 
 pub new-requires : goal.new-requires
@@ -185,12 +185,12 @@ new-requires c =
     let placed = subst (λ l. ArePlaces l places) c.deref-2.ensures.value c.in_ok-places.ensures in
     let n : NetlistParts = record { model = c.in_ok-model.model; names = c.in_ok-names.names; inputs = c.args.inputs; gates = c.from_vec-gates.result; outputs = c.from_vec-outputs.result } in
     let gates : n.gates ≡ map (placed_gate (length s.graph.leaves) places w.cells.items w.pins.items) order = gates_as (length s.graph.leaves) c.args.inputs e order places w.cells.items w.pins.items c.deref-3.result.now c.deref-4.result.now c.from_vec-gates.result c.deref-3.ensures.value c.deref-4.ensures.value (c.from_vec-gates.ensures ∙ c.in_ok-gates.ensures) in
-    let outs : map port_net n.outputs ≡ map (placed_net (length s.graph.leaves) places) w.nets.items = nets_as (length s.graph.leaves) c.args.inputs e order places w.nets.items c.deref-5.result.now c.deref-6.result.now (map port_net c.from_vec-outputs.result) c.deref-5.ensures.value c.deref-6.ensures.value (ap (map port_net) c.from_vec-outputs.ensures ∙ c.in_ok-outputs.ensures.nets_are) in
+    let outs : map port_net n.outputs ≡ map (placed_net (length s.graph.leaves) places) w.nets.items = nets_as (length s.graph.leaves) c.args.inputs e order places w.nets.items c.deref-3.result.now c.deref-5.result.now (map port_net c.from_vec-outputs.result) c.deref-3.ensures.value c.deref-5.ensures.value (ap (map port_net) c.from_vec-outputs.ensures ∙ c.in_ok-outputs.ensures.nets_are) in
     let many = gate_count s t curves are nodes w.cells.items w.pins.items w.nets.items walk order places by placed n (sym e) gates outs in
     let low = nets_placed s t curves are nodes w.cells.items w.pins.items w.nets.items walk order places by placed in
     let own = length-range_with_len c.args.inputs c.len.result in
     let ordered = long s t curves are nodes w.cells.items w.pins.items w.nets.items walk order places by placed in
-    let names = ap length c.in_ok-names.ensures ∙ name_count t.inputs t.outputs (map port_net c.deref-7.result.now) (range_with_len c.args.inputs c.len.result) in
+    let names = ap length c.in_ok-names.ensures ∙ name_count t.inputs t.outputs (map port_net c.deref-6.result.now) (range_with_len c.args.inputs c.len.result) in
     let named : length n.names ≡ n.inputs + length n.gates = omega (arith, names, own, many, ordered, c.len.ensures, fit.one_name, e) in
     record {
       named = named;
@@ -209,10 +209,10 @@ returns c s curves are nodes lib fit e walk =
     let placed = subst (λ l. ArePlaces l places) c.deref-2.ensures.value c.in_ok-places.ensures in
     let n : NetlistParts = record { model = c.in_ok-model.model; names = c.in_ok-names.names; inputs = c.args.inputs; gates = c.from_vec-gates.result; outputs = c.from_vec-outputs.result } in
     let gates : n.gates ≡ map (placed_gate (length s.graph.leaves) places w.cells.items w.pins.items) order = gates_as (length s.graph.leaves) c.args.inputs e order places w.cells.items w.pins.items c.deref-3.result.now c.deref-4.result.now c.from_vec-gates.result c.deref-3.ensures.value c.deref-4.ensures.value (c.from_vec-gates.ensures ∙ c.in_ok-gates.ensures) in
-    let outs : map port_net n.outputs ≡ map (placed_net (length s.graph.leaves) places) w.nets.items = nets_as (length s.graph.leaves) c.args.inputs e order places w.nets.items c.deref-5.result.now c.deref-6.result.now (map port_net c.from_vec-outputs.result) c.deref-5.ensures.value c.deref-6.ensures.value (ap (map port_net) c.from_vec-outputs.ensures ∙ c.in_ok-outputs.ensures.nets_are) in
+    let outs : map port_net n.outputs ≡ map (placed_net (length s.graph.leaves) places) w.nets.items = nets_as (length s.graph.leaves) c.args.inputs e order places w.nets.items c.deref-3.result.now c.deref-5.result.now (map port_net c.from_vec-outputs.result) c.deref-3.ensures.value c.deref-5.ensures.value (ap (map port_net) c.from_vec-outputs.ensures ∙ c.in_ok-outputs.ensures.nets_are) in
     let many = gate_count s t curves are nodes w.cells.items w.pins.items w.nets.items walk order places by placed n (sym e) gates outs in
     let ordered = long s t curves are nodes w.cells.items w.pins.items w.nets.items walk order places by placed in
-    let roots : map port_net c.deref-7.result.now ≡ map port_net n.outputs = ap (map port_net) (c.deref-7.ensures.value ∙ sym c.from_vec-outputs.ensures) in
+    let roots : map port_net c.deref-6.result.now ≡ map port_net n.outputs = ap (map port_net) (c.deref-6.ensures.value ∙ sym c.from_vec-outputs.ensures) in
     let size : c.len.result ≡ length n.gates = omega (arith, c.len.ensures, many, ordered) in
     subst (IsTraded s t) (sym c.new.ensures) (record {
       over = is_over s t curves are nodes w.cells.items w.pins.items w.nets.items walk order places by placed n (sym e) gates outs lib;

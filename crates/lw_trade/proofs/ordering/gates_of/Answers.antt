@@ -5,11 +5,11 @@ use Rattle.lw_trade.proofs.ordering.gates_of.Goals as goal
 
 pub loop-gate-preserved : goal.loop-gate-preserved
 loop-gate-preserved c =
-    let w = c.args.walk.now in
+    let w = c.args.at.now.walk.now in
     c.in_ok-push.ensures.items
-    ∙ (ap₂ (λ gs g. gs ++ g ∷ []) c.loop-gate.invariant c.in_ok-gate_of.ensures ∙ sym (map_more (placed_gate c.args.inputs c.args.places.now w.cells.items w.pins.items) c.args.order.now c.loop-gate.gate-index 0 c.loop-gate-test.true))
+    ∙ (ap₂ (λ gs g. gs ++ g ∷ []) c.loop-gate.invariant c.in_ok-gate_of.ensures ∙ sym (map_more (placed_gate c.args.at.now.inputs c.args.at.now.places.now w.cells.items w.pins.items) c.args.order.now c.loop-gate.gate-index 0 c.loop-gate-test.true))
 
 pub returns : goal.returns
 returns c =
-    let w = c.args.walk.now in
-    c.loop-gate.invariant ∙ ap (map (placed_gate c.args.inputs c.args.places.now w.cells.items w.pins.items)) (take_all c.loop-gate.gate-index c.args.order.now c.loop-gate-test.false)
+    let w = c.args.at.now.walk.now in
+    c.loop-gate.invariant ∙ ap (map (placed_gate c.args.at.now.inputs c.args.at.now.places.now w.cells.items w.pins.items)) (take_all c.loop-gate.gate-index c.args.order.now c.loop-gate-test.false)

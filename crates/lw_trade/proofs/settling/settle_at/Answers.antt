@@ -51,15 +51,15 @@ loop-class-preserved c = record {
       let us = c.requires.job.uses in
       let added = c.in_ok-push_groups.ensures.added in
       let class = c.in-Some.class.0 in
-      let more = groups_more s xs u c.args.time class next.coming c.push_groups.new.coming next.queue us added in
-      let all = groups_added s xs u c.args.time class next.coming c.push_groups.new.coming next.queue us added in
-      let still = uses_added s xs are c.args.time next.coming.horizon class next.fronts.spots (Comes (turns_of u next.coming next.queue)) (Comes (turns_of u c.push_groups.new.coming next.queue)) gaining more all in
-      (are, groups_in_time s xs u c.args.time class next.coming c.push_groups.new.coming next.queue us added time, subst (λ h. IsStill s xs c.args.time h next.fronts.spots (Comes (turns_of u c.push_groups.new.coming next.queue))) (sym added.horizon) still);
+      let more = groups_more s xs u c.args.time class next.coming c.push_groups.new.to next.queue us added in
+      let all = groups_added s xs u c.args.time class next.coming c.push_groups.new.to next.queue us added in
+      let still = uses_added s xs are c.args.time next.coming.horizon class next.fronts.spots (Comes (turns_of u next.coming next.queue)) (Comes (turns_of u c.push_groups.new.to next.queue)) gaining more all in
+      (are, groups_in_time s xs u c.args.time class next.coming c.push_groups.new.to next.queue us added time, subst (λ h. IsStill s xs c.args.time h next.fronts.spots (Comes (turns_of u c.push_groups.new.to next.queue))) (sym added.horizon) still);
   tallied = c.in_ok-class.ensures.kept.tallied;
   seen =
       let next = c.gain_at.new in
       let (old, area, are, gained) = subst (AreSeenAfter c.args.job.now.uses.now next.seen.areas.items next.fronts.spots next.coming c.args.time) c.in-Some.is c.in_ok-class.ensures.gain.seen in
-      seen_pushed c.args.job.now.uses.now next.seen.areas.items old next.fronts.spots c.in-Some.class.0 c.args.time area next.coming c.push_groups.new.coming are gained c.in_ok-push_groups.ensures.added;
+      seen_pushed c.args.job.now.uses.now next.seen.areas.items old next.fronts.spots c.in-Some.class.0 c.args.time area next.coming c.push_groups.new.to are gained c.in_ok-push_groups.ensures.added;
   backed = λ g pats st backed. c.in_ok-class.ensures.gain.backed g pats (c.loop-class.invariant.still g pats st) (c.loop-class.invariant.backed g pats st backed);
 }
 

@@ -1,4 +1,4 @@
-use Rattle.std.proofs.Common.{◌≡◌, List, sym, subst₂}
+use Rattle.std.proofs.Common.{sym, subst₂}
 use Rattle.lw_trade.specs.Checks.{IsRightWalk}
 use Rattle.lw_trade.specs.Walks.{IsWalk}
 use Rattle.lw_trade.proofs.Checked.{checked_walk, sites_of}

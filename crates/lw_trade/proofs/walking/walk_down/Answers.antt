@@ -1,4 +1,4 @@
-use Rattle.std.proofs.Common.{◌≡◌, ◌∙◌, List, Option, ℕ, length, ap, sym, subst₂}
+use Rattle.std.proofs.Common.{◌∙◌, List, Option, ℕ, length, ap, sym, subst₂}
 use Rattle.lw_laws.specs.Graphs.{Graph}
 use Rattle.lw_facts.proofs.Results.{ok_both}
 use Rattle.lw_trade.specs.Walks.{AreInputsTo}

@@ -5,10 +5,11 @@ use Rattle.lw_check.proofs.Failures.{fails_in, none_failing}
 use Rattle.lw_check.proofs.Reasons.{unbounded_from}
 use Rattle.lw_check.proofs.labelling.Trial.first_unbounded.Goals as goal
 
-pub least_at-requires-clause-class : goal.least_at-requires-clause-class
-least_at-requires-clause-class g c =
+pub least_at-requires : goal.least_at-requires
+least_at-requires g c =
     let t = c.args.self.now in
-    fails_in t.given.now.graph.now (g.C.Cost.costs t.given.now.by.cost.now) t.given.now.by.pats.now t.given.now.labels.now c.classes.ensures.kept (sym (ap length t.labels_are) ∙ (length-map t.marks.now cost_in ∙ c.requires.one_each)) c.in-Some.class.0 c.in-Some.ensures.0
+    let inside = fails_in t.given.now.graph.now (g.C.Cost.costs t.given.now.by.cost.now) t.given.now.by.pats.now t.given.now.labels.now c.classes.ensures.kept (sym (ap length t.labels_are) ∙ (length-map t.marks.now cost_in ∙ c.requires.one_each)) c.in-Some.class.0 c.in-Some.ensures.0 in
+    record { inside = inside; table = c.requires }
 
 pub returns-in-Some : goal.returns-in-Some
 returns-in-Some g c =

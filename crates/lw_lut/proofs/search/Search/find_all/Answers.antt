@@ -26,7 +26,7 @@ loop-span-preserved c =
     let less = c.deepen_all.ensures.falls c.loop-span-test.true in
     let room = c.loop-span.invariant.room in
     record {
-      at = subst (λ n. IsAtDepth c.args.graph.now c.args.leaves n c.deepen_all.new.self) e c.deepen_all.ensures.at;
+      at = subst (λ n. IsAtDepth c.args.task.now.graph.now c.args.task.now.leaves n c.deepen_all.new.self) e c.deepen_all.ensures.at;
       swept = c.deepen_all.ensures.swept;
       room = omega (arith, less, room);
     }

@@ -5,9 +5,9 @@ use Rattle.lw_lut.proofs.search.Search.find_all.Given as goal
 
 abbrev pub invariant-loop-span : goal.invariant-loop-span
 invariant-loop-span l = record {
-  at : IsAtDepth l.graph l.leaves l.depth l.self;
-  swept : IsSweptBut l.graph l.leaves l.self l.span;
-  room : l.depth + unknown_count l.self.depths.items ≤ 1 + length l.graph.pairs;
+  at : IsAtDepth l.task.graph.now l.task.leaves l.depth l.self;
+  swept : IsSweptBut l.task.graph.now l.task.leaves l.self l.span;
+  room : l.depth + unknown_count l.self.depths.items ≤ 1 + length l.task.graph.now.pairs;
 }
 
 abbrev pub decreases-loop-span : goal.decreases-loop-span

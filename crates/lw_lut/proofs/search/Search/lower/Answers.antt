@@ -12,20 +12,20 @@ returns-in_default c = record {
   falls = record {
     falls = λ e. absurd (true≢false (sym e));
     same = λ e. refl;
-    bounded = λ e d at. subst (λ n. IsBoundedAt c.args.graph.now c.args.self.now.counts.items n) (sym at) (subst (λ xs. IsBoundedAt c.args.graph.now xs c.args.class.0) c.deref.ensures.value c.in_default.ensures);
+    bounded = λ e d at. subst (λ n. IsBoundedAt c.args.task.now.graph.now c.args.self.now.counts.items n) (sym at) (subst (λ xs. IsBoundedAt c.args.task.now.graph.now xs c.args.class.0) c.deref.ensures.value c.in_default.ensures);
   };
   fewer = λ k. omega arith;
   elsewhere = λ k other. refl;
 }
 
-pub invariant_of-joint : goal.invariant_of-joint
-invariant_of-joint c = record {
+pub invariant_of-joined : goal.invariant_of-joined
+invariant_of-joined c = record {
   few = let (d, are) = c.requires.may.counts in
       let s = c.args.self.now in
-      let less : count_at s.counts.items c.in-Some.pair.x.0 + count_at s.counts.items c.in-Some.pair.y.0 < count_at s.counts.items c.args.class.0 = subst (λ xs. count_at xs c.in-Some.pair.x.0 + count_at xs c.in-Some.pair.y.0 < count_at xs c.args.class.0) c.deref.ensures.value c.in-Some.ensures.1 in
+      let less : count_at s.counts.items c.in-Some.pair.x.0 + count_at s.counts.items c.in-Some.pair.y.0 < count_at s.counts.items c.args.class.0 = subst (λ xs. count_at xs c.in-Some.pair.x.0 + count_at xs c.in-Some.pair.y.0 < count_at xs c.args.class.0) c.deref.ensures.value c.in-Some.ensures.fewer in
       let top = are.low (c.args.class.0 / 2) in
-      let x = c.side-left.ensures c.args.graph.now c.args.leaves d are (omega (arith, less, top)) in
-      let y = c.side-right.ensures c.args.graph.now c.args.leaves d are (omega (arith, less, top)) in
+      let x = c.side-left.ensures c.args.task.now.graph.now c.args.task.now.leaves d are (omega (arith, less, top)) in
+      let y = c.side-right.ensures c.args.task.now.graph.now c.args.task.now.leaves d are (omega (arith, less, top)) in
       let x1 = x.1 in let y1 = y.1 in
       omega (arith, less, top, x1, y1, c.requires.may.low);
 }
@@ -33,9 +33,9 @@ invariant_of-joint c = record {
 pub returns : goal.returns
 returns c =
     let s = c.args.self.now in
-    let g = c.args.graph.now in
-    let most = c.args.leaves in
-    let less : count_at s.counts.items c.in-Some.pair.x.0 + count_at s.counts.items c.in-Some.pair.y.0 < count_at s.counts.items c.args.class.0 = subst (λ xs. count_at xs c.in-Some.pair.x.0 + count_at xs c.in-Some.pair.y.0 < count_at xs c.args.class.0) c.deref.ensures.value c.in-Some.ensures.1 in
+    let g = c.args.task.now.graph.now in
+    let most = c.args.task.now.leaves in
+    let less : count_at s.counts.items c.in-Some.pair.x.0 + count_at s.counts.items c.in-Some.pair.y.0 < count_at s.counts.items c.args.class.0 = subst (λ xs. count_at xs c.in-Some.pair.x.0 + count_at xs c.in-Some.pair.y.0 < count_at xs c.args.class.0) c.deref.ensures.value c.in-Some.ensures.fewer in
     let a = c.side-left.result in
     let b = c.side-right.result in
     let here = c.args.class.0 / 2 in
@@ -48,13 +48,13 @@ returns c =
       counts = λ d are.
           let x = c.side-left.ensures g most d are (omega (arith, less, top)) in
           let y = c.side-right.ensures g most d are (omega (arith, less, top)) in
-          subst₂ (λ m k. AreLists g most d d (slice_set s.counts.items here m) (slice_set s.cuts.items here k) s.pins.items s.depths.items) (sym n) (sym c.joined-cut.ensures) (lowered g most d s are c.args.class.0 c.in-Some.pair.x.0 c.in-Some.pair.y.0 c.requires.class c.in-Some.ensures.0 less a b x y);
+          subst₂ (λ m k. AreLists g most d d (slice_set s.counts.items here m) (slice_set s.cuts.items here k) s.pins.items s.depths.items) (sym n) (sym c.joined-cut.ensures) (lowered g most d s are c.args.class.0 c.in-Some.pair.x.0 c.in-Some.pair.y.0 c.requires.class c.in-Some.ensures.holds less a b x y);
       depths = refl;
       falls = record {
-        falls = λ e. subst (λ m. total (slice_set s.counts.items here m) < total s.counts.items) (sym n) (lowered_total g most d0 s first c.args.class.0 c.in-Some.pair.x.0 c.in-Some.pair.y.0 c.requires.class c.in-Some.ensures.0 less a b x0 y0);
+        falls = λ e. subst (λ m. total (slice_set s.counts.items here m) < total s.counts.items) (sym n) (lowered_total g most d0 s first c.args.class.0 c.in-Some.pair.x.0 c.in-Some.pair.y.0 c.requires.class c.in-Some.ensures.holds less a b x0 y0);
         same = λ e. absurd (true≢false e);
         bounded = λ e. absurd (true≢false e);
       };
-      fewer = λ k. subst (λ m. slice_index (slice_set s.counts.items here m) k ≤ slice_index s.counts.items k) (sym n) (lower_count g most d0 s first c.args.class.0 c.in-Some.pair.x.0 c.in-Some.pair.y.0 c.requires.class c.in-Some.ensures.0 less a b x0 y0 k);
+      fewer = λ k. subst (λ m. slice_index (slice_set s.counts.items here m) k ≤ slice_index s.counts.items k) (sym n) (lower_count g most d0 s first c.args.class.0 c.in-Some.pair.x.0 c.in-Some.pair.y.0 c.requires.class c.in-Some.ensures.holds less a b x0 y0 k);
       elsewhere = λ k other. get_or-set_other s.counts.items here k (length c.pins.result.now) 0 other;
     }

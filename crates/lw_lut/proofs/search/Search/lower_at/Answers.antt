@@ -15,7 +15,7 @@ returns-then-not-lower c =
       elsewhere = c.lower.ensures.elsewhere;
       grown = λ d i. i;
       falls = inr (refl, same);
-      bounded = λ reaches d out known. subst (λ (s : Search). IsBoundedAt c.args.graph.now s.counts.items d) (sym same) (elim known [
+      bounded = λ d out known. subst (λ (s : Search). IsBoundedAt c.args.task.now.graph.now s.counts.items d) (sym same) (elim known [
         | inl e ↦ falls.bounded c.if-not-lower.true d e
         | inr b ↦ b
       ]);
@@ -23,7 +23,7 @@ returns-then-not-lower c =
 
 pub returns : goal.returns
 returns c =
-    let reach = c.args.reach.now in
+    let reach = c.args.task.now.reach.now in
     let place = c.args.class.0 / 2 in
     let falls : FallsAt reach c.args.self.now.counts.items c.lower.new.self.counts.items place c.with.result = record {
       fewer = c.lower.ensures.fewer;
@@ -36,8 +36,8 @@ returns c =
       elsewhere = c.lower.ensures.elsewhere;
       grown = λ d i. c.with.ensures.one d (c.join.ensures.one d i);
       falls = inl (c.lower.ensures.falls.falls c.if-not-lower.false);
-      bounded = λ reaches d out known. elim known [
+      bounded = λ d out known. elim known [
         | inl e ↦ absurd (out (subst (λ k. IsIn c.with.result k) (sym e) c.with.ensures.class))
-        | inr b ↦ still_bounded c.args.graph.now reach reaches c.args.self.now.counts.items c.lower.new.self.counts.items place c.with.result falls d out b
+        | inr b ↦ still_bounded c.args.task.now.graph.now reach c.args.task.now.reaches.reaches c.args.self.now.counts.items c.lower.new.self.counts.items place c.with.result falls d out b
       ];
     }

@@ -33,7 +33,7 @@ loop-class-preserved c =
     record {
       counts = λ d are. step.counts d (inv.counts d are);
       depths = step.depths ∙ inv.depths;
-      bounded = λ d lt out known. step.bounded c.requires.reach.reaches d out (elim (cases_eq d c.loop-class.class) [
+      bounded = λ d lt out known. step.bounded d out (elim (cases_eq d c.loop-class.class) [
         | inl e ↦ inl e
         | inr ne ↦ inr (inv.bounded d lt (λ i. out (step.grown d i)) (elim known [ inl b ↦ inl (omega (arith, b, ne)) | inr not ↦ inr not ]))
       ]);

@@ -9,13 +9,13 @@ pub loop-place-preserved : goal.loop-place-preserved
 loop-place-preserved c =
     let l = c.loop-place in
     let step = c.settle-deeper in
-    let reach = c.args.reach.now in
+    let reach = c.args.task.now.reach.now in
     let old = l.self.counts.items in
     let new = step.new.self.counts.items in
     let falls : FallsAt reach old new l.place c.seen.result = record {
       fewer = step.ensures.fewer;
       elsewhere = step.ensures.elsewhere;
-      seen = λ ne. c.seen.ensures.seen (λ low. ne (step.ensures.same (inl low))) (elim (dec_lt c.args.leaves (slice_index old l.place)) [
+      seen = λ ne. c.seen.ensures.seen (λ low. ne (step.ensures.same (inl low))) (elim (dec_lt c.args.task.now.leaves (slice_index old l.place)) [
         | yes many ↦ absurd (ne (step.ensures.same (inr many)))
         | no few ↦ omega (arith, few)
       ]);
@@ -25,7 +25,7 @@ loop-place-preserved c =
       pins = step.ensures.pins ∙ l.invariant.pins;
       depths = step.ensures.depths ∙ l.invariant.depths;
       lists = λ g s. step.ensures.lists g (l.invariant.lists g s);
-      settled = λ g s known. subst (λ b. AreSettled c.args.leaves c.args.depth c.args.self.now step.new.self (l.place + 1) b) (sym c.either-changed.ensures) (step.ensures.settled g c.args.self.now l.changed (l.invariant.lists g s) (l.invariant.settled g s known));
+      settled = λ g s known. subst (λ b. AreSettled c.args.task.now.leaves c.args.depth c.args.self.now step.new.self (l.place + 1) b) (sym c.either-changed.ensures) (step.ensures.settled g c.args.self.now l.changed (l.invariant.lists g s) (l.invariant.settled g s known));
       within = let lt = c.loop-place-test.true in let top = c.min-last.ensures in omega (arith, lt, top, c.len-places.ensures, c.args.self.now.counts.ok.0);
       few = λ k le. l.invariant.few k (step.ensures.few k le);
       bounded = λ g reaches all d lt out. still_bounded g reach reaches old new l.place c.seen.result falls d out (l.invariant.bounded g reaches all d lt (λ i. out (c.seen.ensures.grown d i)));
@@ -43,7 +43,7 @@ loop-place-init c =
       pins = refl;
       depths = refl;
       lists = λ g s. s;
-      settled = λ g s known. settled_start c.args.leaves c.args.depth self c.args.swept c.min-first.result within (omega (arith, top)) known;
+      settled = λ g s known. settled_start c.args.task.now.leaves c.args.depth self c.args.swept c.min-first.result within (omega (arith, top)) known;
       within = within;
       few = λ k le. le;
       bounded = λ g reaches all d lt out. all d lt;
@@ -70,7 +70,7 @@ returns c =
     let end = c.loop-place-test.false in
     record {
       lists = l.invariant.lists;
-      settled = λ g s known. settled_rest c.args.leaves c.args.depth self l.self c.args.swept l.place l.changed (l.invariant.settled g s known) known l.invariant.within (omega (arith, top, all, long, end));
+      settled = λ g s known. settled_rest c.args.task.now.leaves c.args.depth self l.self c.args.swept l.place l.changed (l.invariant.settled g s known) known l.invariant.within (omega (arith, top, all, long, end));
       few = l.invariant.few;
       bounded = l.invariant.bounded;
     }

@@ -9,9 +9,9 @@ invariant-loop-place l = record {
   counts : length l.self.counts.items ≡ length l.initial.self.counts.items;
   pins : length l.self.pins.items ≡ length l.initial.self.pins.items;
   depths : length l.self.depths.items ≡ length l.initial.self.depths.items;
-  lists : (g : Graph) → AreSettling g l.leaves l.depth l.initial.self → AreSettling g l.leaves l.depth l.self;
-  settled : (g : Graph) → AreSettling g l.leaves l.depth l.initial.self → AreKnownBut l.leaves l.initial.self.counts.items l.initial.self.depths.items l.fn.swept → AreSettled l.leaves l.depth l.initial.self l.self l.place l.changed;
+  lists : (g : Graph) → AreSettling g l.task.leaves l.depth l.initial.self → AreSettling g l.task.leaves l.depth l.self;
+  settled : (g : Graph) → AreSettling g l.task.leaves l.depth l.initial.self → AreKnownBut l.task.leaves l.initial.self.counts.items l.initial.self.depths.items l.fn.swept → AreSettled l.task.leaves l.depth l.initial.self l.self l.place l.changed;
   within : l.place ≤ length l.initial.self.counts.items;
-  few : (k : ℕ) → slice_index l.self.counts.items k ≤ l.leaves → slice_index l.initial.self.counts.items k ≤ l.leaves;
-  bounded : (g : Graph) → AreReaches g l.reach → AreBounded g l.initial.self.counts.items → AreBoundedBut g l.self.counts.items l.next;
+  few : (k : ℕ) → slice_index l.self.counts.items k ≤ l.task.leaves → slice_index l.initial.self.counts.items k ≤ l.task.leaves;
+  bounded : (g : Graph) → AreReaches g l.task.reach.now → AreBounded g l.initial.self.counts.items → AreBoundedBut g l.self.counts.items l.next;
 }

@@ -10,15 +10,15 @@ label-requires c = rw (c.new-cost.ensures.lib, c.new-cost.ensures.starts) (mappa
 
 pub labels_of-times-requires : goal.labels_of-times-requires
 labels_of-times-requires c = record {
-  few = rw c.as_slice-roots.ensures (roots_low c.args.self.now.net.now c.args.self.now.choices.now c.requires.network c.requires.chosen c.requires.outputs);
-  in_range = rw (c.as_slice-roots.ensures, c.marks.ensures, c.in_ok-labelled.ensures.labels.least.one_each) c.requires.chosen.in_range;
+  few = roots_low c.args.self.now.net.now c.args.self.now.choices.now c.requires.network c.requires.chosen c.requires.outputs;
+  in_range = rw (c.marks.ensures, c.in_ok-labelled.ensures.labels.least.one_each) c.requires.chosen.in_range;
 }
 
 pub returns-in-Ok-clause-least : goal.returns-in-Ok-clause-least
 returns-in-Ok-clause-least c =
     let p = c.args.self.now in
     let least = rw (c.new-cost.ensures.lib, c.new-cost.ensures.starts, c.requires.patterns) at c.in_ok-labelled.ensures.labels.least in
-    let have = rw (c.marks.ensures, c.as_slice-roots.ensures) at c.in-Ok.ensures.labels in
+    let have = rw c.marks.ensures at c.in-Ok.ensures.labels in
     record {
       earliest = labels_earliest p.net.now p.starts.now p.choices.now p.lib.now c.requires.network c.requires.chosen c.requires.early c.requires.library c.in_ok-labelled.labelled.labels least c.in-Ok.times.items have;
       low = all_low p.net.now p.starts.now p.choices.now p.lib.now c.requires.network c.requires.chosen c.requires.early c.requires.library c.in_ok-labelled.labelled.labels least c.in-Ok.times.items have;
@@ -29,7 +29,7 @@ refused-requires c = λ k e.
     lack_within c.args.self.now.net.now c.args.self.now.starts.now c.args.self.now.choices.now c.requires.network c.requires.chosen c.args.self.now.lib.now c.args.self.now.pats c.requires.patterns k (
       c.in_ok-labelled.labelled.labels,
       rw (c.new-cost.ensures.lib, c.new-cost.ensures.starts) at c.in_ok-labelled.ensures.labels.least,
-      subst (LacksLabel c.in_ok-labelled.labelled.labels c.args.self.now.choices.now.roots) e (rw (c.marks.ensures, c.as_slice-roots.ensures) at c.in-Err.ensures.lacks),
+      subst (LacksLabel c.in_ok-labelled.labelled.labels c.args.self.now.choices.now.roots) e (rw c.marks.ensures at c.in-Err.ensures.lacks),
     )
 
 pub returns-in-Err-clause-fault : goal.returns-in-Err-clause-fault
@@ -38,6 +38,6 @@ returns-in-Err-clause-fault c =
     (λ k e. (
       c.in_ok-labelled.labelled.labels,
       rw (c.new-cost.ensures.lib, c.new-cost.ensures.starts) at c.in_ok-labelled.ensures.labels.least,
-      subst (LacksLabel c.in_ok-labelled.labelled.labels c.args.self.now.choices.now.roots) e (rw (c.marks.ensures, c.as_slice-roots.ensures) at c.in-Err.ensures.lacks),
+      subst (LacksLabel c.in_ok-labelled.labelled.labels c.args.self.now.choices.now.roots) e (rw c.marks.ensures at c.in-Err.ensures.lacks),
     ))
     c.refused.ensures.named c.refused.ensures.memory

@@ -4,7 +4,7 @@ use Rattle.lw_netlist.specs.declared.gate.Port.{Port}
 use Rattle.lw_netlist.specs.Plain.{port_name}
 use Rattle.lw_trade.specs.Placed.{placed_net}
 use Rattle.lw_trade.specs.Traded.{port_net}
-use Rattle.lw_trade.proofs.ordering.outputs_of.Goals as goal
+use Rattle.lw_trade.proofs.ordering.outputs.Goals as goal
 
 pub net_at-net-requires-clause-fit : goal.net_at-net-requires-clause-fit
 net_at-net-requires-clause-fit c = c.requires.fit
@@ -21,11 +21,11 @@ loop-k-preserved c =
     let name_is : port_name port ≡ get_or c.args.names.now k named = c.in_ok-name.ensures ∙ (c.as_bytes.ensures.bytes ∙ c.index-names-k.is) in
     record {
       names = ap (map port_name) c.in_ok-push.ensures.items ∙ (map-append port_name known (port ∷ []) ∙ (ap₂ (λ ns n. ns ++ n ∷ []) c.loop-k.invariant.names name_is ∙ sym (take_more c.args.names.now k named c.loop-k-test.true)));
-      nets = ap (map port_net) c.in_ok-push.ensures.items ∙ (map-append port_net known (port ∷ []) ∙ (ap₂ (λ ns n. ns ++ n ∷ []) c.loop-k.invariant.nets c.net_at-net.ensures ∙ sym (map_more (placed_net c.args.inputs c.args.places.now) c.args.nets.now k 0 (omega (arith, c.loop-k-test.true, c.requires.one_each)))));
+      nets = ap (map port_net) c.in_ok-push.ensures.items ∙ (map-append port_net known (port ∷ []) ∙ (ap₂ (λ ns n. ns ++ n ∷ []) c.loop-k.invariant.nets c.net_at-net.ensures ∙ sym (map_more (placed_net c.args.at.now.inputs c.args.at.now.places.now) c.args.nets.now k 0 (omega (arith, c.loop-k-test.true, c.requires.one_each)))));
     }
 
 pub returns : goal.returns
 returns c = record {
   names_are = c.loop-k.invariant.names ∙ take_all c.loop-k.k c.args.names.now c.loop-k-test.false;
-  nets_are = c.loop-k.invariant.nets ∙ ap (map (placed_net c.args.inputs c.args.places.now)) (take_all c.loop-k.k c.args.nets.now (omega (arith, c.loop-k-test.false, c.requires.one_each)));
+  nets_are = c.loop-k.invariant.nets ∙ ap (map (placed_net c.args.at.now.inputs c.args.at.now.places.now)) (take_all c.loop-k.k c.args.nets.now (omega (arith, c.loop-k-test.false, c.requires.one_each)));
 }

@@ -4,7 +4,7 @@ use Rattle.lw_laws.proofs.NetlistOnce.{least_cover_once}
 use Rattle.lw_extract.specs.Choosing.{labels}
 use Rattle.lw_map.proofs.Composed.{ports_fit}
 use Rattle.lw_map.proofs.Refusals.{label_lacked}
-use Rattle.lw_map.proofs.problem.Problem.cover.Goals as goal
+use Rattle.lw_map.proofs.problem.Problem.covered.Goals as goal
 
 pub extract_with-cover-requires-clause-fit : goal.extract_with-cover-requires-clause-fit
 extract_with-cover-requires-clause-fit g c =
@@ -12,7 +12,7 @@ extract_with-cover-requires-clause-fit g c =
 
 pub extract_with-cover-requires-clause-leaves : goal.extract_with-cover-requires-clause-leaves
 extract_with-cover-requires-clause-leaves g c = λ k i at.
-    least_cover_once c.args.self.now.choices.now.graph c.args.self.now.pats (g.C.Cost.costs c.args.cost.now) k (labels c.args.by.now.labels k) (Some ((g.C.Cost.costs c.args.cost.now).leaf i))
+    least_cover_once c.args.self.now.choices.now.graph c.args.self.now.pats (g.C.Cost.costs c.args.cost.now) k (labels c.args.labelled.now.labels k) (Some ((g.C.Cost.costs c.args.cost.now).leaf i))
     (c.requires.labels.least.least k) (c.requires.given.leaves i k at)
 
 pub returns-clause-cover : goal.returns-clause-cover
@@ -22,4 +22,4 @@ returns-clause-cover g c =
 
 pub returns-clause-lacks : goal.returns-clause-lacks
 returns-clause-lacks g c =
-    label_lacked c.args.by.now.labels c.in_ok-ports.ports.roots c.args.self.now.choices.now.roots c.extract_with-cover.result c.in_ok-ports.ensures.roots (λ k e. (c.extract_with-cover.ensures.no_cover k).0 e)
+    label_lacked c.args.labelled.now.labels c.in_ok-ports.ports.roots c.args.self.now.choices.now.roots c.extract_with-cover.result c.in_ok-ports.ensures.roots (λ k e. (c.extract_with-cover.ensures.no_cover k).0 e)

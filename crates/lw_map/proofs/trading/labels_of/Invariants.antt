@@ -1,5 +1,0 @@
-use Rattle.lw_map.specs.Trading.{HaveLabelsTo}
-use Rattle.lw_map.proofs.trading.labels_of.Given as goal
-
-abbrev pub invariant-loop-k : goal.invariant-loop-k
-invariant-loop-k l = HaveLabelsTo l.marks l.roots l.k l.labels.items
