@@ -42,7 +42,7 @@ pub record AreFit (g : Graph) (ports : TablePorts) : Type 0 where
   pub in_range : All (λ (root : ClassId). root.0 < length g.pairs) ports.roots
   pub apart : AreDistinctLeaves g
 
--- One table for each needed class that is no input's, with its name.
+-- One table for each needed class that is no input's, and the names of these tables.
 pub record IsTableNetOf (g : Graph) (most : ℕ) (depths : List (Option ℕ)) (ports : TablePorts) (n : PlainTableNet) : Type 0 where
   pub ports_are : n.ports ≡ ports
   pub inputs : numbers n.inputs ≡ g.leaves

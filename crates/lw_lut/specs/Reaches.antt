@@ -1,5 +1,6 @@
 -- Which classes hold pairs with a class, between two numbers.
-use Rattle.std.specs.Prelude.{ℕ, ◌*◌, ◌/◌, ◌<◌, ◌≤◌, ◌≡◌, List, Option, length, slice_index, slice_index_or}
+use Rattle.std.specs.Prelude.{ℕ, ◌*◌, ◌/◌, ◌<◌, ◌≤◌, ◌≡◌, List, All, Contains, Option, length, slice_index, slice_index_or}
+use Rattle.lw_graph.specs.declared.pair.Pair.{Pair}
 use Rattle.lw_laws.specs.Graphs.{Graph, HoldsPair}
 use Rattle.lw_lut.specs.Searches.{IsBoundedAt, IsKnown, count_at}
 use Rattle.lw_lut.specs.declared.span.Span.{Span}
@@ -30,6 +31,14 @@ pub record AreGrown (old new : List Span) : Type 0 where
 -- Each class that holds a pair is in the spans of the places of both its classes.
 abbrev pub AreReaches : Graph → List Span → Type 0
 AreReaches g reach = (c x y : ℕ) → HoldsPair g c x y → IsIn (span_at reach (x / 2)) c × IsIn (span_at reach (y / 2)) c
+
+-- both classes of each pair have a place among so many
+abbrev pub HaveEnds : ℕ → List Pair → Type 0
+HaveEnds places row = All (λ (p : Pair). (p.x.0 / 2 < places) × (p.y.0 / 2 < places)) row
+
+-- the class is in the spans of the places of both classes of each pair
+abbrev pub AreNoted : List Span → List Pair → ℕ → Type 0
+AreNoted reach row c = (p : Pair) → Contains row p → IsIn (span_at reach (p.x.0 / 2)) c × IsIn (span_at reach (p.y.0 / 2)) c
 
 -- a span for each place
 pub record AreReachesOf (g : Graph) (reach : List Span) : Type 0 where

@@ -76,6 +76,12 @@ pub record AreLists (g : Graph) (most cut_limit pin_limit : ℕ) (counts : List 
 abbrev pub AreCounts : Graph → ℕ → ℕ → Search → Type 0
 AreCounts g most limit s = AreLists g most limit limit s.counts.items s.cuts.items s.pins.items s.depths.items
 
+-- class c has a place with a cut, and each place that has one has a pin or none and a count
+pub record HasSide (s : Search) (c : ℕ) : Type 0 where
+  pub within : c / 2 < length s.cuts.items
+  pub pins : length s.pins.items ≡ length s.cuts.items
+  pub counts : length s.counts.items ≡ length s.cuts.items
+
 -- where counts hold and the place of class c has few enough leaves, the cut stands at the class, and each of its pins, one for
 -- each of these leaves, is less deep than the limit
 abbrev pub IsSide : Search → ℕ → PlainCut → Type 0

@@ -17,10 +17,8 @@ impl Search {
         requires at { IsAtDepth task.now.graph.now task.now.leaves 1 self.old }
         ensures { HasAllDepths task.now.graph.now task.now.leaves self.new }
     {
-        let mut span = Span {
-            low: 0,
-            high: task.graph.classes(),
-        };
+        let high = task.graph.classes();
+        let mut span = Span { low: 0, high };
         let mut depth = 1;
         while self.deepen_all(task, depth, &mut span) {
             depth += 1;
@@ -42,8 +40,6 @@ pub fn depths(alloc: Global, graph: &Graph, leaves: u8) -> Result<Depths, AllocE
         leaves,
         reach: &reach,
     });
-    Ok(Depths {
-        depths: search.depths,
-        cuts: search.cuts,
-    })
+    let (depths, cuts) = (search.depths, search.cuts);
+    Ok(Depths { depths, cuts })
 }

@@ -1,7 +1,6 @@
 // Which classes hold pairs with a class.
-ghost use Rattle.std.specs.Prelude.{◌-◌, ◌/◌, ◌<◌, ◌^◌, All, Contains, IfOk, length};
-ghost use Rattle.lw_graph.specs.declared.pair.Pair.{Pair};
-ghost use Rattle.lw_lut.specs.Reaches.{AreGrown, AreReachesOf, IsIn, span_at};
+ghost use Rattle.std.specs.Prelude.{◌-◌, ◌/◌, ◌<◌, ◌^◌, IfOk, length};
+ghost use Rattle.lw_lut.specs.Reaches.{AreGrown, AreNoted, AreReachesOf, HaveEnds, IsIn, span_at};
 ghost use Rattle.lw_lut.specs.declared.span.Span.{Span};
 
 use crate::span::Span;
@@ -22,13 +21,10 @@ fn note(reach: &mut Vec<Span>, end: ClassId, class: ClassId)
 
 // Notes the pairs of a class.
 fn note_row(reach: &mut Vec<Span>, class: ClassId, row: &[Pair])
-    requires ends { All (λ (p : Pair). (p.x.0 / 2 < length reach.old.items) ×
-        (p.y.0 / 2 < length reach.old.items)) row.now }
+    requires ends { HaveEnds (length reach.old.items) row.now }
     requires class { class.0 < 2 ^ 32 - 1 }
     ensures grown { AreGrown reach.old.items reach.new.items }
-    ensures noted { (p : Pair) → Contains row.now p →
-        IsIn (span_at reach.new.items (p.x.0 / 2)) class.0 ×
-        IsIn (span_at reach.new.items (p.y.0 / 2)) class.0 }
+    ensures noted { AreNoted reach.new.items row.now class.0 }
 {
     for pair in row {
         note(reach, pair.x, class);

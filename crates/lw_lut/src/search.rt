@@ -1,6 +1,6 @@
 // The search for depths, leaf count by leaf count.
 ghost use Rattle.std.specs.Prelude.{◌≡◌, ◌+◌, ◌*◌, ◌/◌, ◌<◌, ◌≤◌, ◌^◌, ◌||◌, length, All, MatchOption, Some, None};
-ghost use Rattle.lw_lut.specs.Searches.{HasFewer, IsBoundedAt, IsDeepened, IsServing, IsSide, count_at};
+ghost use Rattle.lw_lut.specs.Searches.{HasFewer, HasSide, IsBoundedAt, IsDeepened, IsServing, IsSide, count_at};
 ghost use Rattle.lw_lut.specs.Reaches.{AreBoundedBut};
 ghost use Rattle.lw_lut.specs.Sweeps.{AreInPlace, Deepens, IsAtDepth, IsSweptBut, LowersCount, LowersAll, LowersIn, LowersRound, MayLower, SeesPlace, Settles, SettlesAll};
 ghost use Rattle.lw_pool.specs.declared.id.ClassId.{ClassId};
@@ -102,9 +102,7 @@ impl Search {
     // The cut of the place of a class: its pin, where it has one and no constant stands there, or
     // its own cut.
     fn side(&self, class: ClassId) -> Cut
-        requires within { class.0 / 2 < length self.now.cuts.items }
-        requires pins { length self.now.pins.items ≡ length self.now.cuts.items }
-        requires counts { length self.now.counts.items ≡ length self.now.cuts.items }
+        requires { HasSide self.now class.0 }
         ensures { IsSide self.now class.0 result }
     {
         let place = place_of(class);

@@ -59,7 +59,8 @@ impl Problem<'_> {
     fn covered<C: Cost>(&self, cost: &C, labelled: &Labelled) -> Result<Cover, ExtractFault>
         requires given { CanBeMapped (C.costs cost.now) self.now }
         requires labels { HasLeastLabels (C.costs cost.now) self.now labelled.now }
-        ensures cover { IfOk result (IsCoverAtPorts (C.costs cost.now) self.now labelled.now.labels) }
+        ensures cover { IfOk result
+            (IsCoverAtPorts (C.costs cost.now) self.now labelled.now.labels) }
         ensures lacks { IfErr result (LacksLabel labelled.now.labels self.now.choices.now.roots) }
     {
         let _ = self.net.inputs();
@@ -80,6 +81,7 @@ impl Problem<'_> {
     {
         let labelled = self.label(cost, labeller)?;
         let cover = self.covered(cost, &labelled)?;
+        drop(labelled.bounds);
         Ok(Mapping {
             netlist: cover.netlist,
             classes: cover.classes,

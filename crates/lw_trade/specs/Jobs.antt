@@ -7,6 +7,7 @@ use Rattle.lw_laws.specs.Graphs.{Graph}
 use Rattle.lw_pool.specs.declared.id.ClassId.{ClassId}
 use Rattle.lw_trade.specs.declared.choices.Row.{Row}
 use Rattle.lw_trade.specs.declared.job.Job.{Job}
+use Rattle.lw_trade.specs.declared.looking.View.{View}
 use Rattle.lw_trade.specs.declared.point.CurveFault.{CurveFault}
 use Rattle.lw_trade.specs.declared.seeing.Seen.{Seen}
 use Rattle.lw_trade.specs.declared.uses.Uses.{Uses}
@@ -41,20 +42,25 @@ abbrev pub ForAnyTask : Job → (Task → List Choice → Type 0) → Type 0
 ForAnyTask job Then =
     (g : Graph) (pats : List Pattern) (starts : List Micro) → AreUses job.lib.now (choices_of_job job) job.uses.now → Then (task g pats job.lib.now starts) (choices_of_job job)
 
+-- a pin of the choice has a point in time that its group has not seen
+abbrev pub IsUnseenIn : View → ℕ → ℕ → Type 0
+IsUnseenIn at time n =
+    HasUnseen at.job.now.uses.now at.seen.now.areas.items at.fronts.now.spots time n
+
 -- the choice gives no more at this time than what is had, but for points that its groups have not seen
-abbrev pub GivesNoMoreIn : Job → Seen → FrontState → ℕ → ℕ → Type 0
-GivesNoMoreIn job state fronts time n =
-    ForAnyTask job (λ s choices. GivesNoMoreSeen s choices fronts.spots (HasUnseen job.uses.now state.areas.items fronts.spots time) time n)
+abbrev pub GivesNoMoreIn : View → ℕ → ℕ → Type 0
+GivesNoMoreIn at time n =
+    ForAnyTask at.job.now (λ s choices. GivesNoMoreSeen s choices at.fronts.now.spots (IsUnseenIn at time) time n)
 
 -- the choice waits too, or so it is
-abbrev pub IsLookedAtIn : Job → Seen → FrontState → ℕ → ℕ → Queued → Queued → Type 0
-IsLookedAtIn job state fronts time n old new =
-    ForAnyTask job (λ s choices. IsLookedAt s choices fronts.spots (HasUnseen job.uses.now state.areas.items fronts.spots time) old new time n)
+abbrev pub IsLookedAtIn : View → ℕ → ℕ → Queued → Queued → Type 0
+IsLookedAtIn at time n old new =
+    ForAnyTask at.job.now (λ s choices. IsLookedAt s choices at.fronts.now.spots (IsUnseenIn at time) old new time n)
 
 -- so it is of each choice with a pin in the group
-abbrev pub IsGroupLookedAtIn : Job → Seen → FrontState → ℕ → ℕ → Queued → Queued → Type 0
-IsGroupLookedAtIn job state fronts time group old new =
-    ForAnyTask job (λ s choices. IsGroupLookedAt s choices fronts.spots (HasUnseen job.uses.now state.areas.items fronts.spots time) job.uses.now.members.classes job.uses.now.owners.items old new time group)
+abbrev pub IsGroupLookedAtIn : View → ℕ → ℕ → Queued → Queued → Type 0
+IsGroupLookedAtIn at time group old new =
+    ForAnyTask at.job.now (λ s choices. IsGroupLookedAt s choices at.fronts.now.spots (IsUnseenIn at time) at.job.now.uses.now.members.classes at.job.now.uses.now.owners.items old new time group)
 
 -- an area for each group, and a tally for each choice
 abbrev pub AreTalliedIn : Job → Seen → Type 0

@@ -1,5 +1,6 @@
 -- The choices of each group.
 use Rattle.std.specs.Prelude.{ℕ, ◌+◌, ◌<◌, ◌≤◌, ◌≡◌, List, length, map, Some, slice_get, slice_index_or}
+use Rattle.lw_trade.specs.declared.looks.Looks.{Looks}
 use Rattle.lw_trade.specs.declared.uses.Uses.{Uses}
 
 -- the choices of the pins at these places
@@ -33,7 +34,9 @@ abbrev pub AreOwnersListed : List ℕ → List ℕ → ℕ → List ℕ → List
 AreOwnersListed groups owners count starts numbers =
     (places : List ℕ) × (numbers ≡ owners_of owners places) × AreMembersListed groups count starts places
 
+abbrev pub AreLooksOf : List ℕ → List ℕ → ℕ → Looks → Type 0
+AreLooksOf groups owners count looks = AreOwnersListed groups owners count looks.starts.items looks.numbers.items
+
 -- what looks need is that of these pins
 abbrev pub AreLooks : Uses → Type 0
-AreLooks u =
-    AreOwnersListed u.members.classes u.owners.items u.members.count u.looks.starts.items u.looks.numbers.items
+AreLooks u = AreLooksOf u.members.classes u.owners.items u.members.count u.looks

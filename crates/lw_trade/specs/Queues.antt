@@ -75,6 +75,11 @@ IsFirstOf p q None = (p.items ≡ []) × (q.items ≡ [])
 IsFirstOf p q (Some time) =
     (((n : ℕ) × Waits p time n) ⊎ ((n : ℕ) × Waits q time n)) × ((t n : ℕ) → Waits p t n → time ≤ t) × ((t n : ℕ) → Waits q t n → time ≤ t)
 
+-- one more waits at the time
+abbrev pub IsWithOneMore : Queued → Queued → ℕ → ℕ → ℕ → Type 0
+IsWithOneMore old new time hint n =
+    IsPermutation ((old.horizon - time, (hint, n)) ∷ old.items) new.items
+
 -- one that waits at the time is taken, or none does
 abbrev pub IsTaken : Queued → Queued → ℕ → Option ℕ → Type 0
 IsTaken old new time None = (new ≡ old) × ((t n : ℕ) → Waits old t n → time < t)

@@ -10,42 +10,43 @@ use crate::seeing::{Seen, see};
 use crate::tallies::UNSEEN;
 use std::alloc::AllocError;
 
+/// What choices are looked at by: the job, what the groups have seen, and the points that were
+/// found.
+#[derive(Drop)]
+pub(crate) struct View<'a, 'b, 'c, 'd> {
+    pub job: &'a Job<'b>,
+    pub seen: &'c Seen,
+    pub fronts: &'d Fronts,
+}
+
 /// Whether by what its groups have seen a choice may give more at a time than what is had.
-pub(crate) fn may_give(job: &Job, seen: &Seen, fronts: &Fronts, number: u32, time: u64) -> bool
-    requires { IsReadyFor job.now time seen.now fronts.now }
-    ensures listed { IsTrue result → number < length job.now.rows.now }
-    ensures no_more { IsFalse result → GivesNoMoreIn job.now seen.now fronts.now time number }
+pub(crate) fn may_give(at: &View, number: u32, time: u64) -> bool
+    requires { IsReadyFor at.now.job.now time at.now.seen.now at.now.fronts.now }
+    ensures listed { IsTrue result → number < length at.now.job.now.rows.now }
+    ensures no_more { IsFalse result → GivesNoMoreIn at.now time number }
 {
     let place = number as usize;
-    if place >= seen.tallies.len() {
+    if place >= at.seen.tallies.len() {
         return false;
     }
-    let tally = seen.tallies[place];
+    let tally = at.seen.tallies[place];
     let bound = tally.bound();
     if bound >= UNSEEN {
         return false;
     }
     let area = bound.min(MOST_AREA as u128) as u64;
-    fronts.is_less(tally.class, time, area)
+    at.fronts.is_less(tally.class, time, area)
 }
 
 // Lets a choice wait at a time, unless by what its groups have seen it gives no more then than what
 // is had.
-fn look_at(
-    job: &Job,
-    seen: &Seen,
-    fronts: &Fronts,
-    queue: &mut Queue,
-    number: u32,
-    time: u64,
-) -> Result<(), AllocError>
+fn look_at(at: &View, queue: &mut Queue, number: u32, time: u64) -> Result<(), AllocError>
     requires time { time ≤ queue.old.horizon }
-    requires ready { IsReadyFor job.now time seen.now fronts.now }
+    requires ready { IsReadyFor at.now.job.now time at.now.seen.now at.now.fronts.now }
     ensures horizon { queue.new.horizon ≡ queue.old.horizon }
-    ensures looked { OnOk result (IsLookedAtIn job.now seen.now fronts.now time number queue.old
-        queue.new) }
+    ensures looked { OnOk result (IsLookedAtIn at.now time number queue.old queue.new) }
 {
-    if may_give(job, seen, fronts, number, time) {
+    if may_give(at, number, time) {
         queue.push(0, time, 0, number)?;
         return Ok(());
     }
@@ -54,27 +55,19 @@ fn look_at(
 
 // Lets the choices wait at a time that have a pin in a group, but for those that give no more then
 // than what is had.
-fn look_at_group(
-    job: &Job,
-    seen: &Seen,
-    fronts: &Fronts,
-    queue: &mut Queue,
-    group: u32,
-    time: u64,
-) -> Result<(), AllocError>
+fn look_at_group(at: &View, queue: &mut Queue, group: u32, time: u64) -> Result<(), AllocError>
     requires time { time ≤ queue.old.horizon }
-    requires ready { IsReadyAt job.now time seen.now fronts.now group }
+    requires ready { IsReadyAt at.now.job.now time at.now.seen.now at.now.fronts.now group }
     ensures horizon { queue.new.horizon ≡ queue.old.horizon }
-    ensures looked { OnOk result (IsGroupLookedAtIn job.now seen.now fronts.now time group
-        queue.old queue.new) }
+    ensures looked { OnOk result (IsGroupLookedAtIn at.now time group queue.old queue.new) }
 {
-    let uses = job.uses;
+    let uses = at.job.uses;
     let _ = uses.members.len();
     let first = uses.looks.starts[group as usize];
     let end = uses.looks.starts[group as usize + 1];
-    for at in first..end {
-        let number = uses.looks.numbers[at];
-        look_at(job, seen, fronts, queue, number, time)?;
+    for place in first..end {
+        let number = uses.looks.numbers[place];
+        look_at(at, queue, number, time)?;
     }
     Ok(())
 }
@@ -96,7 +89,7 @@ pub(crate) fn look_at_groups(
 {
     while let Some((place, group)) = coming.take_hinted_at(time) {
         see(job.uses, fronts, seen, group, time, place);
-        look_at_group(job, seen, fronts, queue, group, time)?;
+        look_at_group(&View { job, seen, fronts }, queue, group, time)?;
     }
     Ok(())
 }

@@ -1,6 +1,6 @@
 // The choices of each group, one group after another.
 ghost use Rattle.std.specs.Prelude.{◌≡◌, ◌<◌, IfOk, OnOk, length};
-ghost use Rattle.lw_trade.specs.Looks.{AreOwnersAdded, AreOwnersListed};
+ghost use Rattle.lw_trade.specs.Looks.{AreLooksOf, AreOwnersAdded};
 
 use crate::links::Links;
 use lw_pool::ClassId;
@@ -39,8 +39,7 @@ pub(crate) fn looks_of(
 ) -> Result<Looks, AllocError>
     requires groups { groups ≡ members.now.count }
     requires owners { length owners.now ≡ length members.now.classes }
-    ensures { IfOk result (λ looks. AreOwnersListed members.now.classes owners.now groups
-        looks.starts.items looks.numbers.items) }
+    ensures { IfOk result (AreLooksOf members.now.classes owners.now groups) }
 {
     let (mut starts, mut numbers) = (Vec::new(alloc), Vec::new(alloc));
     for group in 0..groups {

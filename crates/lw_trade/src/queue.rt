@@ -1,7 +1,6 @@
-ghost use Rattle.std.specs.Prelude.{◌≡◌, ◌-◌, ◌<◌, ◌≤◌, ◌∷◌, ℕ, IfOk, OnOk, option_map};
-ghost use Rattle.std.specs.List.Sorted.{IsPermutation};
+ghost use Rattle.std.specs.Prelude.{◌≡◌, ◌<◌, ◌≤◌, ℕ, IfOk, OnOk, option_map};
 ghost use Rattle.std.specs.BinaryHeap.{IsHeap, heap_items};
-ghost use Rattle.lw_trade.specs.Queues.{IsFirstTime, IsHorizonOf, IsIdle, IsMostLeft, IsTaken, item_cmp};
+ghost use Rattle.lw_trade.specs.Queues.{IsFirstTime, IsHorizonOf, IsIdle, IsMostLeft, IsTaken, IsWithOneMore, item_cmp};
 ghost use Rattle.lw_trade.specs.Settling.{Waits};
 
 use crate::lane::Lane;
@@ -79,8 +78,7 @@ impl Queue {
     ) -> Result<(), AllocError>
         requires { time ≤ self.old.horizon }
         ensures horizon { self.new.horizon ≡ self.old.horizon }
-        ensures items { OnOk result (IsPermutation
-            ((self.old.horizon - time, (hint, number)) ∷ self.old.items) self.new.items) }
+        ensures items { OnOk result (IsWithOneMore self.old self.new time hint number) }
     {
         let item = (self.horizon - time, (hint, number));
         if push_behind(&mut self.lanes, lane, item)? {

@@ -6,7 +6,7 @@ ghost use Rattle.lw_trade.specs.Uses.{AreGroups, ComesAfter};
 
 use crate::fronts::Fronts;
 use crate::job::Job;
-use crate::looking::{look_at_groups, may_give};
+use crate::looking::{View, look_at_groups, may_give};
 use crate::point::CurveFault;
 use crate::pricing::price;
 use crate::queue::Queue;
@@ -84,7 +84,7 @@ fn next_gain(
         coming.now queue.old queue.new) }
 {
     while let Some(number) = queue.take_at(time) {
-        if !may_give(job, seen, fronts, number, time) {
+        if !may_give(&View { job, seen, fronts }, number, time) {
             continue;
         }
         let row = &job.rows[number as usize];

@@ -19,10 +19,10 @@ returns-then-may_give-clause-looked c g pats starts us =
       done = inl (pushed_waits old new c.args.time 0 c.args.number within same items);
     }
   where
-    low : c.args.number < length (plain_rows c.args.job.now.rows.now)
-    low = omega (arith, c.may_give.ensures.listed c.if-may_give.true, length-map c.args.job.now.rows.now plain_row)
+    low : c.args.number < length (plain_rows c.args.at.now.job.now.rows.now)
+    low = omega (arith, c.may_give.ensures.listed c.if-may_give.true, length-map c.args.at.now.job.now.rows.now plain_row)
 
-    from : (t m : ℕ) → Waits c.args.queue.now t m ⊎ ((t ≡ c.args.time) × (m ≡ c.args.number)) → Waits c.args.queue.now t m ⊎ ((t ≡ c.args.time) × (m < length (plain_rows c.args.job.now.rows.now)))
+    from : (t m : ℕ) → Waits c.args.queue.now t m ⊎ ((t ≡ c.args.time) × (m ≡ c.args.number)) → Waits c.args.queue.now t m ⊎ ((t ≡ c.args.time) × (m < length (plain_rows c.args.at.now.job.now.rows.now)))
     from t m (inl w) = inl w
     from t m (inr (e, f)) = inr (e, omega (arith, f, low))
 

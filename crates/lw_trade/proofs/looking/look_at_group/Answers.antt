@@ -13,39 +13,39 @@ index-first-requires c = omega (arith, c.requires.ready.group_low, c.requires.re
 pub index-end-requires : goal.index-end-requires
 index-end-requires c = omega (arith, c.requires.ready.group_low, c.requires.ready.looks.2.one_more)
 
-pub loop-at-init : goal.loop-at-init
-loop-at-init c = record {
+pub loop-place-init : goal.loop-place-init
+loop-place-init c = record {
   horizon = refl;
-  looking = λ g pats ts us. looking_first (task g pats c.args.job.now.lib.now ts) (plain_rows c.args.job.now.rows.now) c.args.fronts.now.spots (HasUnseen c.args.job.now.uses.now c.args.seen.now.areas.items c.args.fronts.now.spots c.args.time) c.args.job.now.uses.now.looks.numbers.items c.index-first.result.now c.args.queue.now c.args.time;
+  looking = λ g pats ts us. looking_first (task g pats c.args.at.now.job.now.lib.now ts) (plain_rows c.args.at.now.job.now.rows.now) c.args.at.now.fronts.now.spots (HasUnseen c.args.at.now.job.now.uses.now c.args.at.now.seen.now.areas.items c.args.at.now.fronts.now.spots c.args.time) c.args.at.now.job.now.uses.now.looks.numbers.items c.index-first.result.now c.args.queue.now c.args.time;
 }
 
 pub index-number-requires : goal.index-number-requires
 index-number-requires c =
-    let starts = c.args.job.now.uses.now.looks.starts.items in
+    let starts = c.args.at.now.job.now.uses.now.looks.starts.items in
     let next : c.args.group + 1 < length starts = omega (arith, c.requires.ready.group_low, c.requires.ready.looks.2.one_more) in
     let end = c.index-end.result.now in
     let et = read_at starts (c.args.group + 1) end next c.index-end.ensures in
-    let low = listed_low c.args.job.now.uses.now.members.classes c.args.job.now.uses.now.owners.items c.args.job.now.uses.now.members.count starts c.args.job.now.uses.now.looks.numbers.items c.requires.ready.looks (c.args.group + 1) end et in
-    omega (arith, low, c.loop-at-test.true)
+    let low = listed_low c.args.at.now.job.now.uses.now.members.classes c.args.at.now.job.now.uses.now.owners.items c.args.at.now.job.now.uses.now.members.count starts c.args.at.now.job.now.uses.now.looks.numbers.items c.requires.ready.looks (c.args.group + 1) end et in
+    omega (arith, low, c.loop-place-test.true)
 
-pub loop-at-preserved : goal.loop-at-preserved
-loop-at-preserved c =
-    let starts = c.args.job.now.uses.now.looks.starts.items in
-    let numbers = c.args.job.now.uses.now.looks.numbers.items in
+pub loop-place-preserved : goal.loop-place-preserved
+loop-place-preserved c =
+    let starts = c.args.at.now.job.now.uses.now.looks.starts.items in
+    let numbers = c.args.at.now.job.now.uses.now.looks.numbers.items in
     let next : c.args.group + 1 < length starts = omega (arith, c.requires.ready.group_low, c.requires.ready.looks.2.one_more) in
     let end = c.index-end.result.now in
     let et = read_at starts (c.args.group + 1) end next c.index-end.ensures in
-    let low = listed_low c.args.job.now.uses.now.members.classes c.args.job.now.uses.now.owners.items c.args.job.now.uses.now.members.count starts c.args.job.now.uses.now.looks.numbers.items c.requires.ready.looks (c.args.group + 1) end et in
-    let in' : c.loop-at.at < length numbers = omega (arith, low, c.loop-at-test.true) in
-    let here = read_at numbers c.loop-at.at c.index-number.result.now in' c.index-number.ensures in
+    let low = listed_low c.args.at.now.job.now.uses.now.members.classes c.args.at.now.job.now.uses.now.owners.items c.args.at.now.job.now.uses.now.members.count starts c.args.at.now.job.now.uses.now.looks.numbers.items c.requires.ready.looks (c.args.group + 1) end et in
+    let in' : c.loop-place.place < length numbers = omega (arith, low, c.loop-place-test.true) in
+    let here = read_at numbers c.loop-place.place c.index-number.result.now in' c.index-number.ensures in
     record {
-      horizon = c.in_ok-look_at.ensures.horizon ∙ c.loop-at.invariant.horizon;
-      looking = λ g pats ts us. looking_next (task g pats c.args.job.now.lib.now ts) (plain_rows c.args.job.now.rows.now) c.args.fronts.now.spots (HasUnseen c.args.job.now.uses.now c.args.seen.now.areas.items c.args.fronts.now.spots c.args.time) numbers c.index-first.result.now c.args.queue.now c.args.time c.loop-at.queue c.look_at.new.queue c.loop-at.at c.index-number.result.now here (c.in_ok-look_at.ensures.looked g pats ts us) (c.loop-at.invariant.looking g pats ts us);
+      horizon = c.in_ok-look_at.ensures.horizon ∙ c.loop-place.invariant.horizon;
+      looking = λ g pats ts us. looking_next (task g pats c.args.at.now.job.now.lib.now ts) (plain_rows c.args.at.now.job.now.rows.now) c.args.at.now.fronts.now.spots (HasUnseen c.args.at.now.job.now.uses.now c.args.at.now.seen.now.areas.items c.args.at.now.fronts.now.spots c.args.time) numbers c.index-first.result.now c.args.queue.now c.args.time c.loop-place.queue c.look_at.new.queue c.loop-place.place c.index-number.result.now here (c.in_ok-look_at.ensures.looked g pats ts us) (c.loop-place.invariant.looking g pats ts us);
     }
 
 pub returns-clause-looked : goal.returns-clause-looked
 returns-clause-looked c g pats ts us =
-    let u = c.args.job.now.uses.now in
+    let u = c.args.at.now.job.now.uses.now in
     let starts = u.looks.starts.items in
     let first = c.index-first.result.now in
     let end = c.index-end.result.now in
@@ -53,5 +53,5 @@ returns-clause-looked c g pats ts us =
     let next : c.args.group + 1 < length starts = omega (arith, c.requires.ready.group_low, c.requires.ready.looks.2.one_more) in
     let st = read_at starts c.args.group first here c.index-first.ensures in
     let et = read_at starts (c.args.group + 1) end next c.index-end.ensures in
-    let over : end ≤ c.loop-at.at = omega (arith, c.loop-at-test.false) in
-    looking_over (task g pats c.args.job.now.lib.now ts) (plain_rows c.args.job.now.rows.now) c.args.fronts.now.spots (HasUnseen u c.args.seen.now.areas.items c.args.fronts.now.spots c.args.time) u.looks.numbers.items first c.args.queue.now c.args.time u.members.classes u.owners.items starts u.members.count c.args.group end c.loop-at.at c.loop-at.queue c.requires.ready.looks st et over (c.loop-at.invariant.looking g pats ts us)
+    let over : end ≤ c.loop-place.place = omega (arith, c.loop-place-test.false) in
+    looking_over (task g pats c.args.at.now.job.now.lib.now ts) (plain_rows c.args.at.now.job.now.rows.now) c.args.at.now.fronts.now.spots (HasUnseen u c.args.at.now.seen.now.areas.items c.args.at.now.fronts.now.spots c.args.time) u.looks.numbers.items first c.args.queue.now c.args.time u.members.classes u.owners.items starts u.members.count c.args.group end c.loop-place.place c.loop-place.queue c.requires.ready.looks st et over (c.loop-place.invariant.looking g pats ts us)

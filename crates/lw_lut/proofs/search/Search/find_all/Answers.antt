@@ -8,7 +8,7 @@ loop-span-init c =
     let few = few_unknown c.args.self.now.depths.items in
     let counts = c.requires.at.counts in
     let l = counts.one_depth in
-    let all = c.classes.ensures.classes in
+    let all = c.classes-high.ensures.classes in
     let p = counts.places in
     record {
       at = c.requires.at;
