@@ -6,11 +6,10 @@ use Rattle.lw_pool.specs.declared.id.ClassId.{ClassId}
 use Rattle.lw_laws.specs.Graphs.{Graph, HoldsPair}
 use Rattle.lw_lut.specs.Cuts.{PlainCut}
 use Rattle.lw_lut.specs.Packed.{joined_bits}
-use Rattle.lw_lut.specs.Searches.{AreCounts, AreLists, IsKept, IsBelow, count_at, total}
+use Rattle.lw_lut.specs.Searches.{AreCounts, AreLists, IsKept, IsBelow, count_at, total, IsSide}
 use Rattle.lw_lut.specs.declared.search.Search.{Search}
 use Rattle.lw_lut.proofs.Places.{get_set, number_set, sum_set}
 use Rattle.lw_lut.proofs.Pairs.{half_below}
-use Rattle.lw_lut.proofs.Sides.{IsSide}
 use Rattle.lw_lut.proofs.Joining.{joined_cut, place_cut}
 
 get_append : {X : Type 0} (xs ys : List X) (k : ℕ) (x : X) → slice_get (xs ++ ys) k ≡ Some x → ((j : ℕ) × (slice_get xs j ≡ Some x)) ⊎ ((j : ℕ) × (slice_get ys j ≡ Some x))

@@ -7,16 +7,12 @@ use Rattle.lw_facts.proofs.Lists.{contained_in_map}
 use Rattle.lw_laws.specs.Graphs.{Graph, HoldsPair, Pair as PlainPair}
 use Rattle.lw_graph.specs.declared.pair.Pair.{Pair}
 use Rattle.lw_graph.specs.Graphs.{plain_pair, plain_row}
-use Rattle.lw_lut.specs.Reaches.{AreKnownBut, AreReaches, IsIn, IsWithin, FallsAt, span_at}
+use Rattle.lw_lut.specs.Reaches.{AreKnownBut, AreReaches, IsIn, IsWithin, FallsAt, span_at, IsSeen}
 use Rattle.lw_lut.specs.Searches.{AreSettled, IsBoundedAt, IsDeepened, IsKnown, depth_in, unknown_count}
 use Rattle.lw_lut.specs.declared.span.Span.{Span}
 use Rattle.lw_lut.specs.declared.search.Search.{Search}
 use native.Mathlib.Decide.{dec_lt}
 use Rattle.lw_lut.proofs.Places.{number_set, none_some}
-
--- a class is in the spans of the places of a pair
-abbrev pub IsSeen : List Span → ℕ → ℕ → ℕ → Type 0
-IsSeen reach c x y = IsIn (span_at reach (x / 2)) c × IsIn (span_at reach (y / 2)) c
 
 -- what holds of each pair of a row holds of those that the class holds
 pub row_seen : (g : Graph) (c : ℕ) (row : List Pair) → plain_row row ≡ slice_index_or g.pairs c [] → (reach : List Span) → ((p : Pair) → Contains row p → IsSeen reach c p.x.0 p.y.0) → (x y : ℕ) → HoldsPair g c x y → IsSeen reach c x y

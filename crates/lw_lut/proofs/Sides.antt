@@ -5,7 +5,7 @@ use Rattle.lw_pool.specs.declared.id.ClassId.{ClassId}
 use Rattle.lw_laws.specs.Trees.{leaf}
 use Rattle.lw_laws.specs.Graphs.{Graph}
 use Rattle.lw_lut.specs.Cuts.{PlainCut, IsCutAt, is_set, is_odd, turned}
-use Rattle.lw_lut.specs.Searches.{AreCounts, IsBelow, count_at}
+use Rattle.lw_lut.specs.Searches.{AreCounts, IsBelow, count_at, IsSide}
 use Rattle.lw_lut.specs.declared.search.Search.{Search}
 use Rattle.lw_lut.proofs.Places.{none_some}
 use Rattle.lw_lut.proofs.Joining.{place_cut, class_cut}
@@ -28,10 +28,6 @@ pin_cut g q bits low high = record {
   stands = refl;
   values = λ v. ap (turned (is_odd q.0)) (pin_bit (v q.0) bits) ∙ pin_values (v q.0) (is_odd q.0) (is_set bits 0) (is_set bits 1) low high;
 }
-
-abbrev pub IsSide : Graph → ℕ → Search → ℕ → PlainCut → Type 0
-IsSide g d s c cut =
-    IsCutAt g c (is_odd c) cut × (length cut.pins ≡ count_at s.counts.items c) × ((k : ℕ) (q : ClassId) → slice_get cut.pins k ≡ Some q → IsBelow s.depths.items d q.0)
 
 module _ (g : Graph) (most d : ℕ) (s : Search) (are : AreCounts g most d s) (c : ℕ) where
   pub side_pin : (q : ClassId) (cut : PlainCut) → slice_get s.pins.items (c / 2) ≡ Some (Some q) → count_at s.counts.items c ≡ 1 → cut.pins ≡ q ∷ [] → is_set cut.bits 0 ≡ is_odd q.0 → is_set cut.bits 1 ≡ not (is_odd q.0) → IsSide g d s c cut

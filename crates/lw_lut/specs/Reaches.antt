@@ -28,17 +28,21 @@ pub record AreGrown (old new : List Span) : Type 0 where
   pub one_each : length new ≡ length old
   pub spans : (k : ℕ) → IsWithin (span_at old k) (span_at new k)
 
+-- class c is in the spans of the places of both classes of a pair
+abbrev pub IsSeen : List Span → ℕ → ℕ → ℕ → Type 0
+IsSeen reach c x y = IsIn (span_at reach (x / 2)) c × IsIn (span_at reach (y / 2)) c
+
+-- the same for each pair of a row
+abbrev pub AreSeen : List Span → ℕ → List Pair → Type 0
+AreSeen reach c row = (p : Pair) → Contains row p → IsSeen reach c p.x.0 p.y.0
+
 -- Each class that holds a pair is in the spans of the places of both its classes.
 abbrev pub AreReaches : Graph → List Span → Type 0
-AreReaches g reach = (c x y : ℕ) → HoldsPair g c x y → IsIn (span_at reach (x / 2)) c × IsIn (span_at reach (y / 2)) c
+AreReaches g reach = (c x y : ℕ) → HoldsPair g c x y → IsSeen reach c x y
 
 -- both classes of each pair have a place among so many
 abbrev pub HaveEnds : ℕ → List Pair → Type 0
 HaveEnds places row = All (λ (p : Pair). (p.x.0 / 2 < places) × (p.y.0 / 2 < places)) row
-
--- the class is in the spans of the places of both classes of each pair
-abbrev pub AreNoted : List Span → List Pair → ℕ → Type 0
-AreNoted reach row c = (p : Pair) → Contains row p → IsIn (span_at reach (p.x.0 / 2)) c × IsIn (span_at reach (p.y.0 / 2)) c
 
 -- a span for each place
 pub record AreReachesOf (g : Graph) (reach : List Span) : Type 0 where

@@ -82,11 +82,15 @@ pub record HasSide (s : Search) (c : ℕ) : Type 0 where
   pub pins : length s.pins.items ≡ length s.cuts.items
   pub counts : length s.counts.items ≡ length s.cuts.items
 
--- where counts hold and the place of class c has few enough leaves, the cut stands at the class, and each of its pins, one for
--- each of these leaves, is less deep than the limit
-abbrev pub IsSide : Search → ℕ → PlainCut → Type 0
-IsSide s c cut =
-    (g : Graph) (most limit : ℕ) → AreCounts g most limit s → count_at s.counts.items c ≤ most → IsCutAt g c (is_odd c) cut × (length cut.pins ≡ count_at s.counts.items c) × ((k : ℕ) (q : ClassId) → slice_get cut.pins k ≡ Some q → IsBelow s.depths.items limit q.0)
+-- the cut stands at class c, and has as many pins as the place of the class has leaves, each less deep than the limit
+abbrev pub IsSide : Graph → ℕ → Search → ℕ → PlainCut → Type 0
+IsSide g limit s c cut =
+    IsCutAt g c (is_odd c) cut × (length cut.pins ≡ count_at s.counts.items c) × ((k : ℕ) (q : ClassId) → slice_get cut.pins k ≡ Some q → IsBelow s.depths.items limit q.0)
+
+-- the cut is a side of a pair wherever counts hold and the place of the class has few enough leaves
+abbrev pub ServesAsSide : Search → ℕ → PlainCut → Type 0
+ServesAsSide s c cut =
+    (g : Graph) (most limit : ℕ) → AreCounts g most limit s → count_at s.counts.items c ≤ most → IsSide g limit s c cut
 
 -- The same while classes get the depth d: known depths are d at most.
 abbrev pub AreSettling : Graph → ℕ → ℕ → Search → Type 0

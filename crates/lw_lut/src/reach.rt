@@ -1,6 +1,6 @@
 // Which classes hold pairs with a class.
 ghost use Rattle.std.specs.Prelude.{◌-◌, ◌/◌, ◌<◌, ◌^◌, IfOk, length};
-ghost use Rattle.lw_lut.specs.Reaches.{AreGrown, AreNoted, AreReachesOf, HaveEnds, IsIn, span_at};
+ghost use Rattle.lw_lut.specs.Reaches.{AreGrown, AreReachesOf, AreSeen, HaveEnds, IsIn, span_at};
 ghost use Rattle.lw_lut.specs.declared.span.Span.{Span};
 
 use crate::span::Span;
@@ -24,7 +24,7 @@ fn note_row(reach: &mut Vec<Span>, class: ClassId, row: &[Pair])
     requires ends { HaveEnds (length reach.old.items) row.now }
     requires class { class.0 < 2 ^ 32 - 1 }
     ensures grown { AreGrown reach.old.items reach.new.items }
-    ensures noted { AreNoted reach.new.items row.now class.0 }
+    ensures noted { AreSeen reach.new.items class.0 row.now }
 {
     for pair in row {
         note(reach, pair.x, class);

@@ -1,6 +1,6 @@
 // The search for depths, leaf count by leaf count.
 ghost use Rattle.std.specs.Prelude.{◌≡◌, ◌+◌, ◌*◌, ◌/◌, ◌<◌, ◌≤◌, ◌^◌, ◌||◌, length, All, MatchOption, Some, None};
-ghost use Rattle.lw_lut.specs.Searches.{HasFewer, HasSide, IsBoundedAt, IsDeepened, IsServing, IsSide, count_at};
+ghost use Rattle.lw_lut.specs.Searches.{HasFewer, HasSide, IsBoundedAt, IsDeepened, IsServing, ServesAsSide, count_at};
 ghost use Rattle.lw_lut.specs.Reaches.{AreBoundedBut};
 ghost use Rattle.lw_lut.specs.Sweeps.{AreInPlace, Deepens, IsAtDepth, IsSweptBut, LowersCount, LowersAll, LowersIn, LowersRound, MayLower, SeesPlace, Settles, SettlesAll};
 ghost use Rattle.lw_pool.specs.declared.id.ClassId.{ClassId};
@@ -103,7 +103,7 @@ impl Search {
     // its own cut.
     fn side(&self, class: ClassId) -> Cut
         requires { HasSide self.now class.0 }
-        ensures { IsSide self.now class.0 result }
+        ensures { ServesAsSide self.now class.0 result }
     {
         let place = place_of(class);
         match serving(self.pins[place], self.counts[place]) {

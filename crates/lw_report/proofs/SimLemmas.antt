@@ -19,7 +19,6 @@ use Rattle.lw_net.specs.Plain as network
 use Rattle.lw_net.specs.Signs.{asked, met_by}
 use Rattle.lw_net.proofs.Filling.{row_step, filled_values as network_values}
 use Rattle.lw_netlist.specs.declared.gate.Gate.{Gate}
-use Rattle.lw_netlist.specs.Filling as netlist
 use Rattle.lw_netlist.specs.Filling.{gate_value}
 use Rattle.lw_netlist.specs.Netlists.{NetlistParts}
 use Rattle.lw_netlist.proofs.NetValues.{filled_values as netlist_values}

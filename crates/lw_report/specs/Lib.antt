@@ -1,5 +1,7 @@
+pub mod Arrived
 pub mod Blocks
 pub mod Made
+pub mod Mapped
 pub mod Marking
 pub mod Pathways
 pub mod Writes

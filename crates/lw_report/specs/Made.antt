@@ -25,16 +25,10 @@ pub record CanBeTimed (cells : List CellParts) (n : NetlistParts) (starts : List
   pub few : length n.gates ≤ most_gates
 
 -- a time below 2 ^ 63 for each net, which arrives then for these starts of the inputs
-pub record HasTimes (cells : List CellParts) (n : NetlistParts) (starts times : List Micro) : Type 0 where
+pub record ArriveAt (cells : List CellParts) (n : NetlistParts) (starts times : List Micro) : Type 0 where
   pub are : AreArrivals (timing_of cells starts) (plain n) (map millionths times)
   pub low : All (λ time. time.0 < 2 ^ 63) times
   pub len : length times ≡ length n.names
-
--- the netlist is over the cells, and its nets arrive then, for some starts of the inputs
-pub record IsTimed (cells : List CellParts) (n : NetlistParts) (times : List Micro) : Type 0 where
-  pub over : IsOver cells n
-  pub are : AreArrivalsFor cells n (map millionths times)
-  pub low : All (λ time. time.0 < 2 ^ 63) times
 
 -- the timing is that of the netlist, for some starts of its inputs
 abbrev pub IsTimingFor : List CellParts → NetlistParts → TimingParts → Type 0

@@ -1,16 +1,16 @@
 // The critical path.
 ghost use Rattle.std.specs.Prelude.{◌≡◌, ◌≢◌, ◌+◌, ◌<◌, [], ℕ, length, map, reverse, slice_get, Some, All, IfOk, IfSome, IfNone};
 ghost use Rattle.lw_genlib.specs.Tables.{millionths, cell_delays};
-ghost use Rattle.lw_netlist.specs.Closing.{greatest};
-ghost use Rattle.lw_report.specs.Made.{IsTimed};
-ghost use Rattle.lw_report.specs.Pathways.{IsLinkTo, IsTimedCell};
-ghost use Rattle.lw_report.specs.Timings.{pin_arrivals, port_arrival, output_arrivals, IsCriticalPin, IsPathTo, IsFirstAt, IsCriticalPath};
+ghost use Rattle.lw_report.specs.Arrived.{latest_in, HasCriticalPath, HasLinkTo, HasPathTo, IsTimed};
+ghost use Rattle.lw_report.specs.Pathways.{IsTimedCell};
+ghost use Rattle.lw_report.specs.Timings.{pin_arrivals, port_arrival, IsCriticalPin, IsFirstAt};
 
 use crate::Step;
+use crate::timed::Timed;
 use crate::totals::{cell_of, gate_numbered};
 use lw_fixed::Micro;
-use lw_genlib::{Cell, Library};
-use lw_netlist::{Netlist, Port};
+use lw_genlib::Cell;
+use lw_netlist::Port;
 use lw_pool::NetId;
 use std::alloc::{AllocError, Global};
 
@@ -37,16 +37,15 @@ fn critical_pin(cell: &Cell, pins: &[NetId], arrivals: &[Micro], arrival: Micro)
 }
 
 // The last step of the critical path to the net that a gate drives, and the net before it.
-fn link_to(netlist: &Netlist, lib: &Library, arrivals: &[Micro], j: u32) -> Link
-    requires timed { IsTimed lib.now netlist.now arrivals.now }
-    requires gate { j < length netlist.now.gates }
-    ensures { IsLinkTo lib.now netlist.now (map millionths arrivals.now)
-        (netlist.now.inputs + j) result }
+fn link_to(timed: &Timed, j: u32) -> Link
+    requires timed { IsTimed timed.now }
+    requires gate { j < length timed.now.netlist.now.gates }
+    ensures { HasLinkTo timed.now (timed.now.netlist.now.inputs + j) result }
 {
-    let gate = gate_numbered(netlist, j);
+    let gate = gate_numbered(timed.netlist, j);
     let pins = gate.pins.as_slice();
-    let arrival = arrivals[netlist.inputs() as usize + j as usize];
-    match critical_pin(cell_of(lib, gate), pins, arrivals, arrival) {
+    let arrival = timed.time[timed.netlist.inputs() as usize + j as usize];
+    match critical_pin(cell_of(timed.lib, gate), pins, timed.time, arrival) {
         Some(k) => Link {
             step: Step {
                 gate: j,
@@ -62,23 +61,16 @@ fn link_to(netlist: &Netlist, lib: &Library, arrivals: &[Micro], j: u32) -> Link
 }
 
 // The steps of the critical path to a net, from its end to its start.
-fn path_back(
-    alloc: Global,
-    netlist: &Netlist,
-    lib: &Library,
-    arrivals: &[Micro],
-    end: NetId,
-) -> Result<Vec<Step>, AllocError>
-    requires timed { IsTimed lib.now netlist.now arrivals.now }
-    requires end { end.0 < length netlist.now.names }
-    ensures { IfOk result (λ path. IsPathTo lib.now netlist.now (map millionths arrivals.now) end.0
-        (reverse path.items)) }
+fn path_back(alloc: Global, timed: &Timed, end: NetId) -> Result<Vec<Step>, AllocError>
+    requires timed { IsTimed timed.now }
+    requires end { end.0 < length timed.now.netlist.now.names }
+    ensures { IfOk result (λ path. HasPathTo timed.now end.0 (reverse path.items)) }
 {
-    let inputs = netlist.inputs();
+    let inputs = timed.netlist.inputs();
     let mut path = Vec::new(alloc);
     let mut net = end.0;
     while net >= inputs {
-        let link = link_to(netlist, lib, arrivals, net - inputs);
+        let link = link_to(timed, net - inputs);
         path.push(link.step)?;
         match link.from {
             Some(from) => net = from.0,
@@ -109,22 +101,18 @@ fn first_output(ports: &[Port], arrivals: &[Micro], time: Micro) -> Option<usize
 // an output.
 pub(crate) fn critical_path(
     alloc: Global,
-    netlist: &Netlist,
-    lib: &Library,
-    arrivals: &[Micro],
+    timed: &Timed,
     latest: Micro,
 ) -> Result<Vec<Step>, AllocError>
-    requires timed { IsTimed lib.now netlist.now arrivals.now }
-    requires latest { latest.0 ≡ greatest
-        (output_arrivals netlist.now (map millionths arrivals.now)) }
-    ensures { IfOk result (λ path. IsCriticalPath lib.now netlist.now
-        (map millionths arrivals.now) path.items) }
+    requires timed { IsTimed timed.now }
+    requires latest { latest.0 ≡ latest_in timed.now }
+    ensures { IfOk result (λ path. HasCriticalPath timed.now path.items) }
 {
-    let ports = netlist.outputs();
-    let Some(place) = first_output(ports, arrivals, latest) else {
+    let ports = timed.netlist.outputs();
+    let Some(place) = first_output(ports, timed.time, latest) else {
         return Ok(Vec::new(alloc));
     };
-    let mut path = path_back(alloc, netlist, lib, arrivals, ports[place].net)?;
+    let mut path = path_back(alloc, timed, ports[place].net)?;
     path.reverse();
     Ok(path)
 }

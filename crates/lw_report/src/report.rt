@@ -2,19 +2,20 @@
 ghost use Rattle.std.specs.Prelude.{◌≡◌, ◌<◌, Some, length, map, All, IfSome};
 ghost use Rattle.std.specs.List.{flat_map};
 ghost use Rattle.lw_genlib.specs.Tables.{millionths};
-ghost use Rattle.lw_netlist.specs.Plain.{IsOver};
 ghost use Rattle.lw_io.specs.Writers.{Writes};
+ghost use Rattle.lw_report.specs.Arrived.{line_of_step, HasTimes};
 ghost use Rattle.lw_report.specs.Made.{IsStepIn};
 ghost use Rattle.lw_report.specs.Timings as report;
-ghost use Rattle.lw_report.specs.Timings.{arrival_line, summary_text, cell_step_line, step_line};
+ghost use Rattle.lw_report.specs.Timings.{arrival_line, cell_step_line};
 
 use crate::Step;
 use crate::lines::{put_last, put_word};
+use crate::timed::Timed;
 use crate::totals::{cell_of, gate_numbered};
 use lw_fixed::Micro;
-use lw_genlib::{Cell, Library};
+use lw_genlib::Cell;
 use lw_io::{Sink, Writer};
-use lw_netlist::{Netlist, Port};
+use lw_netlist::Port;
 
 // When an output arrives.
 fn put_arrival<S: Sink>(out: &mut Writer<'_, S>, port: &Port, arrivals: &[Micro])
@@ -28,7 +29,7 @@ fn put_arrival<S: Sink>(out: &mut Writer<'_, S>, port: &Port, arrivals: &[Micro]
 }
 
 // When the outputs arrive.
-fn put_arrivals<S: Sink>(out: &mut Writer<'_, S>, ports: &[Port], arrivals: &[Micro])
+pub(crate) fn put_arrivals<S: Sink>(out: &mut Writer<'_, S>, ports: &[Port], arrivals: &[Micro])
     requires { All (λ port. port.net.0 < length arrivals.now) ports.now }
     ensures { Writes S.taken S.faults out.old out.new
         (flat_map (arrival_line (map millionths arrivals.now)) ports.now) }
@@ -36,25 +37,6 @@ fn put_arrivals<S: Sink>(out: &mut Writer<'_, S>, ports: &[Port], arrivals: &[Mi
     for port in ports {
         put_arrival(out, port, arrivals);
     }
-}
-
-// When the outputs arrive, the greatest of these times, and the area.
-pub(crate) fn put_summary<S: Sink>(
-    out: &mut Writer<'_, S>,
-    ports: &[Port],
-    arrivals: &[Micro],
-    latest: Micro,
-    area: Micro,
-)
-    requires { All (λ port. port.net.0 < length arrivals.now) ports.now }
-    ensures { Writes S.taken S.faults out.old out.new
-        (summary_text ports.now (map millionths arrivals.now) latest.0 area.0) }
-{
-    put_arrivals(out, ports, arrivals);
-    out.put(b"max");
-    put_last(out, latest);
-    out.put(b"area");
-    put_last(out, area);
 }
 
 // The name of a pin, if there is one.
@@ -88,40 +70,31 @@ fn put_cell_step<S: Sink>(
 }
 
 // A step of the critical path.
-fn put_step<S: Sink>(
-    out: &mut Writer<'_, S>,
-    netlist: &Netlist,
-    lib: &Library,
-    arrivals: &[Micro],
-    step: Step,
-)
-    requires over { IsOver lib.now netlist.now }
-    requires one_each { length arrivals.now ≡ length netlist.now.names }
-    requires step { IsStepIn netlist.now step }
-    ensures { Writes S.taken S.faults out.old out.new
-        (step_line lib.now netlist.now (map millionths arrivals.now) step) }
+fn put_step<S: Sink>(out: &mut Writer<'_, S>, timed: &Timed, step: Step)
+    requires timed { HasTimes timed.now }
+    requires step { IsStepIn timed.now.netlist.now step }
+    ensures { Writes S.taken S.faults out.old out.new (line_of_step timed.now step) }
 {
-    let gate = gate_numbered(netlist, step.gate);
+    let gate = gate_numbered(timed.netlist, step.gate);
     let net = gate.out.0 as usize;
-    let name = netlist.names()[net].as_bytes();
-    put_cell_step(out, name, arrivals[net], step.pin, cell_of(lib, gate));
+    let name = timed.netlist.names()[net].as_bytes();
+    put_cell_step(
+        out,
+        name,
+        timed.time[net],
+        step.pin,
+        cell_of(timed.lib, gate),
+    );
 }
 
 // The steps of the critical path.
-pub(crate) fn put_steps<S: Sink>(
-    out: &mut Writer<'_, S>,
-    netlist: &Netlist,
-    lib: &Library,
-    arrivals: &[Micro],
-    path: &[Step],
-)
-    requires over { IsOver lib.now netlist.now }
-    requires one_each { length arrivals.now ≡ length netlist.now.names }
-    requires steps { All (IsStepIn netlist.now) path.now }
+pub(crate) fn put_steps<S: Sink>(out: &mut Writer<'_, S>, timed: &Timed, path: &[Step])
+    requires timed { HasTimes timed.now }
+    requires steps { All (IsStepIn timed.now.netlist.now) path.now }
     ensures { Writes S.taken S.faults out.old out.new
-        (flat_map (step_line lib.now netlist.now (map millionths arrivals.now)) path.now) }
+        (flat_map (line_of_step timed.now) path.now) }
 {
     for step in path {
-        put_step(out, netlist, lib, arrivals, *step);
+        put_step(out, timed, *step);
     }
 }

@@ -3,13 +3,15 @@ ghost use Rattle.std.specs.Prelude.{◌≡◌, ◌≤◌, length, take, All, IfO
 ghost use Rattle.lw_netlist.specs.Plain.{IsOver};
 ghost use Rattle.lw_report.specs.Blocks.{IsBlock, block_vectors, vectors_in};
 ghost use Rattle.lw_report.specs.Made.{CanSimulate, places_of};
+ghost use Rattle.lw_report.specs.Mapped.{HasWords, IsMappedLine};
 ghost use Rattle.lw_report.specs.Writes.{WritesLines};
-ghost use Rattle.lw_report.specs.Simulated.{IsNetworkLine, IsNetlistLine, IsNetworkSimulation, IsNetlistSimulation};
+ghost use Rattle.lw_report.specs.Simulated.{IsNetworkLine, IsNetworkSimulation, IsNetlistSimulation};
 ghost use Rattle.lw_report.specs.Texts.{WritesValues};
 
 use crate::Vectors;
 use crate::block::Block;
 use crate::gates::fill_gates;
+use crate::mapped::Mapped;
 use crate::nodes::fill_nodes;
 use crate::outputs::{put_net_lines, put_port_lines};
 use lw_genlib::Library;
@@ -75,7 +77,8 @@ impl Sim {
         ensures made { places_of self.new ≡ places_of self.old }
     {
         let mut out = Writer::new(sink);
-        put_netlist(&mut out, netlist, lib, vectors.blocks(), &mut self.nets);
+        let of = Mapped { netlist, lib };
+        put_netlist(&mut out, &of, vectors.blocks(), &mut self.nets);
         out.end()
     }
 }
@@ -89,12 +92,7 @@ fn copy_front(words: &[u64], nets: &mut [u64])
 }
 
 // The lines of a block of vectors.
-fn put_network_block<S: Sink>(
-    out: &mut Writer<'_, S>,
-    net: &Network,
-    block: &Block,
-    nets: &mut [u64],
-)
+fn put_net_block<S: Sink>(out: &mut Writer<'_, S>, net: &Network, block: &Block, nets: &mut [u64])
     requires made { length nets.old ≡ length net.now.names }
     requires block { IsBlock net.now.inputs block.now }
     ensures { WritesLines (IsNetworkLine net.now) (block_vectors block.now) S.taken S.faults
@@ -114,45 +112,31 @@ fn put_network<S: Sink>(out: &mut Writer<'_, S>, net: &Network, blocks: &[Block]
         out.old out.new }
 {
     for block in blocks {
-        put_network_block(out, net, block, nets);
+        put_net_block(out, net, block, nets);
     }
 }
 
 // The lines of a block of vectors.
-fn put_netlist_block<S: Sink>(
-    out: &mut Writer<'_, S>,
-    netlist: &Netlist,
-    lib: &Library,
-    block: &Block,
-    nets: &mut [u64],
-)
-    requires made { length nets.old ≡ length netlist.now.names }
-    requires over { IsOver lib.now netlist.now }
-    requires block { IsBlock netlist.now.inputs block.now }
-    ensures { WritesLines (IsNetlistLine lib.now netlist.now) (block_vectors block.now) S.taken S.faults
+fn put_netlist_block<S: Sink>(out: &mut Writer<'_, S>, of: &Mapped, block: &Block, nets: &mut [u64])
+    requires words { HasWords of.now nets.old }
+    requires block { IsBlock of.now.netlist.now.inputs block.now }
+    ensures { WritesLines (IsMappedLine of.now) (block_vectors block.now) S.taken S.faults
         out.old out.new }
 {
-    let gates = netlist.gates();
+    let gates = of.netlist.gates();
     copy_front(&block.words, nets);
-    fill_gates(gates, lib, block.words.len(), nets);
-    put_port_lines(out, netlist.outputs(), nets, block.count);
+    fill_gates(gates, of.lib, block.words.len(), nets);
+    put_port_lines(out, of.netlist.outputs(), nets, block.count);
 }
 
 // The lines of blocks of vectors.
-fn put_netlist<S: Sink>(
-    out: &mut Writer<'_, S>,
-    netlist: &Netlist,
-    lib: &Library,
-    blocks: &[Block],
-    nets: &mut [u64],
-)
-    requires made { length nets.old ≡ length netlist.now.names }
-    requires over { IsOver lib.now netlist.now }
-    requires blocks { All (IsBlock netlist.now.inputs) blocks.now }
-    ensures { WritesLines (IsNetlistLine lib.now netlist.now) (vectors_in blocks.now) S.taken S.faults
+fn put_netlist<S: Sink>(out: &mut Writer<'_, S>, of: &Mapped, blocks: &[Block], nets: &mut [u64])
+    requires words { HasWords of.now nets.old }
+    requires blocks { All (IsBlock of.now.netlist.now.inputs) blocks.now }
+    ensures { WritesLines (IsMappedLine of.now) (vectors_in blocks.now) S.taken S.faults
         out.old out.new }
 {
     for block in blocks {
-        put_netlist_block(out, netlist, lib, block, nets);
+        put_netlist_block(out, of, block, nets);
     }
 }

@@ -1,20 +1,22 @@
 // The timing of a netlist.
-ghost use Rattle.std.specs.Prelude.{◌≡◌, ◌≤◌, length, All, IfOk};
+ghost use Rattle.std.specs.Prelude.{◌≡◌, ◌<◌, ◌≤◌, length, All, IfOk};
 ghost use Rattle.lw_io.specs.Waitings.{IsTaken};
 ghost use Rattle.lw_io.specs.Writers.{Writes};
 ghost use Rattle.lw_genlib.specs.Cells.{IsSmall};
 ghost use Rattle.lw_netlist.specs.Netlists.{most_gates};
 ghost use Rattle.lw_netlist.specs.Plain.{IsOver};
-ghost use Rattle.lw_report.specs.Made.{CanBeTimed, HasTimes};
+ghost use Rattle.lw_report.specs.Made.{CanBeTimed, ArriveAt};
 
 use crate::Step;
+use crate::lines::put_last;
 use crate::path::critical_path;
-use crate::report::{put_steps, put_summary};
+use crate::report::{put_arrivals, put_steps};
+use crate::timed::Timed;
 use crate::totals::{area_of, latest_of};
 use lw_fixed::{Micro, Micros};
 use lw_genlib::Library;
 use lw_io::{Failed, Sink, Writer};
-use lw_netlist::Netlist;
+use lw_netlist::{Netlist, Port};
 use std::alloc::{AllocError, Global};
 use std::marker::Model;
 
@@ -47,7 +49,7 @@ fn arrivals_of(
 ) -> Result<Vec<Micro>, AllocError>
     requires { CanBeTimed lib.now netlist.now starts.now }
     ensures { IfOk result
-        (λ arrivals. HasTimes lib.now netlist.now starts.now arrivals.items) }
+        (λ arrivals. ArriveAt lib.now netlist.now starts.now arrivals.items) }
 {
     let mut arrivals = vec![in alloc; Micro(0); netlist.names().len()]?;
     netlist.arrivals(lib, starts, &mut arrivals);
@@ -55,7 +57,7 @@ fn arrivals_of(
 }
 
 impl Timing {
-    ghost use Rattle.lw_report.specs.Timings.{IsTimingOf, timing_text};
+    ghost use Rattle.lw_report.specs.Timings.{IsTimingOf, summary_text, timing_text};
     ghost use Rattle.lw_report.specs.Made.{IsTimingFor};
 
     /// The timing of a netlist whose inputs start then.
@@ -72,8 +74,9 @@ impl Timing {
         ensures { IfOk result (IsTimingOf lib.now netlist.now starts.now) }
     {
         let arrivals = arrivals_of(alloc, netlist, lib, starts)?;
-        let latest = latest_of(netlist.outputs(), &arrivals);
-        let path = critical_path(alloc, netlist, lib, &arrivals, latest)?;
+        let time = arrivals.as_slice();
+        let latest = latest_of(netlist.outputs(), time);
+        let path = critical_path(alloc, &Timed { netlist, lib, time }, latest)?;
         Ok(Timing {
             arrivals,
             latest,
@@ -107,19 +110,27 @@ impl Timing {
         out.end()
     }
 
+    // When the outputs arrive, the greatest of these times, and the area.
+    fn put_summary<S: Sink>(&self, out: &mut Writer<'_, S>, ports: &[Port])
+        requires { All (λ port. port.net.0 < length self.now.arrivals) ports.now }
+        ensures { Writes S.taken S.faults out.old out.new
+            (summary_text ports.now self.now.arrivals self.now.latest self.now.area) }
+    {
+        put_arrivals(out, ports, &self.arrivals);
+        out.put(b"max");
+        put_last(out, self.latest);
+        out.put(b"area");
+        put_last(out, self.area);
+    }
+
     // The whole text.
     fn put_report<S: Sink>(&self, out: &mut Writer<'_, S>, netlist: &Netlist, lib: &Library)
         requires over { IsOver lib.now netlist.now }
         requires made { IsTimingFor lib.now netlist.now self.now }
         ensures { Writes S.taken S.faults out.old out.new (timing_text lib.now netlist.now self.now) }
     {
-        put_summary(
-            out,
-            netlist.outputs(),
-            &self.arrivals,
-            self.latest,
-            self.area,
-        );
-        put_steps(out, netlist, lib, &self.arrivals, &self.path);
+        self.put_summary(out, netlist.outputs());
+        let time = self.arrivals.as_slice();
+        put_steps(out, &Timed { netlist, lib, time }, &self.path);
     }
 }

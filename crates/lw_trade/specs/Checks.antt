@@ -140,6 +140,13 @@ pub record HasNumber (trail : Trail) (number : ℕ) : Type 0 where
   pub cell : number < length trail.walk.cells.items
   pub row : number < length trail.walk.pins.items
 
+-- so it is with each gate, and there are no more of them than points
+pub record IsEven (trail : Trail) : Type 0 where
+  pub few : length trail.nodes.items ≤ most_points
+  pub one_user : length trail.users.items ≡ length trail.nodes.items
+  pub one_cell : length trail.walk.cells.items ≡ length trail.nodes.items
+  pub one_row : length trail.walk.pins.items ≡ length trail.nodes.items
+
 -- what was looked through of the gate with a number
 pub record IsGateRight (plan : Plan) (trail : Trail) (j : ℕ) : Type 0 where
   pub node : Node

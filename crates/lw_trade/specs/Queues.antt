@@ -1,5 +1,5 @@
 -- A queue of choices by the times at which they wait.
-use Rattle.std.specs.Prelude.{ℕ, ◌-◌, ◌<◌, ◌≤◌, ◌≡◌, ◌⊎◌, List, [], ◌∷◌, ◌++◌, All, Contains, Option, Some, None, Bool, true, false, slice_get}
+use Rattle.std.specs.Prelude.{ℕ, ◌-◌, ◌<◌, ◌≤◌, ◌≡◌, ◌⊎◌, List, [], ◌∷◌, ◌++◌, length, All, Contains, Option, Some, None, Bool, true, false, slice_get}
 use Rattle.std.specs.BinaryHeap.{IsHeap}
 use Rattle.std.specs.declared.cmp.Ordering.{Ordering}
 use Rattle.std.specs.Ordering.{nat_cmp, ordering_then}
@@ -42,6 +42,10 @@ abbrev pub IsTakenIn : List (List Item) → List (List Item) → ℕ → ℕ →
 IsTakenIn old new first end left None =
     (new ≡ old) × ((i : ℕ) (lane : List Item) → first ≤ i → i < end → slice_get old i ≡ Some lane → HaveLess lane left)
 IsTakenIn old new first end left (Some found) = IsPermutation (flat old) ((left, found) ∷ flat new)
+
+-- one of all lanes is, or none has it
+abbrev pub IsTakenAny : List (List Item) → List (List Item) → ℕ → Option (ℕ × ℕ) → Type 0
+IsTakenAny old new left found = IsTakenIn old new 0 (length old) left found
 
 -- one more waits in some lane, or none does
 abbrev pub IsPushedBehind : List (List Item) → List (List Item) → Item → Bool → Type 0

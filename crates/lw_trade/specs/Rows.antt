@@ -5,6 +5,7 @@ use Rattle.lw_genlib.specs.Cells.{CellParts}
 use Rattle.lw_laws.specs.Covers.{Pattern}
 use Rattle.lw_laws.specs.Graphs.{Graph}
 use Rattle.lw_match.specs.Least.{AreOfCells}
+use Rattle.lw_settle.specs.Stores.{Stored, IsStoreOf}
 use Rattle.lw_pool.specs.declared.id.CellId.{CellId}
 use Rattle.lw_pool.specs.declared.id.ClassId.{ClassId}
 use Rattle.lw_trade.specs.Areas.{area_cost}
@@ -66,6 +67,11 @@ IsClassListed g pats c old new =
 abbrev pub AreMatchesListed : Graph → List Pattern → List Row → List Row → Type 0
 AreMatchesListed g pats old new =
     (cells : List CellParts) (starts : List Micro) → AreOfCells (area_cost cells).pin_counts pats → IsListing (task g pats cells starts) (length g.leaves) 0 (plain_rows old) → AreListedChoices (task g pats cells starts) (plain_rows new)
+
+-- so are those of a store, whatever graph and patterns it is of
+abbrev pub AreStoredListed : List (List Stored) → List Row → List Row → Type 0
+AreStoredListed lists old new =
+    (g : Graph) (pats : List Pattern) → IsStoreOf g pats lists → AreMatchesListed g pats old new
 
 -- all that may stand at the classes, by cells of any library that the patterns are of, and they can be numbered
 pub record AreAllChoices (g : Graph) (pats : List Pattern) (rows : List Row) : Type 0 where

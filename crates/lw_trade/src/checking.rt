@@ -1,6 +1,6 @@
 // What a walk has found, looked through.
 ghost use Rattle.std.specs.Prelude.{◌≡◌, ◌+◌, IsTrue};
-ghost use Rattle.lw_trade.specs.Checks.{ArePinsRight, AreRootsRight, HasNumber, IsNodeFor, IsCut, IsNetBy, IsNodeBy, IsGateRight, IsNodeRight, IsOnlyGate, IsOwned, IsRightWalk, IsRootBy, IsSpare, IsUsedEarlier};
+ghost use Rattle.lw_trade.specs.Checks.{ArePinsRight, AreRootsRight, HasNumber, IsEven, IsNodeFor, IsCut, IsNetBy, IsNodeBy, IsGateRight, IsNodeRight, IsOnlyGate, IsOwned, IsRightWalk, IsRootBy, IsSpare, IsUsedEarlier};
 
 use crate::area::MOST_AREA;
 use crate::bisecting::last_by;
@@ -198,10 +198,10 @@ fn is_gate(plan: &Plan, trail: &Trail, number: usize) -> bool
     true
 }
 
-/// Whether what a walk has found is right: there are no more gates than points, each is that of a
-/// point of its own, has its cell and the nets of its pins, and is used; and so have the roots.
-pub(crate) fn is_right(plan: &Plan, trail: &Trail) -> bool
-    ensures { IsTrue result → IsRightWalk plan.now trail.now }
+// Whether each gate that a walk has found has a user, a cell and nets, and there are no more of them
+// than points.
+fn is_even(trail: &Trail) -> bool
+    ensures { IsTrue result → IsEven trail.now }
 {
     let number = trail.nodes.len();
     if number > 8_000_000
@@ -211,7 +211,18 @@ pub(crate) fn is_right(plan: &Plan, trail: &Trail) -> bool
     {
         return false;
     }
-    for j in 0..number {
+    true
+}
+
+/// Whether what a walk has found is right: there are no more gates than points, each is that of a
+/// point of its own, has its cell and the nets of its pins, and is used; and so have the roots.
+pub(crate) fn is_right(plan: &Plan, trail: &Trail) -> bool
+    ensures { IsTrue result → IsRightWalk plan.now trail.now }
+{
+    if !is_even(trail) {
+        return false;
+    }
+    for j in 0..trail.nodes.len() {
         if !is_gate(plan, trail, j) {
             return false;
         }

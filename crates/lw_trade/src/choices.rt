@@ -1,11 +1,8 @@
 ghost use Rattle.std.specs.Prelude.{◌≡◌, ◌<◌, List, IfOk, OnOk, length};
-ghost use Rattle.lw_laws.specs.Covers.{Pattern as TreeOfCell};
-ghost use Rattle.lw_laws.specs.Graphs.{Graph as PlainGraph};
-ghost use Rattle.lw_settle.specs.Stores.{IsStoreOf};
 ghost use Rattle.lw_genlib.specs.Cells.{CellParts};
 ghost use Rattle.lw_fixed.specs.declared.micro.Micro.{Micro as MicroOf};
 ghost use Rattle.lw_trade.specs.Points.{task};
-ghost use Rattle.lw_trade.specs.Rows.{AreAllChoices, AreMatchesListed, IsClassListed, IsGatePushed, IsListing, plain_rows};
+ghost use Rattle.lw_trade.specs.Rows.{AreAllChoices, AreMatchesListed, AreStoredListed, IsClassListed, IsGatePushed, IsListing, plain_rows};
 
 use lw_graph::Graph;
 use lw_match::{Cursor, Pins};
@@ -82,8 +79,7 @@ fn list_class(
 // Appends the matches of a store.
 fn list_stored(store: &mut Store, rows: &mut Vec<Row>) -> Result<(), AllocError>
     requires { store.old.done ≡ 0 }
-    ensures { OnOk result ((g : PlainGraph) (pats : List TreeOfCell) →
-        IsStoreOf g pats store.old.lists → AreMatchesListed g pats rows.old.items rows.new.items) }
+    ensures { OnOk result (AreStoredListed store.old.lists rows.old.items rows.new.items) }
 {
     for place in 0..store.matches() {
         let found = store.read(place);

@@ -66,10 +66,8 @@ impl Curves {
             IsLeastAreaBy s class.0 time.0 result }
     {
         let points = self.of(class);
-        match last_by(points, 0, time.0) {
-            Some(place) => Some(points[place].area),
-            None => None,
-        }
+        let place = last_by(points, 0, time.0)?;
+        Some(points[place].area)
     }
 
     /// The same, and nothing past the last class.

@@ -1,6 +1,6 @@
 // Some lanes together.
 ghost use Rattle.std.specs.Prelude.{◌≡◌, ◌++◌, ◌≤◌, List, IfOk, MatchResult, [], length, option_map};
-ghost use Rattle.lw_trade.specs.Queues.{Item, IsMostLeft, IsPushedBehind, IsTakenIn, flat};
+ghost use Rattle.lw_trade.specs.Queues.{Item, IsMostLeft, IsPushedBehind, IsTakenAny, IsTakenIn, flat};
 
 use crate::lane::Lane;
 use std::alloc::{AllocError, Global};
@@ -82,8 +82,7 @@ fn take_in(
 /// Takes one that has some time left, and says from which lane. The lanes from one on are looked at
 /// before the others.
 pub(crate) fn take_any(lanes: &mut Vec<Lane>, at: usize, left: u64) -> Option<(usize, (u64, u32))>
-    ensures { IsTakenIn lanes.old.items lanes.new.items 0 (length lanes.old.items) left
-        (option_map (λ p. p.1) result) }
+    ensures { IsTakenAny lanes.old.items lanes.new.items left (option_map (λ p. p.1) result) }
 {
     let count = lanes.len();
     let first = at.min(count);

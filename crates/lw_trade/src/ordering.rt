@@ -60,10 +60,9 @@ fn net_at(at: &Placing, net: u32) -> NetId
     ensures { result.0 ≡ net_in at.now net }
 {
     if net < at.inputs {
-        NetId(net)
-    } else {
-        NetId(at.inputs + at.places[(net - at.inputs) as usize])
+        return NetId(net);
     }
+    NetId(at.inputs + at.places[(net - at.inputs) as usize])
 }
 
 // The gate of a node.

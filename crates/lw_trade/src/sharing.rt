@@ -46,15 +46,13 @@ fn ranks_of(alloc: Global, plan: &Plan) -> Result<Vec<Rank>, AllocError> {
 
 // Whether a class is an input's, or of lower rank than another.
 fn is_lower(plan: &Plan, class: ClassId, rank: Rank) -> bool {
-    if class.0 as usize >= plan.inputs.len() {
-        return false;
-    }
-    if plan.inputs[class.0 as usize].is_some() {
-        return true;
-    }
-    match rank_of(plan.curves, class) {
-        Some(own) => own < rank,
+    match plan.inputs.get(class.0 as usize) {
         None => false,
+        Some(Some(_)) => true,
+        Some(None) => match rank_of(plan.curves, class) {
+            Some(own) => own < rank,
+            None => false,
+        },
     }
 }
 
@@ -131,8 +129,7 @@ fn need_roots(plan: &Plan, trail: &mut Trail) {
 // The place of the point that is shared of a class needed by a time: the latest with an exact gate,
 // or else the latest that fits, whose pins are needed then.
 fn place_by(plan: &Plan, trail: &mut Trail, rank: Rank, time: u64) -> Result<u32, AllocError> {
-    let last = plan.curves.last_by(rank.class, 0, time).ok_or(AllocError)?;
-    let last = small(last)?;
+    let last = small(plan.curves.last_by(rank.class, 0, time).ok_or(AllocError)?)?;
     let gates = trail.owners.get(rank.class.0 as usize).ok_or(AllocError)?;
     if let Some(place) = owned_place(gates.as_slice(), last) {
         return Ok(place);

@@ -1,6 +1,7 @@
 -- What is kept of the tokens that were read.
-use Rattle.std.specs.Prelude.{ℕ, ◌+◌, ◌≡◌, ◌≤◌, ◌++◌, false, List, length, Option, Some, None, Result, Ok, Err, ⊤}
+use Rattle.std.specs.Prelude.{ℕ, ◌+◌, ◌≡◌, ◌≤◌, ◌++◌, false, List, drop, length, Option, Some, None, Result, Ok, Err, ⊤}
 use Rattle.lw_genlib.specs.Cells.{CellParts}
+use Rattle.lw_netlist.specs.declared.draft.GateDraft.{GateDraft}
 use Rattle.lw_verilog.specs.declared.contents.Contents.{Contents}
 use Rattle.lw_verilog.specs.declared.fault.Refusal.{Refusal}
 use Rattle.lw_verilog.specs.declared.fault.Refusal.TheVariants as refusal
@@ -9,8 +10,9 @@ use Rattle.lw_verilog.specs.declared.fault.VerilogFault.TheVariants as fault
 use Rattle.lw_verilog.specs.declared.fault.VerilogKind.{VerilogKind}
 use Rattle.lw_verilog.specs.declared.kind.Kind.{Kind}
 use Rattle.lw_verilog.specs.declared.place.Task.{Task}
-use Rattle.lw_verilog.specs.Readings.{Reading, names_after, declared_after, nothing_read, read}
-use Rattle.lw_verilog.specs.Statements.{all_in, header_in, inputs_in, outputs_in, gates_in, wires_in}
+use Rattle.lw_verilog.specs.declared.place.Task.TheVariants as task
+use Rattle.lw_verilog.specs.Readings.{Reading, cell_in, names_after, declared_after, missing_fault, nothing_read, read, rule_fault}
+use Rattle.lw_verilog.specs.Statements.{all_in, header_in, inputs_in, model_of, outputs_in, gates_in, ties_in, wires_in}
 use Rattle.lw_verilog.specs.Tokens.{is_end, tokens}
 
 -- this is kept of a reading
@@ -23,6 +25,26 @@ pub record Keeps (cells : List CellParts) (c : Contents) (r : Reading) : Type 0 
   pub outputs : c.outputs ≡ all_in outputs_in r.said
   pub gates : c.gates ≡ all_in (gates_in cells) r.said
   pub wires : c.wires ≡ all_in wires_in r.said
+
+-- the rule that a name breaks by its task
+abbrev pub fault_in : List CellParts → Contents → Task → List ℕ → Option VerilogKind
+fault_in cells c what name = rule_fault cells c.names (drop 1 c.header) c.declared what name
+
+-- where an instance ends, nothing is missing in it
+abbrev pub MayEnd : List CellParts → Contents → Task → Type 0
+MayEnd cells c what = what ≡ task.Instance → missing_fault (cell_in cells c.names) (ties_in c.names) ≡ None
+
+-- the netlist by names
+abbrev pub draft_in : Contents → GateDraft
+draft_in c = record { model = model_of c.header; inputs = c.inputs; outputs = c.outputs; gates = c.gates; wires = c.wires }
+
+-- what stands behind the header stays
+pub record KeepsBody (old new : Contents) : Type 0 where
+  pub declared : new.declared ≡ old.declared
+  pub inputs : new.inputs ≡ old.inputs
+  pub outputs : new.outputs ≡ old.outputs
+  pub gates : new.gates ≡ old.gates
+  pub wires : new.wires ≡ old.wires
 
 -- the parts have grown by what the statement of these names says at its end
 pub record Adds (cells : List CellParts) (what : Task) (names : List (List ℕ)) (old new : Contents) : Type 0 where

@@ -4,6 +4,7 @@ pub mod Keeping
 pub mod Named
 pub mod Phrases
 pub mod Pieces
+pub mod Raising
 pub mod Readings
 pub mod Sayable
 pub mod Statements

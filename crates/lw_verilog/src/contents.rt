@@ -128,14 +128,13 @@ fn push_gate(
 }
 
 impl Contents {
-    ghost use Rattle.std.specs.Prelude.{◌≡◌, ◌<◌, ◌++◌, List, None, drop, length, IfOk, OnOk, true, false};
+    ghost use Rattle.std.specs.Prelude.{◌≡◌, ◌<◌, ◌++◌, List, None, length, IfOk, OnOk, true, false};
     ghost use Rattle.lw_genlib.specs.Cells.{CellParts};
     ghost use Rattle.lw_verilog.specs.Tokens.{is_name, name_of};
     ghost use Rattle.lw_verilog.specs.declared.place.Task.TheVariants as tasks;
     ghost use Rattle.lw_verilog.specs.Grammar.{move_at};
-    ghost use Rattle.lw_verilog.specs.Keeping.{Acts, Adds, Keeps, TakesToken, TellsFault};
-    ghost use Rattle.lw_verilog.specs.Statements.{model_of};
-    ghost use Rattle.lw_verilog.specs.Readings.{Reading, is_done, is_word, moved_on, nothing_read, rule_fault, piece_fault, piece_read, token_fault};
+    ghost use Rattle.lw_verilog.specs.Keeping.{draft_in, fault_in, Acts, Adds, Keeps, KeepsBody, MayEnd, TakesToken, TellsFault};
+    ghost use Rattle.lw_verilog.specs.Readings.{Reading, is_done, is_word, moved_on, nothing_read, piece_fault, piece_read, token_fault};
 
     pub(crate) fn new(alloc: Global) -> Result<Self, AllocError>
         ensures { IfOk result (λ contents. (cells : List CellParts) →
@@ -170,9 +169,7 @@ impl Contents {
         lib: &Library,
     ) -> Result<Option<VerilogKind>, AllocError>
         requires { task ≡ tasks.Declare → 0 < length name.now }
-        ensures { IfOk result (λ fault. fault
-            ≡ rule_fault lib.now self.now.names
-            (drop 1 self.now.header) self.now.declared task name.now) }
+        ensures { IfOk result (λ fault. fault ≡ fault_in lib.now self.now task name.now) }
     {
         match task {
             Task::Word => Ok(name_fault(name)),
@@ -188,11 +185,7 @@ impl Contents {
     // Adds the names of the statement to those of the header, without a copy where there are none.
     fn add_header(&mut self) -> Result<(), AllocError>
         ensures header { OnOk result (self.new.header ≡ self.old.header ++ self.old.names) }
-        ensures declared { self.new.declared ≡ self.old.declared }
-        ensures inputs { self.new.inputs ≡ self.old.inputs }
-        ensures outputs { self.new.outputs ≡ self.old.outputs }
-        ensures gates { self.new.gates ≡ self.old.gates }
-        ensures wires { self.new.wires ≡ self.old.wires }
+        ensures body { KeepsBody self.old self.new }
     {
         if self.header.len() > 0 {
             return append_header(&mut self.header, &self.names);
@@ -203,8 +196,7 @@ impl Contents {
 
     // Adds what a statement says at its end. Its names may be lost; the rest stays.
     fn add(&mut self, task: Task, lib: &Library) -> Result<(), AllocError>
-        requires { task ≡ tasks.Instance →
-            missing_fault (cell_in lib.now self.old.names) (ties_in self.old.names) ≡ None }
+        requires { MayEnd lib.now self.old task }
         ensures adds { OnOk result (Adds lib.now task self.old.names self.old self.new) }
         ensures declared { self.new.declared ≡ self.old.declared }
     {
@@ -220,8 +212,7 @@ impl Contents {
 
     // Ends a statement. The rest stays.
     fn end(&mut self, task: Task, lib: &Library) -> Result<(), AllocError>
-        requires { task ≡ tasks.Instance →
-            missing_fault (cell_in lib.now self.old.names) (ties_in self.old.names) ≡ None }
+        requires { MayEnd lib.now self.old task }
         ensures adds { OnOk result (Adds lib.now task self.old.names self.old self.new) }
         ensures names { OnOk result (self.new.names ≡ []) }
         ensures declared { self.new.declared ≡ self.old.declared }
@@ -234,8 +225,7 @@ impl Contents {
     // Does the task of a token.
     fn act(&mut self, task: Task, name: &[u8], lib: &Library) -> Result<(), AllocError>
         requires some { is_word task ≡ true → 0 < length name.now }
-        requires rule { rule_fault lib.now self.old.names
-            (drop 1 self.old.header) self.old.declared task name.now ≡ None }
+        requires rule { fault_in lib.now self.old task name.now ≡ None }
         ensures { OnOk result (Acts lib.now task name.now self.old self.new) }
     {
         match task {
@@ -291,14 +281,7 @@ impl Contents {
 
     /// The netlist by names, of which nothing is left here.
     pub(crate) fn draft(&mut self, alloc: Global) -> Result<GateDraft, AllocError>
-        ensures { IfOk result (λ draft. draft
-            ≡ record {
-              model = model_of self.old.header;
-              inputs = self.old.inputs;
-              outputs = self.old.outputs;
-              gates = self.old.gates;
-              wires = self.old.wires;
-            }) }
+        ensures { IfOk result (λ draft. draft ≡ draft_in self.old) }
     {
         let model = model_of(alloc, &self.header)?;
         Ok(GateDraft {

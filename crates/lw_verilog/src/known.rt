@@ -2,7 +2,8 @@
 ghost use Rattle.std.specs.Prelude.{◌≡◌, ◌<◌, ◌≤◌, ◌+◌, ℕ, false, length, map, slice_index_or};
 ghost use Rattle.std.specs.Str.{bytes_eq};
 ghost use Rattle.lw_netlist.specs.Closing.{is_among};
-ghost use Rattle.lw_verilog.specs.Chains.{AreChained, AreKnown, bucket_of, name_at};
+ghost use Rattle.lw_verilog.specs.Chains.{AreChained, bucket_of, name_at};
+ghost use Rattle.lw_verilog.specs.Named.{Knows};
 ghost use Rattle.lw_verilog.specs.Windows.{Raises};
 ghost use Rattle.lw_netlist.specs.Plain.{port_name};
 
@@ -106,7 +107,7 @@ fn fill(names: &[Name], outputs: &[Port], heads: &mut [u16], next: &mut [u16], f
 impl Known {
     /// Flags for the first nets.
     pub(crate) fn new(names: &[Name], outputs: &[Port]) -> Known
-        ensures { AreKnown names.now (map port_name outputs.now) result.base result.flags }
+        ensures { Knows result names.now outputs.now }
     {
         let mut known = Known {
             base: 0,
@@ -121,8 +122,7 @@ impl Known {
     // Flags for the nets from a place on.
     fn move_to(&mut self, names: &[Name], outputs: &[Port], base: usize)
         requires { base ≤ length names.now }
-        ensures stands { AreKnown names.now (map port_name outputs.now) self.new.base
-            self.new.flags }
+        ensures stands { Knows self.new names.now outputs.now }
         ensures base { self.new.base ≡ base }
     {
         self.base = base;
@@ -139,10 +139,8 @@ impl Known {
     // Moves the flags to where they have the net.
     fn reach(&mut self, names: &[Name], outputs: &[Port], place: usize)
         requires place { place < length names.now }
-        requires stands { AreKnown names.now (map port_name outputs.now) self.old.base
-            self.old.flags }
-        ensures stands { AreKnown names.now (map port_name outputs.now) self.new.base
-            self.new.flags }
+        requires stands { Knows self.old names.now outputs.now }
+        ensures stands { Knows self.new names.now outputs.now }
         ensures low { self.new.base ≤ place }
         ensures high { place < self.new.base + 32768 }
     {
@@ -155,10 +153,8 @@ impl Known {
     /// Whether an output has the name of a net.
     pub(crate) fn is_output(&mut self, names: &[Name], outputs: &[Port], place: usize) -> bool
         requires place { place < length names.now }
-        requires stands { AreKnown names.now (map port_name outputs.now) self.old.base
-            self.old.flags }
-        ensures stands { AreKnown names.now (map port_name outputs.now) self.new.base
-            self.new.flags }
+        requires stands { Knows self.old names.now outputs.now }
+        ensures stands { Knows self.new names.now outputs.now }
         ensures known { result ≡ is_among (map port_name outputs.now) (name_at names.now place) }
     {
         self.reach(names, outputs, place);

@@ -5,6 +5,7 @@ ghost use Rattle.std.specs.Option.{option_or};
 ghost use Rattle.std.specs.Str.{bytes_eq};
 ghost use Rattle.lw_genlib.specs.Cells.{names_of};
 ghost use Rattle.lw_netlist.specs.Closing.{is_among, twice_after};
+ghost use Rattle.lw_verilog.specs.Raising.{RaisesPorts};
 ghost use Rattle.lw_verilog.specs.Readings.{has_hash, name_fault, declared_fault, cell_fault, formal_fault, cell_in, gives_all, missing_fault, ports_fault};
 ghost use Rattle.lw_verilog.specs.Statements.{IsNetPlace, first_name, is_for, number_of, ties_in};
 ghost use Rattle.lw_words.specs.Words.{is_name};
@@ -226,10 +227,7 @@ fn are_raised(flags: &[bool]) -> bool
 // declared, behind one another.
 fn raise_ports(header: &SpelledNames, declared: &Signals, seen: &mut [bool]) -> bool
     requires { seen.old ≡ replicate (length declared.now) false }
-    ensures known { result ≡ (is_none (twice_after [] (drop 1 header.now))
-        && list_all (is_among declared.now) (drop 1 header.now)) }
-    ensures every { result ≡ true → list_all (λ flag. flag) seen.new
-        ≡ list_all (is_among (drop 1 header.now)) declared.now }
+    ensures { RaisesPorts header.now declared.now seen.new result }
 {
     let _count = declared.len();
     let mut next = 0;

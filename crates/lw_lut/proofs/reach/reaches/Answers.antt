@@ -1,7 +1,8 @@
 use Rattle.std.proofs.Common.{◌*◌, ◌/◌, ◌∙◌, ap, sym, inl, inr, subst, arith}
 use Rattle.std.proofs.lemmas.Bool.{cases_eq}
 use Rattle.lw_laws.specs.Graphs.{HoldsPair}
-use Rattle.lw_lut.proofs.Reaching.{row_seen, IsSeen}
+use Rattle.lw_lut.specs.Reaches.{IsSeen}
+use Rattle.lw_lut.proofs.Reaching.{row_seen}
 use Rattle.lw_lut.proofs.reach.reaches.Goals as goal
 use Rattle.lw_laws.proofs.Shared.{pair_within}
 

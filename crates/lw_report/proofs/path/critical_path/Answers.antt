@@ -11,9 +11,9 @@ use Rattle.lw_report.proofs.path.critical_path.Goals as goal
 
 pub returns-in_default : goal.returns-in_default
 returns-in_default c =
-    let cells = c.args.lib.now in
-    let n = c.args.netlist.now in
-    let arrivals = map millionths c.args.arrivals.now in
+    let cells = c.args.timed.now.lib.now in
+    let n = c.args.timed.now.netlist.now in
+    let arrivals = map millionths c.args.timed.now.time.now in
     let times = output_arrivals n arrivals in
     let told = subst (λ (ports : List Port). (j : ℕ) → slice_get (map (port_arrival arrivals) ports) j ≢ Some c.args.latest.0) c.outputs-ports.ensures.outputs c.in_default.ensures.none in
     let none = subst (λ t. (j : ℕ) → slice_get times j ≢ Some t) c.requires.latest told in
@@ -24,7 +24,7 @@ returns-in_default c =
 
 pub path_back-requires-clause-end : goal.path_back-requires-clause-end
 path_back-requires-clause-end c =
-    let n = c.args.netlist.now in
+    let n = c.args.timed.now.netlist.now in
     let place = c.in-Some.place in
     let within = subst (λ (ports : List Port). place < length ports) c.outputs-ports.ensures.outputs c.in-Some.ensures.within in
     let low = c.outputs-ports.ensures.kept.outputs place c.index-ports-place.result within in
@@ -32,9 +32,9 @@ path_back-requires-clause-end c =
 
 pub returns : goal.returns
 returns c =
-    let cells = c.args.lib.now in
-    let n = c.args.netlist.now in
-    let arrivals = map millionths c.args.arrivals.now in
+    let cells = c.args.timed.now.lib.now in
+    let n = c.args.timed.now.netlist.now in
+    let arrivals = map millionths c.args.timed.now.time.now in
     let place = c.in-Some.place in
     let ports = c.outputs-ports.result.now in
     let port = c.index-ports-place.result in

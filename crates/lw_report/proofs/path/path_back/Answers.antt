@@ -8,9 +8,9 @@ use Rattle.lw_report.proofs.path.path_back.Goals as goal
 
 pub returns-in-None : goal.returns-in-None
 returns-in-None c =
-    let cells = c.args.lib.now in
-    let n = c.args.netlist.now in
-    let arrivals = map millionths c.args.arrivals.now in
+    let cells = c.args.timed.now.lib.now in
+    let n = c.args.timed.now.netlist.now in
+    let arrivals = map millionths c.args.timed.now.time.now in
     let step = c.link_to-link.result.step in
     let net : n.inputs + (c.loop-net.net - c.inputs-inputs.result) ≡ c.loop-net.net = omega (arith, c.inputs-inputs.ensures.inputs, c.loop-net-test.true) in
     let link = subst (λ o. IsLinkFrom cells n arrivals (n.inputs + (c.loop-net.net - c.inputs-inputs.result)) step o) c.in-None.is c.link_to-link.ensures in
@@ -19,9 +19,9 @@ returns-in-None c =
 
 pub loop-net-init : goal.loop-net-init
 loop-net-init c =
-    let cells = c.args.lib.now in
-    let n = c.args.netlist.now in
-    let arrivals = map millionths c.args.arrivals.now in
+    let cells = c.args.timed.now.lib.now in
+    let n = c.args.timed.now.netlist.now in
+    let arrivals = map millionths c.args.timed.now.time.now in
     record {
       within = c.requires.end;
       leads = subst (λ (l : List Step). LeadsTo cells n arrivals c.args.end.0 (reverse l) c.args.end.0) (sym c.new-path.ensures.items) (leads_nowhere cells n arrivals c.args.end.0);
@@ -29,9 +29,9 @@ loop-net-init c =
 
 pub loop-net-preserved : goal.loop-net-preserved
 loop-net-preserved c =
-    let cells = c.args.lib.now in
-    let n = c.args.netlist.now in
-    let arrivals = map millionths c.args.arrivals.now in
+    let cells = c.args.timed.now.lib.now in
+    let n = c.args.timed.now.netlist.now in
+    let arrivals = map millionths c.args.timed.now.time.now in
     let step = c.link_to-link.result.step in
     let from = c.in-Some.from in
     let net : n.inputs + (c.loop-net.net - c.inputs-inputs.result) ≡ c.loop-net.net = omega (arith, c.inputs-inputs.ensures.inputs, c.loop-net-test.true) in
@@ -45,9 +45,9 @@ loop-net-preserved c =
 
 pub loop-net-smaller : goal.loop-net-smaller
 loop-net-smaller c =
-    let cells = c.args.lib.now in
-    let n = c.args.netlist.now in
-    let arrivals = map millionths c.args.arrivals.now in
+    let cells = c.args.timed.now.lib.now in
+    let n = c.args.timed.now.netlist.now in
+    let arrivals = map millionths c.args.timed.now.time.now in
     let from = c.in-Some.from in
     let net : n.inputs + (c.loop-net.net - c.inputs-inputs.result) ≡ c.loop-net.net = omega (arith, c.inputs-inputs.ensures.inputs, c.loop-net-test.true) in
     let link = subst (λ o. IsLinkFrom cells n arrivals (n.inputs + (c.loop-net.net - c.inputs-inputs.result)) c.link_to-link.result.step o) c.in-Some.is c.link_to-link.ensures in
@@ -55,5 +55,5 @@ loop-net-smaller c =
 
 pub returns : goal.returns
 returns c =
-    let below : c.loop-net.net < c.args.netlist.now.inputs = omega (arith, c.inputs-inputs.ensures.inputs, c.loop-net-test.false) in
-    path_from_input c.args.lib.now c.args.netlist.now (map millionths c.args.arrivals.now) c.loop-net.net c.args.end.0 c.loop-net.path.items below c.loop-net.invariant.leads
+    let below : c.loop-net.net < c.args.timed.now.netlist.now.inputs = omega (arith, c.inputs-inputs.ensures.inputs, c.loop-net-test.false) in
+    path_from_input c.args.timed.now.lib.now c.args.timed.now.netlist.now (map millionths c.args.timed.now.time.now) c.loop-net.net c.args.end.0 c.loop-net.path.items below c.loop-net.invariant.leads

@@ -12,24 +12,24 @@ use Rattle.lw_report.proofs.PathLemmas.{step_line_is}
 use Rattle.lw_report.proofs.report.put_step.Goals as goal
 
 pub gate_numbered-gate-requires : goal.gate_numbered-gate-requires
-gate_numbered-gate-requires g c = slice_get_within c.args.netlist.now.gates c.args.step.gate c.requires.step.gate c.requires.step.at
+gate_numbered-gate-requires g c = slice_get_within c.args.timed.now.netlist.now.gates c.args.step.gate c.requires.step.gate c.requires.step.at
 
 pub bounds-names-net : goal.bounds-names-net
 bounds-names-net g c =
-    let within = slice_get_within c.args.netlist.now.gates c.args.step.gate c.requires.step.gate c.requires.step.at in
+    let within = slice_get_within c.args.timed.now.netlist.now.gates c.args.step.gate c.requires.step.gate c.requires.step.at in
     let kept = c.gate_numbered-gate.ensures.kept in
     let drives = (kept.gates c.args.step.gate c.gate_numbered-gate.result.now c.gate_numbered-gate.ensures.at).drives in
     subst (λ (ns : List (List ℕ)). c.gate_numbered-gate.result.now.out.0 < length ns) (sym c.names.ensures.names) (omega (arith, drives, within, kept.named))
 
-pub bounds-arrivals-net : goal.bounds-arrivals-net
-bounds-arrivals-net g c =
-    let within = slice_get_within c.args.netlist.now.gates c.args.step.gate c.requires.step.gate c.requires.step.at in
+pub bounds-timed-net : goal.bounds-timed-net
+bounds-timed-net g c =
+    let within = slice_get_within c.args.timed.now.netlist.now.gates c.args.step.gate c.requires.step.gate c.requires.step.at in
     let kept = c.gate_numbered-gate.ensures.kept in
     let drives = (kept.gates c.args.step.gate c.gate_numbered-gate.result.now c.gate_numbered-gate.ensures.at).drives in
-    omega (arith, drives, within, kept.named, c.requires.one_each)
+    omega (arith, drives, within, kept.named, c.requires.timed.one_each)
 
 pub cell_of-requires : goal.cell_of-requires
-cell_of-requires g c = all_at (HasCell c.args.lib.now) c.args.netlist.now.gates c.args.step.gate c.gate_numbered-gate.result.now c.requires.over c.gate_numbered-gate.ensures.at
+cell_of-requires g c = all_at (HasCell c.args.timed.now.lib.now) c.args.timed.now.netlist.now.gates c.args.step.gate c.gate_numbered-gate.result.now c.requires.timed.over c.gate_numbered-gate.ensures.at
 
 pub put_cell_step-requires : goal.put_cell_step-requires
 put_cell_step-requires g c =
@@ -38,7 +38,7 @@ put_cell_step-requires g c =
 
 pub returns : goal.returns
 returns g c =
-    let n = c.args.netlist.now in
+    let n = c.args.timed.now.netlist.now in
     let j = c.args.step.gate in
     let gate = c.gate_numbered-gate.result.now in
     let net = gate.out.0 in
@@ -48,10 +48,10 @@ returns g c =
     let kept = c.gate_numbered-gate.ensures.kept in
     let drives = (kept.gates j gate at).drives in
     let in_names : net < length n.names = omega (arith, drives, within, kept.named) in
-    let in_arrivals : net < length c.args.arrivals.now = omega (arith, in_names, c.requires.one_each) in
+    let in_arrivals : net < length c.args.timed.now.time.now = omega (arith, in_names, c.requires.timed.one_each) in
     let named = subst (λ ns. net < length ns) (sym c.names.ensures.names) in_names in
     let name = c.as_bytes-name.ensures.bytes ∙ (c.index-names-net.is ∙ (get_or_default c.names.result.now net c.index-names-net.result [] named ∙ ap (λ (ns : List (List ℕ)). get_or ns net []) c.names.ensures.names)) in
-    let time = sym (get_or-map millionths c.args.arrivals.now net (record { 0 = 0 }) 0 in_arrivals) in
-    let put = subst (λ w. Writes g.S.Sink.taken g.S.Sink.faults c.args.out.now c.put_cell_step.new.out (cell_step_line w (get_or c.args.arrivals.now net (record { 0 = 0 })).0 c.args.step.pin (Some cell))) name c.put_cell_step.ensures in
+    let time = sym (get_or-map millionths c.args.timed.now.time.now net (record { 0 = 0 }) 0 in_arrivals) in
+    let put = subst (λ w. Writes g.S.Sink.taken g.S.Sink.faults c.args.out.now c.put_cell_step.new.out (cell_step_line w (get_or c.args.timed.now.time.now net (record { 0 = 0 })).0 c.args.step.pin (Some cell))) name c.put_cell_step.ensures in
     let timed = subst (λ (t : ℕ). Writes g.S.Sink.taken g.S.Sink.faults c.args.out.now c.put_cell_step.new.out (cell_step_line (get_or n.names net []) t c.args.step.pin (Some cell))) time put in
-    subst (λ l. Writes g.S.Sink.taken g.S.Sink.faults c.args.out.now c.put_cell_step.new.out l) (sym (step_line_is c.args.lib.now n (map millionths c.args.arrivals.now) c.args.step gate cell at c.cell_of.ensures.cell)) timed
+    subst (λ l. Writes g.S.Sink.taken g.S.Sink.faults c.args.out.now c.put_cell_step.new.out l) (sym (step_line_is c.args.timed.now.lib.now n (map millionths c.args.timed.now.time.now) c.args.step gate cell at c.cell_of.ensures.cell)) timed

@@ -11,16 +11,13 @@ use Rattle.lw_report.proofs.report.put_steps.Goals as goal
 pub loop-step-init : goal.loop-step-init
 loop-step-init g c = Writes-none
 
-pub put_step-requires-clause-over : goal.put_step-requires-clause-over
-put_step-requires-clause-over g c = c.requires.over
-
-pub put_step-requires-clause-one_each : goal.put_step-requires-clause-one_each
-put_step-requires-clause-one_each g c = c.requires.one_each
+pub put_step-requires-clause-timed : goal.put_step-requires-clause-timed
+put_step-requires-clause-timed g c = c.requires.timed
 
 pub loop-step-preserved : goal.loop-step-preserved
 loop-step-preserved g c =
-    Writes-more (step_line c.args.lib.now c.args.netlist.now (map millionths c.args.arrivals.now)) c.args.path.now c.loop-step.step-index (record { gate = 0; pin = None }) c.loop-step-test.true c.loop-step.invariant c.put_step.ensures
+    Writes-more (step_line c.args.timed.now.lib.now c.args.timed.now.netlist.now (map millionths c.args.timed.now.time.now)) c.args.path.now c.loop-step.step-index (record { gate = 0; pin = None }) c.loop-step-test.true c.loop-step.invariant c.put_step.ensures
 
 pub returns : goal.returns
 returns g c =
-    subst (λ (steps : List Step). Writes g.S.Sink.taken g.S.Sink.faults c.args.out.now c.loop-step.out (flat_map (step_line c.args.lib.now c.args.netlist.now (map millionths c.args.arrivals.now)) steps)) (take_all c.loop-step.step-index c.args.path.now c.loop-step-test.false) c.loop-step.invariant
+    subst (λ (steps : List Step). Writes g.S.Sink.taken g.S.Sink.faults c.args.out.now c.loop-step.out (flat_map (step_line c.args.timed.now.lib.now c.args.timed.now.netlist.now (map millionths c.args.timed.now.time.now)) steps)) (take_all c.loop-step.step-index c.args.path.now c.loop-step-test.false) c.loop-step.invariant

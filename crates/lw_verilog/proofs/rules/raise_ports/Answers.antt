@@ -8,6 +8,9 @@ use Rattle.lw_netlist.specs.Closing.{is_among, twice_after}
 use Rattle.lw_verilog.proofs.Ports.{all-more, all-raised, flags-more, none-declared, none-once, none-seen, once-first, seen-all, seen-more, once-more}
 use Rattle.lw_verilog.proofs.rules.raise_ports.Goals as goal
 
+false_true : false ≡ true → ⊥
+false_true e = cc
+
 pub loop-place-init : goal.loop-place-init
 loop-place-init c = record {
   from = omega arith;
@@ -17,27 +20,24 @@ loop-place-init c = record {
   declared = ap (list_all (is_among c.args.declared.now)) (none-seen c.args.header.now);
 }
 
-pub returns-in_default-clause-known : goal.returns-in_default-clause-known
-returns-in_default-clause-known c =
-    sym (none-declared c.args.header.now c.loop-place.place c.get.result.now c.loop-place.invariant.from c.get.ensures.name (is_among c.args.declared.now) (sym c.in_default.ensures.found))
+pub returns-in_default : goal.returns-in_default
+returns-in_default c = record {
+  known = sym (none-declared c.args.header.now c.loop-place.place c.get.result.now c.loop-place.invariant.from c.get.ensures.name (is_among c.args.declared.now) (sym c.in_default.ensures.found));
+  every = λ e. absurd (false_true e);
+}
 
-pub returns-then-is_raised-clause-known : goal.returns-then-is_raised-clause-known
-returns-then-is_raised-clause-known c =
+pub returns-then-is_raised : goal.returns-then-is_raised
+returns-then-is_raised c =
     let was = c.loop-place.invariant in
     let seen = drop 1 (take c.loop-place.place c.args.header.now) in
     let k = c.in-Some.number in
     let hit : is_among seen c.get.result.now ≡ true =
     ap (is_among seen) (sym c.in-Some.ensures.named)
     ∙ (sym (was.seen k c.in-Some.ensures.within) ∙ (sym c.is_raised.ensures ∙ c.if-is_raised.true)) in
-    sym (none-once c.args.header.now c.loop-place.place c.get.result.now was.from c.get.ensures.name (is_among c.args.declared.now) hit was.once)
-
-pub returns-clause-every : goal.returns-clause-every
-returns-clause-every c = λ _.
-    let declared = c.args.declared.now in
-    let header = c.args.header.now in
-    let was = c.loop-place.invariant in
-    let all : length header ≤ c.loop-place.place = omega (arith, c.loop-place-test.false, c.len-place-end.ensures) in
-    all-raised (is_among (drop 1 header)) c.loop-place.seen declared was.many (λ i lt. was.seen i lt ∙ ap (λ l. is_among l (name_at declared i)) (seen-all header c.loop-place.place all))
+    record {
+      known = sym (none-once c.args.header.now c.loop-place.place c.get.result.now was.from c.get.ensures.name (is_among c.args.declared.now) hit was.once);
+      every = λ e. absurd (false_true e);
+    }
 
 pub loop-place-preserved : goal.loop-place-preserved
 loop-place-preserved c =
@@ -64,13 +64,17 @@ loop-place-preserved c =
       declared = all-more header place name from here (is_among declared) (sym c.in-Some.ensures.found) was.declared;
     }
 
-pub returns-clause-known : goal.returns-clause-known
-returns-clause-known c =
+pub returns : goal.returns
+returns c =
     let header = c.args.header.now in
+    let names = c.args.declared.now in
     let place = c.loop-place.place in
     let was = c.loop-place.invariant in
     let seen = drop 1 (take place header) in
     let all : length header ≤ place = omega (arith, c.loop-place-test.false, c.len-place-end.ensures) in
     let once : None ≡ twice_after [] (drop 1 header) = sym (ap (twice_after seen) (drop_all place header all)) ∙ was.once in
-    let declared : list_all (is_among c.args.declared.now) (drop 1 header) ≡ true = sym (ap (list_all (is_among c.args.declared.now)) (seen-all header place all)) ∙ was.declared in
-    ap₂ (λ o b. is_none o && b) once (sym declared)
+    let declared : list_all (is_among names) (drop 1 header) ≡ true = sym (ap (list_all (is_among names)) (seen-all header place all)) ∙ was.declared in
+    record {
+      known = ap₂ (λ o b. is_none o && b) once (sym declared);
+      every = λ _. all-raised (is_among (drop 1 header)) c.loop-place.seen names was.many (λ i lt. was.seen i lt ∙ ap (λ l. is_among l (name_at names i)) (seen-all header place all));
+    }

@@ -6,11 +6,11 @@ use Rattle.lw_report.specs.Blocks.{IsBlock, vectors_in}
 use Rattle.lw_report.specs.Simulated.{IsNetlistSimulation}
 use Rattle.lw_report.proofs.sim.Sim.netlist.Goals as goal
 
-pub put_netlist-requires-clause-over : goal.put_netlist-requires-clause-over
-put_netlist-requires-clause-over g c = c.requires.over
-
-pub put_netlist-requires-clause-made : goal.put_netlist-requires-clause-made
-put_netlist-requires-clause-made g c = ap (λ (ws : List ℕ). length ws) c.deref_mut.ensures.value ∙ c.requires.fits.made
+pub put_netlist-requires-clause-words : goal.put_netlist-requires-clause-words
+put_netlist-requires-clause-words g c = record {
+  over = c.requires.over;
+  one_each = ap (λ (ws : List ℕ). length ws) c.deref_mut.ensures.value ∙ c.requires.fits.made;
+}
 
 pub put_netlist-requires-clause-blocks : goal.put_netlist-requires-clause-blocks
 put_netlist-requires-clause-blocks g c =

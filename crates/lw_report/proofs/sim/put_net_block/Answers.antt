@@ -8,7 +8,7 @@ use Rattle.lw_io.specs.Writers.{Writes}
 use Rattle.lw_report.specs.Blocks.{bits_at}
 use Rattle.lw_report.specs.Simulated.{value_line, IsNetworkLine}
 use Rattle.lw_report.proofs.SimLemmas.{lines_of, network_line}
-use Rattle.lw_report.proofs.sim.put_network_block.Goals as goal
+use Rattle.lw_report.proofs.sim.put_net_block.Goals as goal
 
 pub copy_front-requires : goal.copy_front-requires
 copy_front-requires g c = omega (arith, ap (λ (l : List ℕ). length l) c.deref.ensures.value, c.requires.block.one_each, c.requires.made, c.nodes-nodes.ensures.kept.named)
