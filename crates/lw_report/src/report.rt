@@ -51,22 +51,16 @@ fn pin_name(cell: &Cell, pin: Option<u8>) -> &[u8]
 }
 
 // A step at a gate of this cell, whose net has this name.
-fn put_cell_step<S: Sink>(
-    out: &mut Writer<'_, S>,
-    net: &[u8],
-    arrival: Micro,
-    pin: Option<u8>,
-    cell: &Cell,
-)
+fn put_cell<S: Sink>(out: &mut Writer<'_, S>, net: &[u8], time: Micro, pin: Option<u8>, cell: &Cell)
     requires { IfSome pin (λ k. k < length cell.now.pins) }
     ensures { Writes S.taken S.faults out.old out.new
-        (cell_step_line net.now arrival.0 pin (Some cell.now)) }
+        (cell_step_line net.now time.0 pin (Some cell.now)) }
 {
     out.put(b"step");
     put_word(out, net);
     put_word(out, cell.name().as_bytes());
     put_word(out, pin_name(cell, pin));
-    put_last(out, arrival);
+    put_last(out, time);
 }
 
 // A step of the critical path.
@@ -78,7 +72,7 @@ fn put_step<S: Sink>(out: &mut Writer<'_, S>, timed: &Timed, step: Step)
     let gate = gate_numbered(timed.netlist, step.gate);
     let net = gate.out.0 as usize;
     let name = timed.netlist.names()[net].as_bytes();
-    put_cell_step(
+    put_cell(
         out,
         name,
         timed.time[net],

@@ -33,11 +33,9 @@ fn rank_of(curves: &Curves, class: ClassId) -> Option<Rank> {
 fn ranks_of(alloc: Global, plan: &Plan) -> Result<Vec<Rank>, AllocError> {
     let mut ranks = Vec::new(alloc);
     for class in 0..plan.inputs.len() {
-        let number = small(class)?;
-        if plan.inputs[class].is_none() {
-            if let Some(rank) = rank_of(plan.curves, ClassId(number)) {
-                ranks.push(rank)?;
-            }
+        let number = ClassId(small(class)?);
+        if let (None, Some(rank)) = (plan.inputs[class], rank_of(plan.curves, number)) {
+            ranks.push(rank)?;
         }
     }
     ranks.sort_unstable();

@@ -6,7 +6,7 @@ ghost use Rattle.std.specs.Str.{bytes_eq};
 ghost use Rattle.std.specs.Str.Parse.{digits_value};
 ghost use Rattle.lw_netlist.specs.Closing.{is_among};
 ghost use Rattle.lw_verilog.specs.Texts.{begins_u, instance_name, passed};
-ghost use Rattle.lw_verilog.specs.Named.{names_in};
+ghost use Rattle.lw_verilog.specs.Named.{names_in, Fits};
 ghost use Rattle.lw_verilog.specs.Windows.{AreTaken, IsNumberBy, Raises, width};
 ghost use Rattle.lw_netlist.specs.Plain.{port_name};
 
@@ -34,6 +34,8 @@ pub(crate) struct AllNames<'a> {
 pub(crate) struct Taken {
     base: u64,
     flags: [bool; WIDTH],
+    // Whether one of the names begins as those of instances do.
+    begun: bool,
 }
 
 // The value of digits, or the greatest where it is greater.
@@ -143,18 +145,23 @@ fn has_instance(all: &AllNames, number: u64) -> bool
 impl Taken {
     /// Flags for the first numbers.
     pub(crate) fn new(all: &AllNames) -> Taken
-        ensures { AreTaken (names_in all.now) result.base result.flags }
+        ensures { Fits all.now result }
     {
         let mut flags = [false; WIDTH];
         mark_taken(&mut flags, 1, all);
-        Taken { base: 1, flags }
+        let begun = has_begun(all);
+        Taken {
+            base: 1,
+            flags,
+            begun,
+        }
     }
 
     // Moves the flags to where they have the number.
     fn reach(&mut self, all: &AllNames, number: u64)
         requires few { number + width ≤ 2 ^ 60 }
-        requires stands { AreTaken (names_in all.now) self.old.base self.old.flags }
-        ensures stands { AreTaken (names_in all.now) self.new.base self.new.flags }
+        requires stands { Fits all.now self.old }
+        ensures stands { Fits all.now self.new }
         ensures low { self.new.base ≤ number }
         ensures high { number < self.new.base + width }
     {
@@ -167,8 +174,8 @@ impl Taken {
 
     // Whether a net or an output has the name of the instance with this number.
     fn is_taken(&mut self, all: &AllNames, number: u64) -> bool
-        requires stands { AreTaken (names_in all.now) self.old.base self.old.flags }
-        ensures stands { AreTaken (names_in all.now) self.new.base self.new.flags }
+        requires stands { Fits all.now self.old }
+        ensures stands { Fits all.now self.new }
         ensures taken { result ≡ is_among (names_in all.now) (instance_name number) }
     {
         if number >= MOST - WIDTH as u64 {
@@ -182,8 +189,8 @@ impl Taken {
 // How many numbers from this one on are passed over, at most so many.
 fn passed(taken: &mut Taken, all: &AllNames, most: u64, number: u64) -> u64
     requires few { number + most < 2 ^ 64 }
-    requires stands { AreTaken (names_in all.now) taken.old.base taken.old.flags }
-    ensures stands { AreTaken (names_in all.now) taken.new.base taken.new.flags }
+    requires stands { Fits all.now taken.old }
+    ensures stands { Fits all.now taken.new }
     ensures passed { result ≡ passed (names_in all.now) most number }
 {
     for count in 0..most {
@@ -206,22 +213,21 @@ fn is_output_begun(ports: &[Port]) -> bool
     ports.iter().any(|port| port.name.as_bytes()[0] == b'u')
 }
 
-/// Whether a net or an output has a name that begins as those of instances do.
-pub(crate) fn has_begun(all: &AllNames) -> bool
+// Whether a net or an output has a name that begins as those of instances do.
+fn has_begun(all: &AllNames) -> bool
     ensures { result ≡ list_any begins_u (names_in all.now) }
 {
     is_begun(all.names) || is_output_begun(all.outputs)
 }
 
 /// The same as `passed`, at once where no name begins as those of instances do.
-pub(crate) fn skipped(begun: bool, taken: &mut Taken, all: &AllNames, most: u64, number: u64) -> u64
-    requires begun { begun ≡ list_any begins_u (names_in all.now) }
+pub(crate) fn skipped(taken: &mut Taken, all: &AllNames, most: u64, number: u64) -> u64
     requires few { number + most < 2 ^ 64 }
-    requires stands { AreTaken (names_in all.now) taken.old.base taken.old.flags }
-    ensures stands { AreTaken (names_in all.now) taken.new.base taken.new.flags }
+    requires stands { Fits all.now taken.old }
+    ensures stands { Fits all.now taken.new }
     ensures skipped { result ≡ passed (names_in all.now) most number }
 {
-    if !begun {
+    if !taken.begun {
         return 0;
     }
     passed(taken, all, most, number)

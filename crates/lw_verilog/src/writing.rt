@@ -10,7 +10,7 @@ ghost use Rattle.lw_verilog.specs.Texts.{tie_text, pins_text, instance_name, gat
 use crate::putting::{
     put_assignments, put_declarations, put_escaped, put_joined, put_port_declarations, put_wires,
 };
-use crate::taken::{AllNames, Taken, has_begun, skipped};
+use crate::taken::{AllNames, Taken, skipped};
 use itoa::Buffer;
 use lw_genlib::{Cell, Library};
 use lw_io::{Failed, Sink, Writer};
@@ -94,12 +94,11 @@ fn put_gates<S: Sink>(out: &mut Writer<'_, S>, all: &AllNames, lib: &Library, ga
         (names_in all.now) (length (names_in all.now)) 1 gates.now) }
 {
     let _room = room(all, gates);
-    let begun = has_begun(all);
     let mut taken = Taken::new(all);
     let mut most = all.names.len() as u64 + all.outputs.len() as u64;
     let mut number: u64 = 1;
     for gate in gates {
-        let count = skipped(begun, &mut taken, all, most, number);
+        let count = skipped(&mut taken, all, most, number);
         put_gate_of(out, all.names, lib, number + count, gate);
         most -= count;
         number += count + 1;

@@ -31,8 +31,8 @@ bounds-timed-net g c =
 pub cell_of-requires : goal.cell_of-requires
 cell_of-requires g c = all_at (HasCell c.args.timed.now.lib.now) c.args.timed.now.netlist.now.gates c.args.step.gate c.gate_numbered-gate.result.now c.requires.timed.over c.gate_numbered-gate.ensures.at
 
-pub put_cell_step-requires : goal.put_cell_step-requires
-put_cell_step-requires g c =
+pub put_cell-requires : goal.put_cell-requires
+put_cell-requires g c =
     let same = same_Some c.requires.step.gate c.gate_numbered-gate.result.now (sym c.requires.step.at ∙ c.gate_numbered-gate.ensures.at) in
     subst (λ n. IfSome c.args.step.pin (λ k. k < n)) (ap (λ (gate : Gate). length gate.pins) same ∙ c.cell_of.ensures.pins) c.requires.step.pin
 
@@ -52,6 +52,6 @@ returns g c =
     let named = subst (λ ns. net < length ns) (sym c.names.ensures.names) in_names in
     let name = c.as_bytes-name.ensures.bytes ∙ (c.index-names-net.is ∙ (get_or_default c.names.result.now net c.index-names-net.result [] named ∙ ap (λ (ns : List (List ℕ)). get_or ns net []) c.names.ensures.names)) in
     let time = sym (get_or-map millionths c.args.timed.now.time.now net (record { 0 = 0 }) 0 in_arrivals) in
-    let put = subst (λ w. Writes g.S.Sink.taken g.S.Sink.faults c.args.out.now c.put_cell_step.new.out (cell_step_line w (get_or c.args.timed.now.time.now net (record { 0 = 0 })).0 c.args.step.pin (Some cell))) name c.put_cell_step.ensures in
-    let timed = subst (λ (t : ℕ). Writes g.S.Sink.taken g.S.Sink.faults c.args.out.now c.put_cell_step.new.out (cell_step_line (get_or n.names net []) t c.args.step.pin (Some cell))) time put in
-    subst (λ l. Writes g.S.Sink.taken g.S.Sink.faults c.args.out.now c.put_cell_step.new.out l) (sym (step_line_is c.args.timed.now.lib.now n (map millionths c.args.timed.now.time.now) c.args.step gate cell at c.cell_of.ensures.cell)) timed
+    let put = subst (λ w. Writes g.S.Sink.taken g.S.Sink.faults c.args.out.now c.put_cell.new.out (cell_step_line w (get_or c.args.timed.now.time.now net (record { 0 = 0 })).0 c.args.step.pin (Some cell))) name c.put_cell.ensures in
+    let timed = subst (λ (t : ℕ). Writes g.S.Sink.taken g.S.Sink.faults c.args.out.now c.put_cell.new.out (cell_step_line (get_or n.names net []) t c.args.step.pin (Some cell))) time put in
+    subst (λ l. Writes g.S.Sink.taken g.S.Sink.faults c.args.out.now c.put_cell.new.out l) (sym (step_line_is c.args.timed.now.lib.now n (map millionths c.args.timed.now.time.now) c.args.step gate cell at c.cell_of.ensures.cell)) timed
