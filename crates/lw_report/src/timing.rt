@@ -127,7 +127,8 @@ impl Timing {
     fn put_report<S: Sink>(&self, out: &mut Writer<'_, S>, netlist: &Netlist, lib: &Library)
         requires over { IsOver lib.now netlist.now }
         requires made { IsTimingFor lib.now netlist.now self.now }
-        ensures { Writes S.taken S.faults out.old out.new (timing_text lib.now netlist.now self.now) }
+        ensures { Writes S.taken S.faults out.old out.new
+            (timing_text lib.now netlist.now self.now) }
     {
         self.put_summary(out, netlist.outputs());
         let time = self.arrivals.as_slice();
