@@ -86,7 +86,7 @@ fn check_below(
     class: ClassId,
     wanted: Option<(Mark, &Match)>,
 )
-    requires of_cells { Fits case.now.cells }
+    requires of_cells { Fits case.now.cells.lib.now case.now.cells.pats.now }
     requires class { class.0 < length case.now.graph.now.pairs }
     requires one_each { length marks.now ≡ length case.now.graph.now.pairs }
     requires in_range { AreInRange most_time marks.now }
@@ -112,7 +112,7 @@ fn check_class(
     class: ClassId,
     matches: &[Match],
 )
-    requires of_cells { Fits case.now.cells }
+    requires of_cells { Fits case.now.cells.lib.now case.now.cells.pats.now }
     requires class { class.0 < length case.now.graph.now.pairs }
     requires one_each { length marks.now ≡ length case.now.graph.now.pairs }
     requires in_range { AreInRange most_time marks.now }
@@ -125,7 +125,7 @@ fn check_class(
 }
 
 fn check_classes(rt: &impl Abort, case: &Case<'_>, marks: &[Option<Mark>])
-    requires of_cells { Fits case.now.cells }
+    requires of_cells { Fits case.now.cells.lib.now case.now.cells.pats.now }
     requires one_each { length marks.now ≡ length case.now.graph.now.pairs }
     requires in_range { AreInRange most_time marks.now }
 {
@@ -145,7 +145,7 @@ fn are_listed(matches: &[Vec<Match>]) -> bool {
 
 // Checks the labels, and the least matches under these.
 fn check_labels(rt: &impl Abort, alloc: Global, case: &Case<'_>) -> Result<(), AllocError>
-    requires { Fits case.now.cells }
+    requires { Fits case.now.cells.lib.now case.now.cells.pats.now }
 {
     let cost = DelayCost::new(case.cells.lib, case.starts);
     let labels = relabel(alloc, case.graph, case.cells.pats, &cost)?;
@@ -170,7 +170,7 @@ fn check_drawn(
     dice: &mut Dice,
     high: bool,
 ) -> Result<(), AllocError>
-    requires { Fits case.now.cells }
+    requires { Fits case.now.cells.lib.now case.now.cells.pats.now }
 {
     let marks = drawn_marks(alloc, dice, case.graph, high)?;
     check_classes(rt, case, &marks);
@@ -184,7 +184,7 @@ fn check_case(
     case: &Case<'_>,
     dice: &mut Dice,
 ) -> Result<(), AllocError>
-    requires { Fits case.now.cells }
+    requires { Fits case.now.cells.lib.now case.now.cells.pats.now }
 {
     check_labels(rt, alloc, case)?;
     check_drawn(rt, alloc, case, dice, false)?;
@@ -199,7 +199,7 @@ fn check_graph(
     graph: &Graph,
     dice: &mut Dice,
 ) -> Result<(), AllocError>
-    requires { Fits cells }
+    requires { Fits cells.lib.now cells.pats.now }
 {
     let matches = all_matches(alloc, graph, cells.pats)?;
     assert_eq!(rt; matches.len(), graph.classes() as usize);
@@ -222,7 +222,7 @@ fn check_graphs(
     count: u32,
     dice: &mut Dice,
 ) -> Result<(), Fail>
-    requires { Fits cells }
+    requires { Fits cells.lib.now cells.pats.now }
 {
     for _graph in 0..count {
         let graph = drawn_graph(alloc, dice, size)?;
@@ -238,7 +238,7 @@ fn check_sizes(
     cells: Cells<'_>,
     dice: &mut Dice,
 ) -> Result<(), Fail>
-    requires { Fits cells }
+    requires { Fits cells.lib.now cells.pats.now }
 {
     for (inputs, forms, facts, links, count) in SIZES {
         let size = Size {

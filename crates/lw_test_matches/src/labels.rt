@@ -184,7 +184,7 @@ fn check_labels(
     cells: Cells<'_>,
     graph: &Graph,
 ) -> Result<(), Fail>
-    requires { Fits cells }
+    requires { Fits cells.lib.now cells.pats.now }
 {
     let starts = no_starts(alloc);
     let cost = DelayCost::new(cells.lib, &starts);

@@ -126,7 +126,7 @@ fn check_store(
 }
 
 fn check_graph(rt: &impl Abort, alloc: Global, cells: Cells<'_>, graph: &Graph) -> Result<(), Fail>
-    requires { Fits cells }
+    requires { Fits cells.lib.now cells.pats.now }
 {
     let Cells { lib, pats } = cells;
     let matches = all_matches(alloc, graph, pats)?;
@@ -150,7 +150,7 @@ fn check_graphs(
     count: u32,
     dice: &mut Dice,
 ) -> Result<(), Fail>
-    requires { Fits cells }
+    requires { Fits cells.lib.now cells.pats.now }
 {
     for _graph in 0..count {
         let graph = drawn_graph(alloc, dice, size)?;
@@ -166,7 +166,7 @@ fn check_drawn(
     cells: Cells<'_>,
     dice: &mut Dice,
 ) -> Result<(), Fail>
-    requires { Fits cells }
+    requires { Fits cells.lib.now cells.pats.now }
 {
     for (inputs, forms, facts, links, count) in SIZES {
         let size = Size {
