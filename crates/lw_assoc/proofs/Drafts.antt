@@ -1,8 +1,7 @@
 -- One more base form, split or link.
-use Rattle.std.proofs.Common.{◌≡◌, ◌+◌, ◌-◌, ◌*◌, ◌/◌, ◌%◌, ◌^◌, ◌<◌, ◌≤◌, ◌⊎◌, inl, inr, ℕ, zero, suc, Bool, true, false, not, ◌&&◌, List, [], ◌∷◌, ◌++◌, length, Option, Some, Contains, slice_get, slice_index, slice_index_or, replicate, refl, ap, ap₂, sym, ◌∙◌, subst, arith, length-append, if◌then◌else◌, ◌==◌}
+use Rattle.std.proofs.Common.{◌≡◌, ◌+◌, ◌-◌, ◌*◌, ◌/◌, ◌%◌, ◌^◌, ◌<◌, ◌≤◌, ◌⊎◌, inl, inr, ℕ, zero, suc, Bool, true, false, not, ◌&&◌, List, [], ◌∷◌, ◌++◌, length, Option, Some, Contains, slice_get, slice_index, slice_index_or, replicate, refl, ap, ap₂, sym, ◌∙◌, subst, arith, if◌then◌else◌, ◌==◌}
 use native.Mathlib.Decide.{dec_lt}
 use Rattle.std.proofs.lemmas.List.Elements.{Contains-append_left, Contains-push, Contains-push_cases}
-use Rattle.std.proofs.lemmas.Option.{slice_get_within}
 use Rattle.lw_facts.proofs.Lists.{falses_at}
 use Rattle.lw_laws.specs.Modes.{Mode}
 use Rattle.lw_laws.specs.Modes.Mode.{plain, idempotent}
@@ -15,32 +14,15 @@ use Rattle.lw_laws.proofs.NumberedForms.{splits_occur}
 use Rattle.lw_laws.proofs.NumberedValues.{form_values_fit}
 use Rattle.lw_form.specs.Bases.{picked}
 use Rattle.lw_form.specs.Kept.{AreForms, HasPart}
-use Rattle.lw_assoc.specs.Drafting.{other, IsSplitBy, HasSplit, HasSplits, HasTwice, MakeSplit, HasSplitsUpTo, IsSplitting, HasLinksUpTo, HasSamples, HasBases, HasFactsUpTo, AddsBases, AddsNands, AddsLinks, AddsSplit, first_draft, with_base, with_nand, with_link}
+use Rattle.lw_assoc.specs.Drafting.{other, IsSplitBy, HasSplit, HasSplits, HasTwice, MakeSplit, HasSplitsUpTo, IsSplitting, HasLinksUpTo, HasSamples, HasBases, HasFactsUpTo, AddsNands, AddsLinks, AddsSplit, first_draft, with_nand, with_link}
 use Rattle.lw_assoc.specs.Parts.{HasParts}
 use Rattle.lw_reduce.specs.Drafting.{sample_of, IsKnown}
 use Rattle.lw_assoc.proofs.Masks.{unpicked, cut_by, picked_other}
-use Rattle.lw_assoc.proofs.SameFacts.{same_place}
 
 pub same_operands : (o : Option Base) (fs hs : List ℕ) → o ≡ Some (base_and fs) → o ≡ Some (base_and hs) → fs ≡ hs
 same_operands o fs hs e d = cc
 
-index_before : (samples : List Bool) (s : Bool) (b : ℕ) → b < length samples → slice_index_or (samples ++ s ∷ []) b false ≡ slice_index_or samples b false
-index_before [] s b lt = absurd (omega arith)
-index_before (t ∷ samples) s zero lt = refl
-index_before (t ∷ samples) s (suc b) lt = index_before samples s b (omega arith)
-
-index_last : (samples : List Bool) (s : Bool) → slice_index_or (samples ++ s ∷ []) (length samples) false ≡ s
-index_last [] s = refl
-index_last (t ∷ samples) s = index_last samples s
-
 module _ (forms : NumberedForms) (are : AreForms forms) where
-  -- true and the inputs are listed
-  pub inputs_within : forms.inputs + 1 ≤ length forms.bases
-  inputs_within = by_count forms.inputs refl where
-    by_count : (n : ℕ) → forms.inputs ≡ n → forms.inputs + 1 ≤ length forms.bases
-    by_count zero e = let lt = slice_get_within forms.bases 0 base_true are.in_order.first in omega arith
-    by_count (suc n) e = let lt = slice_get_within forms.bases (n + 1) (base_input n) (are.in_order.inputs n (omega arith)) in omega arith
-
   pub first_bases : HasBases forms (forms.inputs + 1) (first_draft forms.inputs)
   first_bases = record { inputs = refl; count = count forms.inputs; samples = at } where
     count : (n : ℕ) → length (true ∷ replicate n false) ≡ n + 1
@@ -53,27 +35,6 @@ module _ (forms : NumberedForms) (are : AreForms forms) where
         let c = count forms.inputs in
         let p : slice_get forms.bases (suc j) ≡ Some (base_input j) = subst (λ k. slice_get forms.bases k ≡ Some (base_input j)) (omega arith) (are.in_order.inputs j (omega arith)) in
         falses_at forms.inputs j ∙ sym (values.bases (suc j) (base_input j) p)
-
-  -- one more base form
-  pub more_bases : (old new : Draft) (b : ℕ) (s : Bool) → HasBases forms b old → ((value : ℕ → Bool) → AreNumberedValues forms (λ i. false) value → s ≡ value (2 * b)) → new ≡ with_base old s → HasBases forms (b + 1) new
-  more_bases old new b s has is e = subst (λ d. HasBases forms (b + 1) d) (sym e) (record {
-    inputs = has.inputs;
-    count = length-append old.samples (s ∷ []) ∙ ap (λ n. n + 1) has.count;
-    samples = λ value values k lt. by_place value values k (let c = length-append old.samples (s ∷ []) in let h = has.count in omega arith) (dec_lt k b);
-  }) where
-    by_place : (value : ℕ → Bool) → AreNumberedValues forms (λ i. false) value → (k : ℕ) → k < b + 1 → Dec (k < b) → slice_index_or (old.samples ++ s ∷ []) k false ≡ value (2 * k)
-    by_place value values k lt (yes before) =
-        let c = has.count in
-        let in' : k < length old.samples = omega arith in
-        index_before old.samples s k in' ∙ has.samples value values k in'
-    by_place value values k lt (no ge) =
-        let c = has.count in
-        let last : length old.samples ≡ k = omega arith in
-        let at : b ≡ k = omega arith in
-        subst (λ j. slice_index_or (old.samples ++ s ∷ []) j false ≡ s) last (index_last old.samples s) ∙ (is value values ∙ ap (λ j. value (2 * j)) at)
-
-  pub added_bases : (old mid new : Draft) (s : Bool) → AddsBases old mid → new ≡ with_base mid s → AddsBases old new
-  added_bases old mid new s adds e = subst (λ d. AddsBases old d) (sym e) (record { nands = adds.nands; links = adds.links })
 
   module _ (d : Draft) (has : HasBases forms (length forms.bases) d) where
     -- the sample of a form is its value
@@ -136,13 +97,6 @@ module _ (forms : NumberedForms) (are : AreForms forms) where
       let (fs, e, one, lt) = make.left in
       make.is fs (slice_index parts mask) (slice_index parts rest) e (has.each fs mask e one lt) (part_at parts b rest fs has e make.right)
 
-  pub split_added : (old new : Draft) (parts : List ℕ) (b mask rest : ℕ) → HasParts forms b 1 parts → MakeSplit forms b mask rest → new ≡ with_nand old (record { form = 2 * b + 1; left = slice_index parts mask; right = slice_index parts rest }) → AddsSplit forms b mask rest old new
-  split_added old new parts b mask rest has make added = record {
-    fact = record { form = 2 * b + 1; left = slice_index parts mask; right = slice_index parts rest };
-    is = λ hs d. record { form = refl; left = part_at parts b mask hs has d make.left; right = part_at parts b rest hs has d make.right };
-    added = added;
-  }
-
   -- what is there stays there
   pub split_more : (old : List NandFact) (fact : NandFact) (a : ℕ) (hs : List ℕ) (m r : ℕ) → HasSplit forms old a hs m r → HasSplit forms (old ++ fact ∷ []) a hs m r
   split_more old fact a hs m r (n, c, is) = (n, Contains-append_left old (fact ∷ []) n c, is)
@@ -186,9 +140,6 @@ module _ (forms : NumberedForms) (are : AreForms forms) where
   cut_of_split b mask rest fs n e lt r is =
       subst (λ f. IsCutOf forms f n.left n.right) (sym is.form) (mask_cut b mask rest n.left n.right fs e lt r is.left is.right)
 
-  pub splits_begin : (b : ℕ) (d : Draft) → HasFactsUpTo plain forms b d → IsSplitting forms b 1 d
-  splits_begin b d before = record { before = before; begun = λ fs mask e one lt half. absurd (omega arith) }
-
   -- one more split
   pub splits_next : (old new : Draft) (b mask rest : ℕ) (fs : List ℕ) → slice_get forms.bases b ≡ Some (base_and fs) → mask < 2 ^ length fs → rest ≡ other fs mask → AddsSplit forms b mask rest old new → IsSplitting forms b mask old → IsSplitting forms b (mask + 1) new
   splits_next old new b mask rest fs e lt r adds so_far = subst (IsSplitting forms b (mask + 1)) (sym adds.added) (record {
@@ -210,11 +161,6 @@ module _ (forms : NumberedForms) (are : AreForms forms) where
         let l = ap length (same_operands (slice_get forms.bases b) fs hs e at) in
         let top = subst (λ k. 2 ^ (k - 1) ≤ bound) l le in
         so_far.begun hs m at one (omega arith) half
-
-  -- a base form that is no And has no splits
-  pub splits_none : (b : ℕ) (base : Base) (d : Draft) → slice_get forms.bases b ≡ Some base → ((fs : List ℕ) → base ≡ base_and fs → ⊥) → HasFactsUpTo plain forms b d → HasFactsUpTo plain forms (b + 1) d
-  splits_none b base d e ne so_far =
-      facts_next plain d b (λ hs m at one half. absurd (ne hs (same_place (slice_get forms.bases b) base (base_and hs) e at))) so_far
 
   abbrev link_of : ℕ → ℕ → FormLink
   link_of f h = record { left = f; right = h }
@@ -255,9 +201,6 @@ bases_with_links forms n old new adds has = record {
 
 pub nands_by_split : (forms : NumberedForms) (b mask rest : ℕ) (old mid new : Draft) → AddsNands old mid → AddsSplit forms b mask rest mid new → AddsNands old new
 nands_by_split forms b mask rest old mid new adds split = subst (AddsNands old) (sym split.added) (record { inputs = adds.inputs; samples = adds.samples; links = adds.links })
-
-pub nands_both : (old mid new : Draft) → AddsNands old mid → AddsNands mid new → AddsNands old new
-nands_both old mid new a b = record { inputs = b.inputs ∙ a.inputs; samples = b.samples ∙ a.samples; links = b.links ∙ a.links }
 
 pub links_by_one : (old mid new : Draft) (l : FormLink) → AddsLinks old mid → new ≡ with_link mid l → AddsLinks old new
 links_by_one old mid new l adds e = subst (AddsLinks old) (sym e) (record { inputs = adds.inputs; samples = adds.samples; nands = adds.nands })

@@ -87,10 +87,6 @@ pub record AreMasks (k mask rest : ℕ) : Type 0 where
   pub rest_some : 1 ≤ rest
   pub rest_within : rest < 2 ^ k
 
-pub masks_are : (k mask : ℕ) → 1 ≤ k → 1 ≤ mask → mask < 2 ^ (k - 1) → AreMasks k mask (2 ^ k - 1 - mask)
-masks_are zero mask some one lt = absurd (omega arith)
-masks_are (suc k) mask some one lt = let p = pow-suc 2 k in let q : 2 ^ (suc k - 1) ≡ 2 ^ k = ap (λ j. 2 ^ j) (omega arith) in record { some = one; within = omega arith; rest_some = omega arith; rest_within = omega arith }
-
 -- one of the two masks leaves the last operand out
 pub half_mask : (k mask : ℕ) → 1 ≤ k → mask < 2 ^ k → (mask < 2 ^ (k - 1) → ⊥) → 2 ^ k - 1 - mask < 2 ^ (k - 1)
 half_mask zero mask some lt ge = absurd (omega arith)

@@ -58,30 +58,6 @@ module _ (forms : NumberedForms) (are : AreForms forms) where
           let same : r ≡ right = omega arith in
           absurd (ne (subst₂ (λ j k. bit_or j k ≡ all) s same (o.all ∙ sym (whole hs at))))
 
-  pub overlaps_start : (d : Draft) (b left : ℕ) → IsOverlapping forms b left 0 d → IsOverlapping forms b left (left + 1) d
-  overlaps_start d b left so_far = record { before = so_far.before; twice = so_far.twice; begun = by_place } where
-    by_place : (hs : List ℕ) (m r : ℕ) → slice_get forms.bases b ≡ Some (base_and hs) → AreOverlapping (length hs) m r → (m < left) ⊎ ((m ≡ left) × (r < left + 1)) → HasSplit forms d.nands b hs m r
-    by_place hs m r at o (inl lt) = so_far.begun hs m r at o (inl lt)
-    by_place hs m r at o (inr (s, lt)) = let less = o.less in absurd (omega arith)
-
-  pub overlaps_end : (d : Draft) (b left right all : ℕ) → ((fs : List ℕ) → slice_get forms.bases b ≡ Some (base_and fs) → all ≡ 2 ^ length fs - 1) → all < right → IsOverlapping forms b left right d → IsOverlapping forms b (left + 1) 0 d
-  overlaps_end d b left right all whole past so_far = record { before = so_far.before; twice = so_far.twice; begun = by_place } where
-    by_place : (hs : List ℕ) (m r : ℕ) → slice_get forms.bases b ≡ Some (base_and hs) → AreOverlapping (length hs) m r → (m < left + 1) ⊎ ((m ≡ left + 1) × (r < 0)) → HasSplit forms d.nands b hs m r
-    by_place hs m r at o (inr (s, lt)) = absurd (omega arith)
-    by_place hs m r at o (inl lt) = by_order (dec_lt m left) where
-      by_order : Dec (m < left) → HasSplit forms d.nands b hs m r
-      by_order (yes l) = so_far.begun hs m r at o (inl l)
-      by_order (no ge) =
-          let w = whole hs at in
-          let within = o.within in
-          so_far.begun hs m r at o (inr (omega arith, omega arith))
-
-  pub overlaps_first : (d : Draft) (b : ℕ) → IsOverlapping forms b 0 0 d → IsOverlapping forms b 1 0 d
-  overlaps_first d b so_far = record { before = so_far.before; twice = so_far.twice; begun = by_place } where
-    by_place : (hs : List ℕ) (m r : ℕ) → slice_get forms.bases b ≡ Some (base_and hs) → AreOverlapping (length hs) m r → (m < 1) ⊎ ((m ≡ 1) × (r < 0)) → HasSplit forms d.nands b hs m r
-    by_place hs m r at o (inl lt) = let some = o.some in absurd (omega arith)
-    by_place hs m r at o (inr (s, lt)) = absurd (omega arith)
-
   pub overlaps_whole : (d : Draft) (b low all : ℕ) → ((fs : List ℕ) → slice_get forms.bases b ≡ Some (base_and fs) → all ≡ 2 ^ length fs - 1) → all ≤ low → IsOverlapping forms b low 0 d → HasFactsUpTo idempotent forms (b + 1) d
   overlaps_whole d b low all whole le so_far = facts_next forms are idempotent d b (so_far.twice, there) so_far.before where
     there : (hs : List ℕ) (m r : ℕ) → slice_get forms.bases b ≡ Some (base_and hs) → AreOverlapping (length hs) m r → HasSplit forms d.nands b hs m r

@@ -1,5 +1,5 @@
 -- Arrival lines.
-use Rattle.std.proofs.Common.{ℕ, ◌≡◌, ◌+◌, ◌<◌, ◌≤◌, ◌⊎◌, inl, inr, arith, Bool, true, false, not, ◌&&◌, cond, List, [], ◌∷◌, ◌++◌, length, take, drop, Option, Some, None, Result, Ok, Err, refl, ap, sym, ◌∙◌, subst}
+use Rattle.std.proofs.Common.{ℕ, ◌≡◌, ◌+◌, ◌<◌, ◌≤◌, ◌⊎◌, inl, inr, arith, Bool, true, false, not, ◌&&◌, cond, List, [], ◌∷◌, ◌++◌, length, drop, Option, Some, None, Result, Ok, Err, refl, ap, sym, ◌∙◌, subst}
 use Rattle.std.specs.Prelude.{slice_get, nat_le, ◌==◌}
 use Rattle.std.proofs.lemmas.Bool.Decides.{nat_tests}
 use Rattle.std.specs.List.{list_all}
@@ -11,7 +11,7 @@ use Rattle.lw_blif.specs.declared.command.Command.TheVariants.{Model, Inputs, Ou
 use Rattle.lw_blif.specs.declared.fault.BlifKind.{BlifKind}
 use Rattle.lw_blif.specs.declared.fault.BlifKind.TheVariants as kind
 use Rattle.lw_blif.specs.LineFaults.{first_broken, other_words, wants_words, names_for, times_for, times_place, is_arrival_command, start_in, start_rules, arrival_rules}
-use Rattle.lw_blif.specs.Drafts.{arrival_of, arrivals_for, latch_of, latches_for}
+use Rattle.lw_blif.specs.Drafts.{arrival_of, arrivals_for, latch_of}
 use Rattle.lw_pool.specs.declared.latch.Latch.{Latch}
 use Rattle.lw_blif.specs.declared.command.Command.TheVariants as asks
 use Rattle.std.proofs.lemmas.Bool.{and_parts, eqb-true}
@@ -106,9 +106,6 @@ arrivals-every c words start e said =
 
 -- Latch lines.
 
-pub output_word : (words : List (List ℕ)) (i : ℕ) (word : List ℕ) → slice_get words i ≡ Some word → take 1 (drop i words) ≡ word ∷ []
-output_word words i word e = ap (take 1) (drop_get words i word e)
-
 pub latch-words : (words rest : List (List ℕ)) (input output : List ℕ) → slice_get words 1 ≡ Some input → slice_get words 2 ≡ Some output → rest ≡ drop 3 words → latch_of (drop 1 words) ≡ record { input = input; output = output; rest = rest } ∷ []
 latch-words words rest input output e f r =
     ap latch_of (drop_get words 1 input e ∙ ap (λ ws. input ∷ ws) (drop_get words 2 output f ∙ ap (λ ws. output ∷ ws) (sym r)))
@@ -156,10 +153,6 @@ times-within c words is w = by_cases (arrival-cases c is)
 
 pub own-long : (c : Command) (words : List (List ℕ)) → c ≡ Arrival → wants_words c words ≡ true → 1 < length words
 own-long c words e w = omega (arith, own-within c words e w)
-
--- the latch that a line says
-pub latches-line : (c : Command) (words : List (List ℕ)) (latches new : List Latch) (latch : Latch) → c ≡ asks.Latch → latch_of (drop 1 words) ≡ latch ∷ [] → new ≡ latches ++ latch ∷ [] → new ≡ latches ++ latches_for c (other_words words)
-latches-line c words latches new latch e is grown = grown ∙ ap (λ l. latches ++ l) (sym (ap (λ d. latches_for d (other_words words)) e ∙ is))
 
 -- A start that is said: the line has its words, and the times say it.
 module _ (c : Command) (words : List (List ℕ)) (start : Micro) (said : start_said_on c words ≡ Ok start) where

@@ -1,5 +1,5 @@
 -- The parts of lines that break no rule are closed.
-use Rattle.std.proofs.Common.{ℕ, ◌+◌, ◌≡◌, List, [], length, map, drop, Option, Some, None, Result, Ok, Err, refl, ap, sym, ◌∙◌, subst}
+use Rattle.std.proofs.Common.{ℕ, ◌+◌, ◌≡◌, List, length, map, drop, Result, Ok, Err, refl, ap, sym, ◌∙◌, subst}
 use Rattle.std.specs.Prelude.{All, replicate}
 use Rattle.std.specs.Result.{IsErr, IsErrAnd}
 use Rattle.std.specs.List.{flat_map, IsDistinct}
@@ -11,8 +11,8 @@ use Rattle.lw_words.specs.Lines.{LogicalLine}
 use Rattle.lw_net.specs.declared.draft.Draft.{Draft}
 use Rattle.lw_net.specs.declared.fault.NetFault.{NetFault}
 use Rattle.lw_net.specs.declared.fault.NetFault.TheVariants as whole
-use Rattle.lw_net.specs.Closing.{IsDraft, IsClosed, HasFault, out_of}
-use Rattle.lw_net.specs.Networks.{NetworkParts, IsNetwork, input_names, output_names}
+use Rattle.lw_net.specs.Closing.{IsDraft, HasFault, out_of}
+use Rattle.lw_net.specs.Networks.{IsNetwork, input_names, output_names}
 use Rattle.lw_fixed.specs.declared.micro.Micro.{Micro}
 use Rattle.lw_pool.specs.declared.latch.Latch.{Latch}
 use Rattle.lw_pool.specs.declared.latch.Frame.{Frame}
@@ -25,9 +25,8 @@ use Rattle.lw_blif.specs.declared.parts.Parts.{Parts}
 use Rattle.lw_blif.specs.declared.parsed.Parsed.{Parsed}
 use Rattle.lw_blif.specs.declared.drafting.Said.{Said}
 use Rattle.lw_blif.specs.declared.fault.BlifFault.{BlifFault}
-use Rattle.lw_blif.specs.LineFaults.{FaultAt, first_fault, lines_read}
 use Rattle.lw_blif.specs.Drafts.{draft_of, frame_on, starts_on, inputs_on, outputs_on, latches_on, arrivals_on}
-use Rattle.lw_blif.specs.BlifNetworks.{ClosesTo, ComesTo, IsModel, IsBlifNetwork, whole_fault}
+use Rattle.lw_blif.specs.BlifNetworks.{ClosesTo, IsModel, whole_fault}
 use Rattle.lw_blif.specs.Keeping.{Keeps, IsOfSome, IsSaidBy, SaidFits}
 use Rattle.lw_blif.proofs.Sound.{lines-draft}
 
@@ -81,14 +80,6 @@ pub said-starts : (frame : Frame) (inputs outputs all_inputs : List (List ℕ)) 
 said-starts frame inputs outputs all_inputs latches starts differ fi fo fl ai count zeros early =
     subst (λ (f : Frame). StartsFit f (length all_inputs) starts) (sym (same-outputs frame inputs outputs latches differ fi fo fl))
     (subst (λ (ins : List (List ℕ)). StartsFit (frame_of inputs outputs latches) (length ins) starts) (sym ai) (counted_fit inputs outputs latches starts count zeros early))
-
--- the model of lines is a network
-pub kept-model : (lines : List LogicalLine) (model : Parsed) → ((draft : Draft) (net : NetworkParts) → IsDraft draft → IsClosed draft net → IsNetwork net) → IsBlifNetwork lines (Ok model) → IsNetwork model.network
-kept-model lines model law is = by_fault (first_fault [] (lines_read lines)) refl is
-  where
-    by_fault : (first : Option FaultAt) → first_fault [] (lines_read lines) ≡ first → ComesTo first (lines_read lines) (Ok model) → IsNetwork model.network
-    by_fault (Some first) e h = absurd h
-    by_fault None e h = law (draft_of (lines_read lines)) model.network (lines-draft (lines_read lines) e) h.network
 
 pub model-fits : (said : Said) (model : Parsed) → IsNetwork model.network → IsDistinct bytes_eq model.network.names → IsDraft said.draft → SaidFits said → input_names model.network ≡ said.draft.inputs → output_names model.network ≡ said.draft.outputs → model.network.inputs ≡ length said.draft.inputs → model.frame ≡ said.frame → model.starts ≡ said.starts → IsModel model
 model-fits said model kept differ draft fits ins outs count frame starts = record {

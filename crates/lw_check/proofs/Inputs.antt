@@ -1,5 +1,5 @@
 -- The classes of inputs, and what inputs cost.
-use Rattle.std.proofs.Common.{ℕ, ◌+◌, ◌<◌, ◌≤◌, ◌≡◌, ◌⊎◌, inl, inr, length, Option, Some, None, slice_get, refl, ap, sym, ◌∙◌, subst, arith}
+use Rattle.std.proofs.Common.{ℕ, ◌+◌, ◌<◌, ◌≤◌, ◌≡◌, ◌⊎◌, inl, inr, length, Option, Some, slice_get, refl, ap, sym, ◌∙◌, subst, arith}
 use Rattle.std.proofs.lemmas.Bool.{cases_eq}
 use Rattle.std.proofs.lemmas.Option.{same_Some, slice_get_within}
 use Rattle.lw_laws.specs.Graphs.{Graph}
@@ -62,9 +62,6 @@ module _ (g : Graph) (cost : Cost) where
         (λ c (i, lt, here, above). (cost.leaf i, (i, here, refl), above))
         (λ c (d, (i, here, e), above). (i, (let lt = slice_get_within g.leaves i c here in omega arith), here, subst (λ z. IsAbove (labels c) z) e above))
         least
-
-    pub none_late : IsLeastOf (IsLateBefore labels 0) None
-    none_late = λ c (i, lt, here, above). absurd (omega arith)
 
   module _ (c : ℕ) where
     cost_last : (n d class : ℕ) → slice_get g.leaves n ≡ Some class → IsLeafCostBefore c (n + 1) d → IsLeafCostBefore c n d ⊎ ((class ≡ c) × (d ≡ cost.leaf n))

@@ -1,6 +1,6 @@
 -- A look at each match at a class, and the labels of its pins.
 use Rattle.std.proofs.Common.{ℕ, suc, ◌+◌, ◌<◌, ◌≤◌, ◌≡◌, ◌⊎◌, inl, inr, List, [], ◌∷◌, ◌++◌, length, take, Contains, Option, Some, None, slice_get, slice_set, refl, ap, sym, ◌∙◌, subst, arith}
-use Rattle.std.proofs.lemmas.List.{map-append, take_all, take_more, take_more_set}
+use Rattle.std.proofs.lemmas.List.{map-append, take_more, take_more_set}
 use Rattle.std.proofs.lemmas.Option.{same_Some, none-some, slice_get_within, get_or_from_slice_get}
 use Rattle.lw_facts.proofs.Lists.{contains_cases}
 use Rattle.lw_pool.specs.declared.id.ClassId.{ClassId}
@@ -32,9 +32,6 @@ module _ (labels : Labels) where
       let named : numbers (take (k + 1) classes) ≡ numbers (take k classes) ++ class.0 ∷ [] = ap numbers front ∙ map-append class_number (take k classes) (class ∷ []) in
       subst (λ ps. HaveLabels labels ps (take (k + 1) (slice_set values k l))) (sym named)
       (subst (λ ls. HaveLabels labels (numbers (take k classes) ++ class.0 ∷ []) ls) (sym (take_more_set values k l room)) (have_more (numbers (take k classes)) (take k values) class.0 l have e))
-
-  pub labels_all : (classes : List ClassId) (values : List ℕ) (k : ℕ) → length classes ≤ k → HaveLabels labels (numbers (take k classes)) (take k values) → HaveLabels labels (numbers classes) (take k values)
-  labels_all classes values k all have = subst (λ (cs : List ClassId). HaveLabels labels (numbers cs) (take k values)) (take_all k classes all) have
 
   -- a class without a label
   pub no_labels : (classes : List ClassId) (k : ℕ) (class : ClassId) → slice_get classes k ≡ Some class → labels class.0 ≡ None → (ls : List ℕ) → HaveLabels labels (numbers classes) ls → ⊥

@@ -1,6 +1,6 @@
 -- Gates as matches: the classes of nets, and the patterns of a cell.
 use Rattle.std.proofs.Common.{ℕ, zero, suc, ◌+◌, ◌-◌, ◌<◌, ◌≤◌, ◌≡◌, ◌⊎◌, inl, inr, List, [], ◌∷◌, ◌++◌, length, map, take, Option, Some, None, IfSome, option_map, slice_get, slice_index_or, get_or, length-append, refl, ap, sym, ◌∙◌, subst, arith}
-use Rattle.std.proofs.lemmas.List.{length-map, map-append, take_all, take_more}
+use Rattle.std.proofs.lemmas.List.{length-map, map-append, take_more}
 use Rattle.std.proofs.lemmas.Option.{same_Some, none-some, slice_get_within, slice_get-get_or}
 use Rattle.lw_facts.proofs.Lists.{all_at}
 use Rattle.lw_pool.specs.declared.id.CellId.{CellId}
@@ -20,19 +20,11 @@ use Rattle.lw_check.specs.Gates.{AreClassesOf, IsMatchBy, IsNoMatchAt}
 use Rattle.lw_check.specs.Spans.{AreSpans, IsIn}
 use Rattle.lw_check.specs.Standing.{AreWithin, StandsAlone}
 use Rattle.lw_check.specs.declared.spans.Span.{Span}
-use Rattle.lw_check.proofs.Places.{from_map, map_at, read_map, some_left, some_right}
+use Rattle.lw_check.proofs.Places.{from_map, map_at}
 use Rattle.lw_check.proofs.Unknown.{net_known}
 use Rattle.lw_pool.specs.Numbers.{numbers}
 
 module _ (k : Claim) where
-  -- the class of an input's net, and of a gate's
-  pub class_first : (net : NetId) (class : ClassId) → slice_get k.graph.leaves net.0 ≡ Some class.0 → Some class.0 ≡ class_of_net k net
-  class_first net class at = sym (some_left k.graph.leaves (map (option_map class_number) k.mapped.cert.nets) net.0 class.0 at)
-
-  pub class_second : (net : NetId) → length k.graph.leaves ≤ net.0 → option_map class_number (slice_index_or k.mapped.cert.nets (net.0 - length k.graph.leaves) None) ≡ class_of_net k net
-  class_second net le =
-      sym (read_map (option_map class_number) refl k.mapped.cert.nets (net.0 - length k.graph.leaves)) ∙ sym (some_right k.graph.leaves (map (option_map class_number) k.mapped.cert.nets) net.0 le)
-
   pub net_within : HasKnownClasses k → (j : ℕ) → IfSome (slice_index_or k.mapped.cert.nets j None) (λ (class : ClassId). class.0 < length k.graph.pairs)
   net_within known j = by_net (slice_index_or k.mapped.cert.nets j None) refl
     where
@@ -68,9 +60,6 @@ module _ (k : Claim) where
     within = within_more classes class low is.within;
     counted = length-append classes (class ∷ []) ∙ ap (λ n. n + 1) is.counted;
   }
-
-  pub first_all : (nets : List NetId) (count : ℕ) (classes : List ClassId) → length nets ≤ count → HaveFirst nets count classes → AreClassesOf k nets (Some classes)
-  first_all nets count classes all is = ap (map (class_of_net k)) (sym (take_all count nets all)) ∙ is.same
 
   -- a net without a class
   pub none_at : (nets : List NetId) (j : ℕ) (net : NetId) → slice_get nets j ≡ Some net → class_of_net k net ≡ None → AreClassesOf k nets None
@@ -149,9 +138,6 @@ module _ (k : Claim) where
 
   pub no_class : (gate : Gate) → class_of_net k gate.out ≡ None → IsMatchGate k gate → ⊥
   no_class gate none is = none-some is.class (sym none ∙ is.has_class)
-
-  pub no_classes : (gate : Gate) → AreClassesOf k gate.pins None → IsMatchGate k gate → ⊥
-  no_classes gate none is = none is.pins is.have_classes
 
   -- the first gate that is no match, by its name
   pub no_match_found : (place : ℕ) (name : List ℕ) → IsNoMatchAt k place → ((gate : Gate) → slice_get k.mapped.netlist.gates place ≡ Some gate → net_name k.mapped.netlist.names gate.out ≡ name) → IsFirstNoMatch k name

@@ -58,13 +58,6 @@ some_left [] cs j c e = absurd (none-some c e)
 some_left (x ∷ xs) cs zero c e = e
 some_left (x ∷ xs) cs (suc j) c e = some_left xs cs j c e
 
-pub some_right : (xs : List ℕ) (cs : List (Option ℕ)) (j : ℕ) → length xs ≤ j → slice_index_or (map Some xs ++ cs) j None ≡ slice_index_or cs (j - length xs) None
-some_right [] cs j le = let e : j ≡ j - 0 = omega arith in ap (λ n. slice_index_or cs n None) e
-some_right (x ∷ xs) cs zero le = absurd (omega arith)
-some_right (x ∷ xs) cs (suc j) le =
-    let e : j - length xs ≡ suc j - suc (length xs) = omega arith in
-    some_right xs cs j (omega arith) ∙ ap (λ n. slice_index_or cs n None) e
-
 pub read_some : {A : Type 0} (xs : List A) (j : ℕ) (x : A) → slice_get xs j ≡ Some x → slice_index_or (map Some xs) j None ≡ Some x
 read_some [] j x e = absurd (none-some x e)
 read_some (z ∷ xs) zero x e = e

@@ -1,6 +1,5 @@
 -- The class at which a tree stands, by those of its parts.
-use Rattle.std.proofs.Common.{ℕ, ◌+◌, ◌-◌, ◌<◌, ◌≤◌, ◌≡◌, ◌⊎◌, inl, inr, List, length, Option, Some, None, IfSome, IsNone, slice_get, slice_index_or, slice_set, get_or-set_same, get_or-set_other, refl, ap, sym, ◌∙◌, subst, arith}
-use Rattle.std.proofs.lemmas.Bool.{cases_eq}
+use Rattle.std.proofs.Common.{ℕ, ◌+◌, ◌-◌, ◌<◌, ◌≤◌, ◌≡◌, ◌⊎◌, List, length, Option, Some, None, IfSome, IsNone, slice_get, slice_index_or, refl, ap, sym, ◌∙◌, subst, arith}
 use Rattle.std.proofs.lemmas.Option.{same_Some, none-some}
 use Rattle.lw_facts.proofs.Lists.{all_at}
 use Rattle.lw_pool.specs.declared.id.ClassId.{ClassId}
@@ -42,9 +41,6 @@ module _ (g : Graph) where
     let half = half-flip class.0 in let even = is.even in omega arith,
   )
 
-  pub inv_none : (w : List ℕ) (t : Tree) → StandsAlone g w t None → StandsAlone g w (inv t) None
-  inv_none w t none = λ c s. none (flip c) s
-
   -- where a tree stands is a class of the graph
   pub alone_within : (w : List ℕ) (t : Tree) (o : Option ClassId) → StandsAlone g w t o → IfSome o (λ (class : ClassId). class.0 < length g.pairs)
   alone_within w t None alone = tt
@@ -52,12 +48,6 @@ module _ (g : Graph) where
 
   -- a pair of trees whose classes are known
   module _ (w : List ℕ) (t u : Tree) where
-    pub pair_left : StandsAlone g w t None → StandsAlone g w (nand t u) None
-    pair_left none = λ c (x, y, holds, s, z). none x s
-
-    pub pair_right : StandsAlone g w u None → StandsAlone g w (nand t u) None
-    pair_right none = λ c (x, y, holds, s, z). none y z
-
     pub pair_alone : (left right : ClassId) (result : Option ClassId) → IsGraph g → IfSome result (λ (c : ClassId). HoldsPair g c.0 left.0 right.0) → (IsNone result → (c : ℕ) → HoldsPair g c left.0 right.0 → ⊥) → IfSome result (λ (c : ClassId). c.0 < length g.pairs) → StandsAlone g w t (Some left) → StandsAlone g w u (Some right) → StandsAlone g w (nand t u) result
     pair_alone left right None is some none within l r = λ c (x, y, holds, s, z). none refl c (moved c x y holds (l.1 x s) (r.1 y z))
       where
@@ -71,18 +61,6 @@ module _ (g : Graph) where
       where
         moved : (c x y : ℕ) → HoldsPair g c x y → x ≡ left.0 → y ≡ right.0 → HoldsPair g c left.0 right.0
         moved c x y h e f = subst (λ b. HoldsPair g c left.0 b) f (subst (λ a. HoldsPair g c a y) e h)
-
-  -- the classes of one more node
-  pub standing_more : (w : List ℕ) (nodes : List PatNode) (place : ℕ) (classes : List (Option ClassId)) (class : Option ClassId) → place < length classes → StandsAlone g w (tree_at nodes place) class → AreStanding g w nodes place classes → AreStanding g w nodes (place + 1) (slice_set classes place class)
-  standing_more w nodes place classes class room here before = λ j lt. by_place j lt (cases_eq j place)
-    where
-      by_place : (j : ℕ) → j < place + 1 → (j ≡ place) ⊎ (j ≡ place → ⊥) → StandsAlone g w (tree_at nodes j) (slice_index_or (slice_set classes place class) j None)
-      by_place j lt (inl same) =
-          let read : slice_index_or (slice_set classes place class) j None ≡ class = ap (λ n. slice_index_or (slice_set classes place class) n None) same ∙ get_or-set_same classes place class None room in
-          subst (λ o. StandsAlone g w (tree_at nodes j) o) (sym read) (subst (λ n. StandsAlone g w (tree_at nodes n) class) (sym same) here)
-      by_place j lt (inr other) =
-          let less : j < place = omega arith in
-          subst (λ o. StandsAlone g w (tree_at nodes j) o) (sym (get_or-set_other classes place j class None other)) (before j less)
 
   -- where all nodes are known, so is the last
   pub last_alone : (w : List ℕ) (nodes : List PatNode) (count last : ℕ) (classes : List (Option ClassId)) → length nodes ≤ count → 0 < length nodes → last ≡ length nodes - 1 → AreStanding g w nodes count classes → StandsAlone g w (tree_of nodes) (slice_index_or classes last None)

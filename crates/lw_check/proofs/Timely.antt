@@ -15,8 +15,8 @@ use Rattle.lw_netlist.specs.declared.gate.Gate.{Gate}
 use Rattle.lw_netlist.specs.declared.gate.Port.{Port}
 use Rattle.lw_netlist.specs.Netlists.{IsNetlist}
 use Rattle.lw_netlist.specs.Plain.{plain}
-use Rattle.lw_check.specs.Claims.{Claim, Arrives, AreAtRoots, AreMatches, AreOnTime, HasPotential, HasSamePorts, IsAtRoot, IsFirstOffRoot, IsFirstOffTime, IsOnTime, IsOnTimeAt, class_number, class_of_net, cost_in, label_of_class, plain_labels, timing_in}
-use Rattle.lw_check.specs.Outputs.{AreArrivalsOf, IsOffRootAt, IsOffTimeAt, label_at, label_of_net}
+use Rattle.lw_check.specs.Claims.{Claim, Arrives, AreMatches, AreOnTime, HasPotential, HasSamePorts, IsAtRoot, IsFirstOffTime, IsOnTime, IsOnTimeAt, class_number, class_of_net, cost_in, label_of_class, plain_labels, timing_in}
+use Rattle.lw_check.specs.Outputs.{AreArrivalsOf, IsOffTimeAt, label_at, label_of_net}
 use Rattle.lw_net.specs.Networks.{IsNetwork}
 use Rattle.lw_check.proofs.Judging.{inputs_beside, netlist_ordered}
 use Rattle.lw_check.proofs.Places.{map_at, read_map, some_left, some_mapped}
@@ -40,12 +40,6 @@ module _ (k : Claim) where
       let same : port ≡ port' = same_Some port port' (sym at ∙ at') in
       let one : root ≡ root' = same_Some root root' (sym root_at ∙ root_at') in
       ap (λ (p : Port). class_of_net k p.net) (sym same) ∙ (is ∙ ap (λ (r : ClassId). Some r.0) one)
-
-  pub off_root : (j : ℕ) (port : Port) (root : ClassId) → slice_get k.mapped.netlist.outputs j ≡ Some port → slice_get k.roots j ≡ Some root → (class_of_net k port.net ≡ Some root.0 → ⊥) → IsAtRoot k j → ⊥
-  off_root j port root at root_at not is = not (is port root at root_at)
-
-  pub all_at_roots : (n : ℕ) → length k.mapped.netlist.outputs ≤ n → ((j : ℕ) → j < n → IsAtRoot k j) → AreAtRoots k
-  all_at_roots n all before j port root at root_at = let lt = slice_get_within k.mapped.netlist.outputs j port at in before j (omega arith) port root at root_at
 
   -- labels of nets
   module _ (kept : IsNetlist k.mapped.netlist) (one_leaf : length k.graph.leaves ≡ k.mapped.netlist.inputs) (matches : AreMatches k) (potential : HasPotential k) where
@@ -153,18 +147,6 @@ module _ (k : Claim) where
   all_on_time n all before j port at = let lt = slice_get_within k.mapped.netlist.outputs j port at in before j (omega arith) port at
 
   -- reasons
-  pub root_found : (place : ℕ) (port : Port) (root found : ClassId) → IsOffRootAt k place → slice_get k.mapped.netlist.outputs place ≡ Some port → slice_get k.roots place ≡ Some root → class_of_net k port.net ≡ Some found.0 → IsFirstOffRoot k port.name found root
-  root_found place port root found is at root_at has = record {
-    place = place;
-    port = port;
-    at = at;
-    root_at = root_at;
-    named = refl;
-    found_at = has;
-    differs = λ same. is.off (at_root place port root at root_at (has ∙ ap (λ (c : ClassId). Some c.0) same));
-    before = is.before;
-  }
-
   pub time_found : (arrivals : List Micro) (are : AreArrivalsOf k arrivals) (place : ℕ) (port : Port) (arrival label : Micro) → IsOffTimeAt k place → slice_get k.mapped.netlist.outputs place ≡ Some port → slice_get arrivals port.net.0 ≡ Some arrival → label_of_net k port.net ≡ Some label → IsFirstOffTime k port.name arrival label
   time_found arrivals are place port arrival label is at time has =
       let (class, has_class, has_label) = has_net_label port.net label has in record {

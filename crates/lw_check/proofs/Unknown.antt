@@ -1,5 +1,5 @@
 -- The class numbers of a certificate.
-use Rattle.std.proofs.Common.{ℕ, zero, suc, ◌+◌, ◌<◌, ◌≤◌, ◌≡◌, Bool, true, false, cond, leb, nat_le, List, [], ◌∷◌, ◌++◌, length, map, drop, Option, Some, None, find, option_map, slice_get, slice_index_or, refl, ap, sym, ◌∙◌, subst, arith}
+use Rattle.std.proofs.Common.{ℕ, zero, suc, ◌+◌, ◌<◌, ◌≤◌, ◌≡◌, Bool, true, false, cond, leb, nat_le, List, [], ◌∷◌, ◌++◌, map, drop, Option, Some, None, find, option_map, slice_index_or, refl, ap, sym, ◌∙◌, subst, arith}
 use Rattle.std.specs.List.{AllByRecursion, filter_map}
 use Rattle.std.proofs.lemmas.Bool.Decides.{nat_tests}
 use Rattle.std.proofs.lemmas.Option.{same_Some, none-some}
@@ -117,59 +117,3 @@ module _ (n : ℕ) where
       let e : suc m + k ≡ m + suc k = omega arith in
       let low : m < n = omega arith in
       subst (λ t. cond t (Some m) (find (nat_le n) (labelled_from (suc m) ls)) ≡ find (nat_le n) (labelled_from (suc m) ls)) (sym (lt-leb n m low)) refl ∙ (skipped ls (suc m) k (omega arith) ∙ ap (λ i. find (nat_le n) (labelled_from i (drop k ls))) e)
-
-  -- one more class without a label, and one with a label
-  pub labelled_next : (ls : List (Option Micro)) (m k : ℕ) → slice_index_or ls k None ≡ None → labelled_from m (drop k ls) ≡ labelled_from (m + 1) (drop (k + 1) ls)
-  labelled_next [] m k e = ap (λ ls. labelled_from m ls) (drop_none k) ∙ ap (λ ls. labelled_from (m + 1) ls) (sym (drop_none (k + 1)))
-    where
-      drop_none : (j : ℕ) → drop {A = Option Micro} j [] ≡ []
-      drop_none zero = refl
-      drop_none (suc j) = refl
-  labelled_next (None ∷ ls) m zero e = let f : suc m ≡ m + 1 = omega arith in ap (λ i. labelled_from i ls) f
-  labelled_next (Some l ∷ ls) m zero e = absurd (none-some l (sym e))
-  labelled_next (o ∷ ls) m (suc k) e =
-      let f : suc (k + 1) ≡ suc k + 1 = omega arith in
-      labelled_next ls m k e ∙ ap (λ i. labelled_from (m + 1) (drop i (o ∷ ls))) f
-
-  pub labelled_here : (ls : List (Option Micro)) (m k : ℕ) (l : Micro) → slice_index_or ls k None ≡ Some l → n ≤ m → find (nat_le n) (labelled_from m (drop k ls)) ≡ Some m
-  labelled_here [] m k l e le = absurd (none-some l e)
-  labelled_here (None ∷ ls) m zero l e le = absurd (none-some l e)
-  labelled_here (Some x ∷ ls) m zero l e le = subst (λ t. cond t (Some m) (find (nat_le n) (labelled_from (suc m) ls)) ≡ Some m) (sym (true_le m le)) refl
-    where
-      true_le : (m : ℕ) → n ≤ m → leb n m ≡ true
-      true_le m le = grind (arith, nat_tests)
-  labelled_here (o ∷ ls) m (suc k) l e le = labelled_here ls m k l e le
-
-  pub labelled_end : (ls : List (Option Micro)) (m k : ℕ) → length ls ≤ k → find (nat_le n) (labelled_from m (drop k ls)) ≡ None
-  labelled_end [] m zero le = refl
-  labelled_end [] m (suc k) le = refl
-  labelled_end (o ∷ ls) m zero le = absurd (omega arith)
-  labelled_end (o ∷ ls) m (suc k) le = labelled_end ls m k (omega arith)
-
-  -- the same of the gates' classes
-  pub beyond_next : (nets : List (Option ClassId)) (k : ℕ) (o : Option ClassId) → slice_get nets k ≡ Some o → ((c : ClassId) → o ≡ Some c → c.0 < n) → find (nat_le n) (numbers_of (drop k nets)) ≡ find (nat_le n) (numbers_of (drop (k + 1) nets))
-  beyond_next [] k o e low = absurd (none-some o e)
-  beyond_next (None ∷ nets) zero o e low = refl
-  beyond_next (Some c ∷ nets) zero o e low =
-      let lt = low c (sym (same_Some (Some c) o e)) in
-      subst (λ t. cond t (Some c.0) (find (nat_le n) (numbers_of nets)) ≡ find (nat_le n) (numbers_of nets)) (sym (lt-leb n c.0 lt)) refl
-  beyond_next (x ∷ nets) (suc k) o e low =
-      let f : suc (k + 1) ≡ suc k + 1 = omega arith in
-      beyond_next nets k o e low ∙ ap (λ i. find (nat_le n) (numbers_of (drop i (x ∷ nets)))) f
-
-  pub beyond_here : (nets : List (Option ClassId)) (k : ℕ) (c : ClassId) → slice_get nets k ≡ Some (Some c) → n ≤ c.0 → find (nat_le n) (numbers_of (drop k nets)) ≡ Some c.0
-  beyond_here [] k c e le = absurd (none-some (Some c) e)
-  beyond_here (None ∷ nets) zero c e le = absurd (none-some c (same_Some None (Some c) e))
-  beyond_here (Some d ∷ nets) zero c e le =
-      let same : d ≡ c = same_Some d c (same_Some (Some d) (Some c) e) in
-      subst (λ (x : ClassId). cond (leb n x.0) (Some x.0) (find (nat_le n) (numbers_of nets)) ≡ Some c.0) (sym same) (subst (λ t. cond t (Some c.0) (find (nat_le n) (numbers_of nets)) ≡ Some c.0) (sym (true_le c.0 le)) refl)
-    where
-      true_le : (m : ℕ) → n ≤ m → leb n m ≡ true
-      true_le m le = grind (arith, nat_tests)
-  beyond_here (x ∷ nets) (suc k) c e le = beyond_here nets k c e le
-
-  pub beyond_end : (nets : List (Option ClassId)) (k : ℕ) → length nets ≤ k → find (nat_le n) (numbers_of (drop k nets)) ≡ None
-  beyond_end [] zero le = refl
-  beyond_end [] (suc k) le = refl
-  beyond_end (x ∷ nets) zero le = absurd (omega arith)
-  beyond_end (x ∷ nets) (suc k) le = beyond_end nets k (omega arith)

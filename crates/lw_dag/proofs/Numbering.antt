@@ -100,7 +100,3 @@ distinct-hits (x ∷ xs) few = (
 
 pub distinct_moved : (xs ys : List (List ℕ)) → IsPermutation xs ys → IsDistinct bytes_eq xs → IsDistinct bytes_eq ys
 distinct_moved xs ys moved distinct = distinct-hits ys (λ name. subst (λ n. n ≤ 1) (sym (sum_by-IsPermutation (λ y. cond (bytes_eq name y) 1 0) xs ys moved)) (hits-distinct name xs distinct))
-
-hits-append : (name : List ℕ) (xs ys : List (List ℕ)) → hits name (xs ++ ys) ≡ hits name xs + hits name ys
-hits-append name [] ys = omega arith
-hits-append name (x ∷ xs) ys = omega (arith, hits-cons name x (xs ++ ys), hits-cons name x xs, hits-append name xs ys)

@@ -9,7 +9,7 @@ use Rattle.lw_facts.proofs.Lists.{get_reverse, contains_take_reverse, some_withi
 use Rattle.lw_pool.specs.declared.id.NetId.{NetId}
 use Rattle.lw_naming.specs.declared.places.Place.{Place}
 use Rattle.lw_naming.specs.Places.{IsPlaceBefore, AreInDepthOrder}
-use Rattle.lw_naming.proofs.Sorting.{AreInOrderBelow, in_order_none, in_order_push, in_order_skip}
+use Rattle.lw_naming.proofs.Sorting.{AreInOrderBelow, in_order_push, in_order_skip}
 use Rattle.lw_match.specs.declared.mark.Mark.{Mark}
 use Rattle.lw_extract.specs.Orders.{ArePlaces, AreMarked}
 
@@ -19,13 +19,6 @@ module _ (nets : List (Option NetId)) (marks : List (Option Mark)) where
     pub order : AreInOrderBelow count places
     pub each : (p : Place) → Contains places p → (m : Mark) × (slice_index_or marks p.class.0 None ≡ Some m) × (p.depth ≡ m.height) × (slice_index_or nets p.class.0 None ≡ None)
     pub all : (c : ℕ) (m : Mark) → c < count → slice_index_or marks c None ≡ Some m → slice_index_or nets c None ≡ None → (p : Place) × Contains places p × (p.class.0 ≡ c)
-
-  pub marked_none : AreMarkedBelow 0 []
-  marked_none = record {
-    order = in_order_none;
-    each = λ p (k, lt, e). absurd (omega arith);
-    all = λ c m lt e f. absurd (omega arith);
-  }
 
   -- the next class has a mark and is no input's
   pub marked_push : (count : ℕ) (places : List Place) (p : Place) (m : Mark) → p.class.0 ≡ count → slice_index_or marks count None ≡ Some m → p.depth ≡ m.height → slice_index_or nets count None ≡ None → AreMarkedBelow count places → AreMarkedBelow (count + 1) (places ++ p ∷ [])

@@ -11,7 +11,8 @@ pub(crate) fn has_digits(whole: &[u8], decimals: &[u8]) -> bool
     are_digits(whole) && are_digits(decimals) && !(whole.is_empty() && decimals.is_empty())
 }
 
-fn are_digits(bytes: &[u8]) -> bool
+/// Whether all bytes are decimal digits.
+pub fn are_digits(bytes: &[u8]) -> bool
     ensures { result ≡ list_all is_ascii_digit bytes.now }
 {
     bytes.iter().all(|b| b.is_ascii_digit())

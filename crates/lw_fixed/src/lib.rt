@@ -9,6 +9,7 @@ mod micro;
 mod printing;
 mod reading;
 
+pub use digits::are_digits;
 pub use fault::DecimalFault;
 pub use laws::{printed_is_shortest, printed_reads_back, shortest_is_printed};
 pub use lists::Micros;

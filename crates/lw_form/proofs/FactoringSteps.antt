@@ -1,8 +1,7 @@
 -- Factoring by tasks.
-use Rattle.std.proofs.Common.{◌≡◌, ◌+◌, ◌-◌, ◌/◌, ◌<◌, ◌≤◌, ℕ, zero, suc, Bool, true, false, not, cond, ltb, Option, Some, None, List, [], ◌∷◌, ◌++◌, length, map, filter, drop, get_or, refl, ap, ap₂, sym, ◌∙◌, subst, arith, append_assoc, ltb-true, length-append, Vec, Global}
+use Rattle.std.proofs.Common.{◌≡◌, ◌+◌, ◌-◌, ◌/◌, ◌<◌, ◌≤◌, ℕ, zero, suc, Bool, true, false, not, cond, ltb, Option, Some, None, List, [], ◌∷◌, ◌++◌, length, map, filter, drop, get_or, refl, ap, ap₂, sym, ◌∙◌, subst, arith, ltb-true, length-append, Vec, Global}
 use Rattle.std.specs.List.{AllByRecursion}
 use Rattle.std.proofs.lemmas.List.{at_drop_more, length-map, map-append, drop_all}
-use Rattle.std.proofs.lemmas.Bool.{ltb-false}
 use Rattle.lw_facts.proofs.Lists.{all_front, all_last}
 use Rattle.lw_laws.specs.Forms.{Form, conjunction, disjunction}
 use Rattle.lw_laws.specs.Signals as laws
@@ -45,18 +44,6 @@ pub count_all : (l : laws.Literal) (rows : List (List (Option Bool))) (i n : ℕ
 count_all l rows i n le so = let e : count_having l (drop i rows) ≡ 0 = ap (count_having l) (drop_all i rows le) in omega arith
 
 -- the choice of a literal
-
-pub better_more : (rows : List (List (Option Bool))) (l : laws.Literal) (n count : ℕ) (best : Option laws.Literal) → count ≡ count_having l rows → n < count → (ls : List laws.Literal) → most_common rows ls count (Some l) ≡ most_common rows (l ∷ ls) n best
-better_more rows l n count best e lt ls = by_test (ltb n (count_having l rows)) refl where
-  by_test : (t : Bool) → ltb n (count_having l rows) ≡ t → most_common rows ls count (Some l) ≡ elim t [ true ↦ most_common rows ls (count_having l rows) (Some l) | false ↦ most_common rows ls n best ]
-  by_test true s = ap (λ k. most_common rows ls k (Some l)) e
-  by_test false s = absurd (let k = ltb-false n (count_having l rows) s in omega arith)
-
-pub better_not : (rows : List (List (Option Bool))) (l : laws.Literal) (n count : ℕ) (best : Option laws.Literal) → count ≡ count_having l rows → count ≤ n → (ls : List laws.Literal) → most_common rows ls n best ≡ most_common rows (l ∷ ls) n best
-better_not rows l n count best e le ls = by_test (ltb n (count_having l rows)) refl where
-  by_test : (t : Bool) → ltb n (count_having l rows) ≡ t → most_common rows ls n best ≡ elim t [ true ↦ most_common rows ls (count_having l rows) (Some l) | false ↦ most_common rows ls n best ]
-  by_test true s = absurd (let lt = ltb-true n (count_having l rows) s in omega arith)
-  by_test false s = refl
 
 abbrev pub literal_at : ℕ → Bool → laws.Literal
 literal_at column sign = record { column = column; sign = sign }
@@ -102,42 +89,9 @@ having l rows = map (cleared l) (filter (has l) rows)
 abbrev pub others : laws.Literal → List (List (Option Bool)) → List (List (Option Bool))
 others l rows = filter (λ r. not (has l r)) rows
 
-pub having_yes : (l : laws.Literal) (row : List (Option Bool)) → has l row ≡ true → having l (row ∷ []) ≡ cleared l row ∷ []
-having_yes l row e = ap (λ t. map (cleared l) (cond t (row ∷ []) [])) e
-
-pub having_no : (l : laws.Literal) (row : List (Option Bool)) → has l row ≡ false → having l (row ∷ []) ≡ []
-having_no l row e = ap (λ t. map (cleared l) (cond t (row ∷ []) [])) e
-
-pub others_yes : (l : laws.Literal) (row : List (Option Bool)) → has l row ≡ true → others l (row ∷ []) ≡ []
-others_yes l row e = ap (λ t. cond (not t) (row ∷ []) []) e
-
-pub others_no : (l : laws.Literal) (row : List (Option Bool)) → has l row ≡ false → others l (row ∷ []) ≡ row ∷ []
-others_no l row e = ap (λ t. cond (not t) (row ∷ []) []) e
-
-having_cons : (l : laws.Literal) (row : List (Option Bool)) (rows : List (List (Option Bool))) → having l (row ∷ rows) ≡ having l (row ∷ []) ++ having l rows
-having_cons l row rows = by_test (has l row) where
-  by_test : (t : Bool) → map (cleared l) (cond t (row ∷ filter (has l) rows) (filter (has l) rows)) ≡ map (cleared l) (cond t (row ∷ []) []) ++ having l rows
-  by_test true = refl
-  by_test false = refl
-
-others_cons : (l : laws.Literal) (row : List (Option Bool)) (rows : List (List (Option Bool))) → others l (row ∷ rows) ≡ others l (row ∷ []) ++ others l rows
-others_cons l row rows = by_test (has l row) where
-  by_test : (t : Bool) → cond (not t) (row ∷ others l rows) (others l rows) ≡ cond (not t) (row ∷ []) [] ++ others l rows
-  by_test true = refl
-  by_test false = refl
-
 pub record CutSoFar (l : laws.Literal) (all left kept_rows other_rows : List (List (Option Bool))) : Type 0 where
   pub having_is : kept_rows ++ having l left ≡ having l all
   pub others_is : other_rows ++ others l left ≡ others l all
-
-pub cut_first : (l : laws.Literal) (all kept_rows other_rows : List (List (Option Bool))) → kept_rows ≡ [] → other_rows ≡ [] → CutSoFar l all all kept_rows other_rows
-cut_first l all kept_rows other_rows y n = record { having_is = ap (λ k. k ++ having l all) y; others_is = ap (λ k. k ++ others l all) n }
-
-pub cut_more : (l : laws.Literal) (all left kept_rows other_rows having_new others_new : List (List (Option Bool))) (row : List (Option Bool)) → CutSoFar l all (row ∷ left) kept_rows other_rows → having_new ≡ kept_rows ++ having l (row ∷ []) → others_new ≡ other_rows ++ others l (row ∷ []) → CutSoFar l all left having_new others_new
-cut_more l all left kept_rows other_rows having_new others_new row so y n = record {
-  having_is = ap (λ k. k ++ having l left) y ∙ (append_assoc kept_rows (having l (row ∷ [])) (having l left) ∙ (ap (λ k. kept_rows ++ k) (sym (having_cons l row left)) ∙ so.having_is));
-  others_is = ap (λ k. k ++ others l left) n ∙ (append_assoc other_rows (others l (row ∷ [])) (others l left) ∙ (ap (λ k. other_rows ++ k) (sym (others_cons l row left)) ∙ so.others_is));
-}
 
 -- columns and signs of cut rows
 

@@ -1,14 +1,14 @@
 -- The finished list of the forms of a network.
-use Rattle.std.proofs.Common.{◌≡◌, ◌+◌, ◌<◌, ◌≤◌, ℕ, zero, suc, List, [], ◌∷◌, length, map, Some, slice_get, refl, ap, ap₂, sym, ◌∙◌, subst, arith}
+use Rattle.std.proofs.Common.{◌≡◌, ◌+◌, ◌<◌, ◌≤◌, ℕ, zero, suc, List, [], ◌∷◌, length, map, Some, slice_get, refl, ap, ap₂, sym, ◌∙◌, arith}
 use Rattle.std.proofs.lemmas.List.{length-map}
 use Rattle.lw_net.specs.Networks.{NetworkParts, IsNetwork}
 use Rattle.lw_net.specs.Plain.{plain, plain_node}
 use Rattle.lw_laws.specs.Networks.{Network}
-use Rattle.lw_laws.specs.Decompositions.{Listing, listing_of, Occurs, base_form}
+use Rattle.lw_laws.specs.Decompositions.{Listing, listing_of, Occurs}
 use Rattle.lw_laws.specs.Forms.{Form}
 use Rattle.lw_laws.specs.Listings.{IsListing}
 use Rattle.lw_laws.specs.Mapped.{forms_of}
-use Rattle.lw_laws.specs.Numbering.{number, numbered_base, sop_number, fac_number}
+use Rattle.lw_laws.specs.Numbering.{numbered_base, sop_number, fac_number}
 use Rattle.lw_laws.specs.NumberedForms as laws
 use Rattle.lw_laws.specs.NumberedForms.{NumberedForms}
 use Rattle.lw_laws.specs.NumberedForms.Base.{base_and}
@@ -16,8 +16,8 @@ use Rattle.lw_laws.specs.Occurring.{occurring_forms}
 use Rattle.lw_laws.specs.Signals.{Signal, signals_of}
 use Rattle.lw_laws.proofs.Listed.{occurring_is_listing}
 use Rattle.lw_form.specs.Kept.{AreForms}
-use Rattle.lw_form.specs.Limits.{most_bases, most_operands}
-use Rattle.lw_form.specs.Listed.{base_at, bases_of, place_of, IsListed}
+use Rattle.lw_form.specs.Limits.{most_operands}
+use Rattle.lw_form.specs.Listed.{base_at, bases_of, IsListed}
 use Rattle.lw_form.specs.Nets.{signals_at, AreListed}
 use Rattle.lw_form.specs.Renumbered.{renumber, ArePlaced, AreOfListing}
 use Rattle.lw_form.specs.Tables.{AreBelow, AreMade, Table, made}

@@ -11,7 +11,7 @@ use Rattle.lw_laws.specs.Signals.{Signal, signal_of_node, signals_after, input_s
 use Rattle.lw_laws.specs.Occurring.{occurring_forms, HasInputsFirst}
 use Rattle.lw_laws.specs.Decompositions.{Listing, listing_of, Occurs, base_form}
 use Rattle.lw_laws.specs.Listings.{IsListing, AreDistinct, sign_of}
-use Rattle.lw_laws.specs.Numbering.{place, number, numbered, numbered_base, sop_number, fac_number}
+use Rattle.lw_laws.specs.Numbering.{number, numbered, numbered_base, sop_number, fac_number}
 use Rattle.lw_laws.specs.NumberedForms.{Base}
 use Rattle.lw_laws.specs.NumberedForms.Base.{base_and}
 use Rattle.lw_laws.specs.SignalValues.{number_value, SignalsAgree}
@@ -54,9 +54,6 @@ not_both false p q = cc
 module _ (o : Listing) (is : IsListing o) where
   abbrev N : Form → ℕ
   N f = number o.bases f
-
-  half_number : (f : Form) → N f / 2 ≡ place (base_form f) o.bases
-  half_number f = let s = sign_two f in omega arith
 
   -- numbers with one base form are of one form, or of complements
   one_base : (f h : Form) → Occurs o f → Occurs o h → N f / 2 ≡ N h / 2 → base_form f ≡ base_form h

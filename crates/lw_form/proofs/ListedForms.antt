@@ -1,5 +1,5 @@
 -- The list of base forms as places in a table.
-use Rattle.std.proofs.Common.{◌≡◌, ◌≢◌, ◌+◌, ◌-◌, ◌*◌, ◌/◌, ◌%◌, ◌^◌, ◌==◌, ◌<◌, ◌≤◌, ◌⊎◌, inl, inr, ℕ, zero, suc, Bool, true, false, cond, leb, leb-true, pow-suc, if◌then◌else◌, List, [], ◌∷◌, ◌++◌, length, map, drop, replicate, Some, Result, Ok, Err, IfErr, slice_get, get_or, slice_set, refl, ap, ap₂, sym, ◌∙◌, subst, arith}
+use Rattle.std.proofs.Common.{◌≡◌, ◌≢◌, ◌+◌, ◌-◌, ◌*◌, ◌/◌, ◌%◌, ◌^◌, ◌==◌, ◌<◌, ◌≤◌, ◌⊎◌, inl, inr, ℕ, zero, suc, Bool, true, false, cond, leb, leb-true, pow-suc, if◌then◌else◌, List, [], ◌∷◌, ◌++◌, length, map, drop, replicate, Some, Result, Ok, Err, IfErr, slice_get, get_or, refl, ap, ap₂, sym, ◌∙◌, subst, arith}
 use Rattle.std.specs.List.{AllByRecursion}
 use Rattle.std.specs.Result.{IsErrAnd}
 use Rattle.std.proofs.lemmas.Bool.{le-leb}
@@ -126,23 +126,6 @@ place_more [] n x = nowhere n x where
   nowhere (suc n) (suc x) = nowhere n x
 place_more (p ∷ places) n zero = refl
 place_more (p ∷ places) n (suc x) = place_more places n x
-
-pub place_set : (places : List ℕ) (b v : ℕ) → b < length places → place_of (slice_set places b v) b ≡ v
-place_set [] b v lt = absurd (omega arith)
-place_set (p ∷ places) zero v lt = refl
-place_set (p ∷ places) (suc b) v lt = place_set places b v (omega arith)
-
-pub place_other : (places : List ℕ) (b v x : ℕ) → x ≢ b → place_of (slice_set places b v) x ≡ place_of places x
-place_other [] b v x ne = refl
-place_other (p ∷ places) zero v zero ne = absurd (ne refl)
-place_other (p ∷ places) zero v (suc x) ne = refl
-place_other (p ∷ places) (suc b) v zero ne = refl
-place_other (p ∷ places) (suc b) v (suc x) ne = place_other places b v x (λ e. ne (ap suc e))
-
-pub place_past : (places : List ℕ) (b : ℕ) → length places ≤ b → place_of places b ≡ no_place
-place_past [] b le = refl
-place_past (p ∷ places) zero le = absurd (omega arith)
-place_past (p ∷ places) (suc b) le = place_past places b (omega arith)
 
 -- steps
 
@@ -419,9 +402,6 @@ parts_done old now ids old_bases mask listed places le so =
 
 -- the parts of an And are listed
 module _ (now next : Table) (listed places new_listed new_places : List ℕ) (steps : List Step) (b : ℕ) (goal : List Form) (w : IsAdding now listed places (steps ++ Parts b ∷ []) goal) where
-  pub parts_below : b < length (made now)
-  parts_below = all_last (StepFits (length (made now))) steps (Parts b) w.fit
-
   parts_fit : AllByRecursion (StepFits (length (made now))) steps
   parts_fit = all_front (StepFits (length (made now))) steps (Parts b ∷ []) w.fit
 

@@ -112,9 +112,6 @@ module _ (forms : List Form) (are : AreMade forms) (listed places : List ℕ) (i
     by_test true s ih = absurd (h 0 (ap Some (sym (same_eq key k s))))
     by_test false s ih = ih
 
-  all_bases : List laws.Base
-  all_bases = map (numbered_base o.bases) o.bases
-
   get_take : (xs : List laws.Base) (i j : ℕ) (x : laws.Base) → slice_get (take i xs) j ≡ Some x → (j < i) × (slice_get xs j ≡ Some x)
   get_take [] zero j x e = cc
   get_take [] (suc i) j x e = cc

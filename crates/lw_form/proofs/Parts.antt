@@ -1,15 +1,14 @@
 -- The And of some operands of a listed And.
-use Rattle.std.proofs.Common.{◌≡◌, ◌+◌, ◌*◌, ◌/◌, ◌%◌, ◌^◌, ◌==◌, ◌<◌, ◌≤◌, ◌⊎◌, inl, inr, ℕ, zero, suc, Bool, true, false, ◌||◌, if◌then◌else◌, List, [], ◌∷◌, ◌++◌, length, map, drop, Option, Some, None, slice_get, get_or, refl, ap, sym, ◌∙◌, subst, arith, pow-suc, append_assoc, eq-or-lt_of_le}
-use Rattle.std.specs.List.{position, list_any, AllByRecursion}
-use Rattle.std.specs.Str.{bytes_eq}
+use Rattle.std.proofs.Common.{◌≡◌, ◌+◌, ◌*◌, ◌/◌, ◌%◌, ◌^◌, ◌==◌, ◌<◌, ◌≤◌, ◌⊎◌, inl, inr, ℕ, zero, suc, Bool, true, false, ◌||◌, if◌then◌else◌, List, [], ◌∷◌, ◌++◌, length, map, drop, Option, Some, slice_get, get_or, refl, ap, sym, ◌∙◌, subst, arith, pow-suc, append_assoc, eq-or-lt_of_le}
+use Rattle.std.specs.List.{position, list_any}
 use Rattle.std.proofs.lemmas.List.{at_drop_more}
 use Rattle.std.proofs.lemmas.List.Quantifiers.{position-Some}
 use Rattle.std.proofs.lemmas.Option.{slice_get-get_or}
 use Rattle.std.proofs.lemmas.Slice.Eq.{bytes_eq-Decides}
-use Rattle.lw_laws.specs.NumberedForms.{Base as PlainBase, NumberedForms, IsCut, IsPart, IsBefore, IsListedAnd, AreNumberedForms}
-use Rattle.lw_laws.specs.NumberedForms.Base.{base_true, base_input, base_and}
+use Rattle.lw_laws.specs.NumberedForms.{Base as PlainBase, NumberedForms, IsCut, IsPart, IsListedAnd}
+use Rattle.lw_laws.specs.NumberedForms.Base.{base_and}
 use Rattle.lw_laws.specs.NumberedForms.IsCut.{cut_none, cut_left, cut_right}
-use Rattle.lw_laws.proofs.Numbers.{slice_get_map, slice_get_map_back}
+use Rattle.lw_laws.proofs.Numbers.{slice_get_map}
 use Rattle.lw_form.specs.declared.base.Base.{Base}
 use Rattle.lw_form.specs.declared.base.Base.TheVariants.{True, Input, And}
 use Rattle.lw_form.specs.contracts.base.BasePartialEq.TheImpl.{eq-value}

@@ -133,13 +133,6 @@ cubes_more width old now next fanins rows i row cubes cubes' n below lt r m grow
       ∙ (ap (λ k. forms_at (made now) cubes ++ k) (ap (λ k. cube width fs k ∷ rest) r ∙ sym (at_drop_more (map (cube width fs)) rows i row lt)) ∙ so.same)));
 })
 
-pub cubes_done : (width : ℕ) (old now : Table) (fanins : List ℕ) (rows : List (List (Option Bool))) (i : ℕ) (cubes : List ℕ) → length rows ≤ i → CubesSoFar width old now fanins rows i cubes → AreMadeAs old now cubes (map (cube width (forms_at (made old) fanins)) rows)
-cubes_done width old now fanins rows i cubes le so = record {
-  more = so.more;
-  within = so.within;
-  are = sym (append-nil (forms_at (made now) cubes)) ∙ (ap (λ l. forms_at (made now) cubes ++ map (cube width (forms_at (made old) fanins)) l) (sym (drop_all i rows le)) ∙ so.same);
-}
-
 pub sum_made : (width : ℕ) (old now next : Table) (fanins cubes : List ℕ) (rows : List (List (Option Bool))) (n : ℕ) → AreMadeAs old now cubes (map (cube width (forms_at (made old) fanins)) rows) → IsMadeAs now next n (disjunction width (forms_at (made now) cubes)) → IsMadeAs old next n (sum_of_products width (forms_at (made old) fanins) rows)
 sum_made width old now next fanins cubes rows n c m = record {
   more = more_twice (made old) (made now) (made next) c.more m.more;

@@ -1,7 +1,7 @@
 -- The values of base forms where every input is false.
-use Rattle.std.proofs.Common.{◌≡◌, ◌+◌, ◌*◌, ◌/◌, ◌%◌, ◌==◌, ◌<◌, ◌≤◌, ◌⊎◌, inl, inr, ℕ, zero, suc, Bool, true, false, not, ◌&&◌, if◌then◌else◌, List, [], ◌∷◌, ◌++◌, length, map, drop, Some, slice_get, get_or, refl, ap, ap₂, sym, ◌∙◌, subst, arith, length-append}
+use Rattle.std.proofs.Common.{◌≡◌, ◌+◌, ◌*◌, ◌/◌, ◌%◌, ◌==◌, ◌<◌, ◌≤◌, ◌⊎◌, inl, inr, ℕ, zero, suc, Bool, false, not, ◌&&◌, if◌then◌else◌, List, [], ◌∷◌, ◌++◌, length, map, Some, slice_get, get_or, refl, ap, ap₂, sym, ◌∙◌, subst, arith, length-append}
 use Rattle.std.specs.List.{list_all, AllByRecursion}
-use Rattle.std.proofs.lemmas.List.{at_drop_more, length-map, drop_all}
+use Rattle.std.proofs.lemmas.List.{length-map}
 use Rattle.std.proofs.lemmas.Option.{get_or_from_slice_get}
 use Rattle.lw_facts.proofs.Lists.{get_left, get_last}
 use Rattle.lw_laws.proofs.Flips.{flip_even}
@@ -14,15 +14,6 @@ use Rattle.lw_form.specs.Bases.{plain_base}
 use Rattle.lw_form.specs.Kept.{AreSamples}
 use Rattle.lw_form.specs.Sampled.{sample_value, sample_base}
 use Rattle.lw_form.specs.Tables.{AreBelow}
-
-pub all_step : (samples : List Bool) (fs : List ℕ) (i : ℕ) (value goals : Bool) → i < length fs → value ≡ sample_value samples (get_or fs i 0) → value ≡ true → list_all (sample_value samples) (drop i fs) ≡ goals → list_all (sample_value samples) (drop (i + 1) fs) ≡ goals
-all_step samples fs i value goals lt e t so = sym (at_drop_more (list_all (sample_value samples)) fs i 0 lt ∙ ap (λ b. b && list_all (sample_value samples) (drop (i + 1) fs)) (sym e ∙ t)) ∙ so
-
-pub all_false : (samples : List Bool) (fs : List ℕ) (i : ℕ) (value goals : Bool) → i < length fs → value ≡ sample_value samples (get_or fs i 0) → value ≡ false → list_all (sample_value samples) (drop i fs) ≡ goals → false ≡ goals
-all_false samples fs i value goals lt e t so = sym (at_drop_more (list_all (sample_value samples)) fs i 0 lt ∙ ap (λ b. b && list_all (sample_value samples) (drop (i + 1) fs)) (sym e ∙ t)) ∙ so
-
-pub all_end : (samples : List Bool) (fs : List ℕ) (i : ℕ) (goals : Bool) → length fs ≤ i → list_all (sample_value samples) (drop i fs) ≡ goals → true ≡ goals
-all_end samples fs i goals le so = ap (list_all (sample_value samples)) (sym (drop_all i fs le)) ∙ so
 
 -- what is known of the samples so far
 abbrev pub SampledSoFar : List laws.Base → ℕ → List Bool → Type 0

@@ -24,19 +24,6 @@ among-filter q name (other ∷ names) keeps same = by_case (bytes_eq name other)
     by_case false e false f others =
         ap (λ u. is_among (cond u (other ∷ filter q names) (filter q names)) name) f ∙ (others ∙ sym (ap (λ u. u || is_among names name) e))
 
-pub among-once : (names : List (List ℕ)) (name : List ℕ) → is_among (each_once names) name ≡ is_among names name
-among-once [] name = refl
-among-once (first ∷ names) name = by_case (bytes_eq name first) refl (among-once names name)
-  where
-    by_case : (b : Bool) → bytes_eq name first ≡ b → is_among (each_once names) name ≡ is_among names name → (bytes_eq name first || is_among (filter (λ other. not (bytes_eq first other)) (each_once names)) name) ≡ (bytes_eq name first || is_among names name)
-    by_case true e others = ap (λ u. u || is_among (filter (λ other. not (bytes_eq first other)) (each_once names)) name) e ∙ sym (ap (λ u. u || is_among names name) e)
-    by_case false e others =
-        let differs : not (bytes_eq first name) ≡ true = ap not (bytes_eq_turned first name ∙ e) in
-        ap (λ u. bytes_eq name first || u)
-        (among-filter (λ other. not (bytes_eq first other)) name (each_once names) differs
-        (λ other f. let is : name ≡ other = (bytes_decides name other).0 f in ap (λ n. not (bytes_eq first n)) (sym is))
-        ∙ others)
-
 once-push : (names : List (List ℕ)) (name : List ℕ) → each_once (names ++ name ∷ []) ≡ insert_key bytes_eq (each_once names) name
 once-push [] name = refl
 once-push (first ∷ names) name =

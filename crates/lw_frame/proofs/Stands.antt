@@ -1,5 +1,5 @@
 -- One more arrival line.
-use Rattle.std.proofs.Common.{ℕ, ◌≡◌, Bool, true, false, cond, List, [], ◌∷◌, ◌++◌, map, filter, reverse, Option, Some, None, refl, ap, sym, ◌∙◌, subst, append-nil}
+use Rattle.std.proofs.Common.{ℕ, ◌≡◌, Bool, true, false, cond, List, [], ◌∷◌, ◌++◌, map, filter, reverse, Option, Some, None, refl, ap, sym, ◌∙◌, append-nil}
 use Rattle.std.specs.Prelude.{unwrap_or}
 use Rattle.std.specs.Str.{bytes_eq}
 use Rattle.std.proofs.lemmas.List.{reverse-append}
@@ -7,7 +7,7 @@ use Rattle.std.proofs.lemmas.List.Elements.{filter-append}
 use Rattle.indexmap.specs.IndexMap.{get}
 use Rattle.lw_fixed.specs.declared.micro.Micro.{Micro}
 use Rattle.lw_frame.specs.declared.arrivals.Arrivals.{Arrivals}
-use Rattle.lw_frame.specs.Starts.{Arrival, first_start, last_start, is_named, is_for_all, at_once, start_of, IsEarly}
+use Rattle.lw_frame.specs.Starts.{Arrival, first_start, last_start, is_named, is_for_all, at_once, start_of}
 use Rattle.lw_frame.specs.Standing.{StandsFor}
 use Rattle.lw_frame.specs.Kept.{start_kept}
 
@@ -37,15 +37,6 @@ stands-every old new start lines own every h = record {
   own = λ q. own q ∙ (h.own q ∙ sym (last_start-more (is_named q) lines (record { named = None; start = start })));
   every = every ∙ sym (last_start-more is_for_all lines (record { named = None; start = start }));
 }
-
--- what is kept is early
-pub early-set : (old : List ℕ → Option Micro) (name : List ℕ) (start : Micro) (got : List ℕ → Option Micro) → ((q : List ℕ) → got q ≡ cond (bytes_eq name q) (Some start) (old q)) → IsEarly start → ((q : List ℕ) (s : Micro) → old q ≡ Some s → IsEarly s) →
-    (q : List ℕ) (s : Micro) → got q ≡ Some s → IsEarly s
-early-set old name start got is early before q s e = by_case (bytes_eq name q) (sym (is q) ∙ e)
-  where
-    by_case : (b : Bool) → cond b (Some start) (old q) ≡ Some s → IsEarly s
-    by_case true h = let same : start ≡ s = cc in subst IsEarly same early
-    by_case false h = before q s h
 
 -- the starts that are kept are those of the lines
 pub starts-are : (arrivals : Arrivals) (lines : List Arrival) (names : List (List ℕ)) → StandsFor arrivals lines → map (start_kept arrivals) names ≡ map (start_of lines) names

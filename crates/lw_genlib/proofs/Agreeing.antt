@@ -45,9 +45,6 @@ module _ (tokens : List Token) (output : List ℕ) (pins : List (List ℕ)) (for
   pub inner-is : inner_of tokens ≡ f.inner
   inner-is = (inner_at tokens f.inner output f.whole).1
 
-  pub tokens-size : length tokens ≡ length f.inner + 3
-  tokens-size = (inner_at tokens f.inner output f.whole).0
-
   pins-from : pins ≡ pins_from [] f.inner
   pins-from = f.pins_are ∙ (ap pins_in f.whole ∙ pins-end [] f.inner)
 

@@ -25,15 +25,6 @@ abbrev pub In : List (List ℕ) → List ℕ → Type 0
 In [] n = ⊥
 In (x ∷ xs) n = (x ≡ n) ⊎ In xs n
 
-pub in-among : (names : List (List ℕ)) (n : List ℕ) → In names n → is_among n names ≡ true
-in-among [] n h = absurd h
-in-among (x ∷ xs) n (inl e) = ap (λ b. b || is_among n xs) (bytes_eq_same n x (sym e))
-in-among (x ∷ xs) n (inr h) = at (bytes_eq n x) (in-among xs n h)
-  where
-    at : (b : Bool) → is_among n xs ≡ true → (b || is_among n xs) ≡ true
-    at true e = refl
-    at false e = e
-
 pub among-in : (names : List (List ℕ)) (n : List ℕ) → is_among n names ≡ true → In names n
 among-in [] n e = absurd (false≢true e)
 among-in (x ∷ xs) n e = at (bytes_eq n x) refl e (λ g. among-in xs n g)

@@ -21,18 +21,6 @@ module _ {A B : Type 0} where
       none (z ∷ zs) = refl
   zip-end (a ∷ xs) (b ∷ ys) (suc i) le = zip-end xs ys i (omega arith)
 
-  pub any-here : (t : A × B → Bool) (xs : List A) (ys : List B) (i : ℕ) (x : A) (y : B) → i < length xs → i < length ys → x ≡ get_or xs i x → y ≡ get_or ys i y → t (x, y) ≡ true
-      → list_any t (zip (drop i xs) (drop i ys)) ≡ list_any t (zip xs ys) → true ≡ list_any t (zip xs ys)
-  any-here t xs ys i x y lx ly ex ey here is =
-      sym (sym is ∙ (ap (list_any t) (zip-at xs ys i x y lx ly ex ey) ∙ ap (λ b. b || list_any t (zip (drop (suc i) xs) (drop (suc i) ys))) here))
-
-  pub any-next : (t : A × B → Bool) (xs : List A) (ys : List B) (i : ℕ) (x : A) (y : B) → i < length xs → i < length ys → x ≡ get_or xs i x → y ≡ get_or ys i y → t (x, y) ≡ false
-      → list_any t (zip (drop i xs) (drop i ys)) ≡ list_any t (zip xs ys) → list_any t (zip (drop (i + 1) xs) (drop (i + 1) ys)) ≡ list_any t (zip xs ys)
-  any-next t xs ys i x y lx ly ex ey here is =
-      let next : i + 1 ≡ suc i = omega arith in
-      ap (λ n. list_any t (zip (drop n xs) (drop n ys))) next
-      ∙ (sym (ap (list_any t) (zip-at xs ys i x y lx ly ex ey) ∙ ap (λ b. b || list_any t (zip (drop (suc i) xs) (drop (suc i) ys))) here) ∙ is)
-
   pub any-end : (t : A × B → Bool) (xs : List A) (ys : List B) (i : ℕ) → min (length xs) (length ys) ≤ i → list_any t (zip (drop i xs) (drop i ys)) ≡ list_any t (zip xs ys) → false ≡ list_any t (zip xs ys)
   any-end t xs ys i le is = sym (ap (list_any t) (zip-end xs ys i le)) ∙ is
 
@@ -40,13 +28,6 @@ module _ {A B : Type 0} where
       → list_all t (zip (drop i xs) (drop i ys)) ≡ list_all t (zip xs ys) → false ≡ list_all t (zip xs ys)
   all-fails t xs ys i x y lx ly ex ey here is =
       sym (sym is ∙ (ap (list_all t) (zip-at xs ys i x y lx ly ex ey) ∙ ap (λ b. b && list_all t (zip (drop (suc i) xs) (drop (suc i) ys))) here))
-
-  pub all-next : (t : A × B → Bool) (xs : List A) (ys : List B) (i : ℕ) (x : A) (y : B) → i < length xs → i < length ys → x ≡ get_or xs i x → y ≡ get_or ys i y → t (x, y) ≡ true
-      → list_all t (zip (drop i xs) (drop i ys)) ≡ list_all t (zip xs ys) → list_all t (zip (drop (i + 1) xs) (drop (i + 1) ys)) ≡ list_all t (zip xs ys)
-  all-next t xs ys i x y lx ly ex ey here is =
-      let next : i + 1 ≡ suc i = omega arith in
-      ap (λ n. list_all t (zip (drop n xs) (drop n ys))) next
-      ∙ (sym (ap (list_all t) (zip-at xs ys i x y lx ly ex ey) ∙ ap (λ b. b && list_all t (zip (drop (suc i) xs) (drop (suc i) ys))) here) ∙ is)
 
   pub all-end : (t : A × B → Bool) (xs : List A) (ys : List B) (i : ℕ) → min (length xs) (length ys) ≤ i → list_all t (zip (drop i xs) (drop i ys)) ≡ list_all t (zip xs ys) → true ≡ list_all t (zip xs ys)
   all-end t xs ys i le is = sym (ap (list_all t) (zip-end xs ys i le)) ∙ is

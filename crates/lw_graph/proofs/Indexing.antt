@@ -37,14 +37,6 @@ module _ (rows : List (List Pair)) where
   ListsBelow n entries =
       (e : Entry) → Contains entries e ↔ ((e.class.0 < n) × Contains (slice_index_or rows e.class.0 []) e.pair)
 
-  pub lists_none : (entries : List Entry) → entries ≡ [] → ListsBelow 0 entries
-  lists_none entries none e = (
-    λ c. absurd (empty (subst (λ es. Contains es e) none c)),
-    λ (lt, c). absurd (omega arith),
-  ) where
-    empty : Contains [] e → ⊥
-    empty (k, lt, s) = omega arith
-
   -- those of one class more
   pub lists_more : (n : ℕ) (class : ClassId) (row : List Pair) (old new : List Entry) → class.0 ≡ n → slice_index_or rows n [] ≡ row → new ≡ old ++ map (entry_of class) row → ListsBelow n old → ListsBelow (n + 1) new
   lists_more n class row old new at is added below e = (to, from) where

@@ -45,10 +45,6 @@ pub part_more : (start taken : Option (List ℕ)) (text piece : List ℕ) → Ap
 part_more start taken text piece (n, within, p) =
     (n, omega (arith, within, length-append text piece), subst (λ l. Appends start taken l) (sym (take-append-le n text piece within)) p)
 
--- a count that rose stays risen
-pub Rose-later : (a b c : ℕ) → Rose a b → b ≤ c → Rose a c
-Rose-later a b c rose later = omega (arith, rose, later)
-
 pub Rose-earlier : (a b c : ℕ) → a ≤ b → Rose b c → Rose a c
 Rose-earlier a b c earlier rose = omega (arith, earlier, rose)
 

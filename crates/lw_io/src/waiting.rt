@@ -1,4 +1,4 @@
-// A sink with a room before it, so that short pieces go out together.
+// A writer: a sink with room for the bytes that wait, so that short pieces go out together.
 ghost use Rattle.std.specs.Prelude.{◌≡◌, ◌≤◌, ◌+◌, ◌-◌, ◌++◌, [], false, length, take};
 ghost use Rattle.lw_io.specs.Waitings.{Puts, Ends};
 ghost use Rattle.lw_io.specs.declared.waiting.TheConstants.{ROOM};

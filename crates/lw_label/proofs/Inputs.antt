@@ -1,6 +1,6 @@
 -- The labels of the inputs' classes.
-use Rattle.std.proofs.Common.{ℕ, ◌+◌, ◌<◌, ◌≤◌, ◌≡◌, ◌⊎◌, inl, inr, List, length, Option, Some, None, option_map, slice_get, slice_index_or, slice_set, replicate, refl, ap, sym, ◌∙◌, subst, arith}
-use Rattle.std.proofs.lemmas.List.{length-set, length-replicate, set-get_or}
+use Rattle.std.proofs.Common.{ℕ, ◌+◌, ◌<◌, ◌≤◌, ◌≡◌, ◌⊎◌, inl, inr, List, length, Option, Some, None, option_map, slice_get, slice_index_or, slice_set, refl, ap, sym, ◌∙◌, subst, arith}
+use Rattle.std.proofs.lemmas.List.{length-set, set-get_or}
 use Rattle.std.proofs.lemmas.Bool.{cases_eq}
 use Rattle.std.proofs.lemmas.Option.{same_Some, none-some, slice_get_within}
 use Rattle.lw_laws.specs.Graphs.{Graph}
@@ -14,7 +14,6 @@ use Rattle.lw_match.specs.Values.{plain_mark, marks_in}
 use Rattle.lw_label.specs.Labels.{costs_of}
 use Rattle.lw_label.specs.Lowering.{AreLowering, HasCostAtMost, IsLowerOf}
 use Rattle.lw_label.proofs.Marked.{label_of_mark, mark_of_label, mark_set_same, mark_set_other}
-use Rattle.lw_label.proofs.HeightPasses.{none_marked}
 
 -- The first inputs have given their classes their costs.
 pub record AreInputs (g : Graph) (cost : Cost) (count : ℕ) (marks : List (Option Mark)) : Type 0 where
@@ -23,13 +22,6 @@ pub record AreInputs (g : Graph) (cost : Cost) (count : ℕ) (marks : List (Opti
   pub given : (i c : ℕ) → i < count → slice_get g.leaves i ≡ Some c → (m : PlainMark) × (marks_in marks c ≡ Some m) × (m.cost ≤ cost.leaf i)
 
 module _ (g : Graph) (cost : Cost) where
-  pub inputs_start : (marks : List (Option Mark)) → marks ≡ replicate (length g.pairs) None → AreInputs g cost 0 marks
-  inputs_start marks e = subst (λ ms. AreInputs g cost 0 ms) (sym e) (record {
-    one_each = length-replicate (length g.pairs) None;
-    only = λ c m s. absurd (none_marked (length g.pairs) c m s);
-    given = λ i c below at. absurd (omega arith);
-  })
-
   -- an input whose class has a cost that is not above its own
   pub inputs_keep : (i c : ℕ) (marks : List (Option Mark)) → slice_get g.leaves i ≡ Some c → AreInputs g cost i marks → HasCostAtMost (slice_index_or marks c None) (cost.leaf i) → AreInputs g cost (i + 1) marks
   inputs_keep i c marks leaf are (m, e, low) = record {

@@ -104,18 +104,10 @@ module _ {S : Type 0} (weight : S → ℕ) (IsStill : S → ℕ → Type 0) wher
   passes_visit old new whole order number place changed at pass =
       passes_fewer weight IsStill old new (λ c. c / 2 ≡ place) (IsVisited whole order number) changed (λ c here. same_Some (c / 2) place (sym here.1 ∙ at)) pass
 
-  -- a visit that is not due
-  pub passes_over : (s : S) (order : List ℕ) (number : ℕ) (whole : Bool) → (whole ≡ true → ⊥) → Passes weight IsStill s s (IsVisited whole order number) false
-  passes_over s order number whole not = passes_still weight IsStill s (IsVisited whole order number) (λ c here. absurd (not here.0))
-
   -- one more visit of a round
   pub passes_next : (old mid new : S) (whole : Bool) (order : List ℕ) (number : ℕ) (one other : Bool) → Passes weight IsStill old mid (IsPassed whole order number) one → Passes weight IsStill mid new (IsVisited whole order number) other → Passes weight IsStill old new (IsPassed whole order (number + 1)) (other || one)
   passes_next old mid new whole order number one other a b =
       passes_fewer weight IsStill old new (λ c. IsPassed whole order number c ⊎ IsVisited whole order number c) (IsPassed whole order (number + 1)) (other || one) (passed_next whole order number) (passes_both weight IsStill old mid new (IsPassed whole order number) (IsVisited whole order number) one other a b)
-
-  -- a round before its first visit
-  pub passes_none : (s : S) (whole : Bool) (order : List ℕ) → Passes weight IsStill s s (IsPassed whole order 0) false
-  passes_none s whole order = passes_still weight IsStill s (IsPassed whole order 0) (λ c here. let (all, (i, below, at)) = here in absurd (omega (arith, below)))
 
   -- a round that has made all its visits
   pub passes_round : (g : Graph) (old new : S) (whole : Bool) (order : List ℕ) (changed : Bool) → length g.pairs % 2 ≡ 0 → IsOrder (places_of g) order → Passes weight IsStill old new (IsPassed whole order (length order)) changed → Passes weight IsStill old new (λ c. (whole ≡ true) × (c < length g.pairs)) changed

@@ -1,5 +1,5 @@
 -- `same_form` decides equality.
-use Rattle.std.proofs.Common.{◌≡◌, Bool, true, false, List, [], ◌∷◌, refl, ap, ap₂, eqb-true, eq-eqb}
+use Rattle.std.proofs.Common.{◌≡◌, true, List, [], ◌∷◌, refl, ap, ap₂, eqb-true, eq-eqb}
 use Rattle.std.proofs.lemmas.Bool.{and_parts}
 use Rattle.lw_laws.specs.Forms.{Form, FormList, items, form_list, same_form, same_forms}
 use Rattle.lw_laws.specs.Forms.Form.{var_form, true_form, not_form, and_form}
@@ -38,9 +38,3 @@ items-form_list (f ∷ fs) = ap (λ hs. f ∷ hs) (items-form_list fs)
 pub form_list-items : (fs : FormList) → form_list (items fs) ≡ fs
 form_list-items no_forms = refl
 form_list-items (more_forms f fs) = ap (more_forms f) (form_list-items fs)
-
-pub same_form_not : (f h : Form) → (f ≡ h → ⊥) → same_form f h ≡ false
-same_form_not f h ne = by_case (same_form f h) refl where
-  by_case : (b : Bool) → same_form f h ≡ b → same_form f h ≡ false
-  by_case true e = absurd (ne (same_form_eq f h e))
-  by_case false e = e

@@ -31,18 +31,6 @@ place_holds f (h ∷ hs) b e = by_test (same_form f h) refl b e (λ c k. place_h
   by_test false s zero e ih = let k : h ≡ f = cc in let r = same_form_refl f in let w = subst (λ g. same_form f g ≡ false) k s in cc
   by_test false s (suc b) e ih = ih b e
 
--- a listed form keeps its number where the list grows
-pub place_grown : (f : Form) (bases more : List Form) (b : ℕ) → slice_get bases b ≡ Some f → place f (bases ++ more) ≡ place f bases
-place_grown f [] more b e = cc
-place_grown f (h ∷ hs) more b e = by_test (same_form f h) refl b e (λ c k. place_grown f hs more c k) where
-  by_test : (t : Bool) → same_form f h ≡ t → (b : ℕ) → slice_get (h ∷ hs) b ≡ Some f → ((c : ℕ) → slice_get hs c ≡ Some f → place f (hs ++ more) ≡ place f hs) → cond t 0 (suc (place f (hs ++ more))) ≡ cond t 0 (suc (place f hs))
-  by_test true s b e ih = refl
-  by_test false s zero e ih = let k : h ≡ f = cc in let r = same_form_refl f in let w = subst (λ g. same_form f g ≡ false) k s in cc
-  by_test false s (suc b) e ih = ap suc (ih b e)
-
-pub number_grown : (f : Form) (bases more : List Form) (b : ℕ) → IsListedAt bases b f → number (bases ++ more) f ≡ number bases f
-number_grown f bases more b e = ap (λ p. 2 * p + sign_of f) (place_grown (base_form f) bases more b e)
-
 pub number_is : (bases : List Form) (f : Form) (b : ℕ) → IsListedAt bases b f → IsNumber bases f (number bases f)
 number_is bases f b e = (place (base_form f) bases, place_holds (base_form f) bases b e, refl)
 

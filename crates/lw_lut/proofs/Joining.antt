@@ -93,9 +93,6 @@ within i j a b p q =
     omega (arith, room, whole, more, q)
 
 module _ (g : Graph) (c x y : ℕ) (holds : HoldsPair g c x y) (a b : PlainCut) where
-  joined_tree : IsCutAt g x (is_odd x) a → IsCutAt g y (is_odd y) b → Tree
-  joined_tree k l = nand k.tree (moved (length (numbers a.pins)) l.tree)
-
   joined_set : (v : ℕ → Bool) → is_set (joined_bits a x b y c) (spelled v (numbers (a.pins ++ b.pins))) ≡ turned (is_odd c) (not (turned (is_odd x) (is_set a.bits (spelled v (numbers a.pins))) && turned (is_odd y) (is_set b.bits (spelled v (numbers b.pins)))))
   joined_set v =
       let n = length a.pins in

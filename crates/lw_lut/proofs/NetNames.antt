@@ -5,7 +5,6 @@ use Rattle.std.proofs.lemmas.List.{length-map}
 use Rattle.std.proofs.lemmas.Option.{slice_get_within, same_Some}
 use Rattle.lw_facts.proofs.Lists.{get_left}
 use Rattle.lw_laws.proofs.Numbers.{slice_get_map}
-use Rattle.lw_pool.specs.declared.id.ClassId.{ClassId}
 use Rattle.lw_lut.specs.Nets.{PlainTableNet, IsTableNet, net_classes, table_classes}
 use Rattle.lw_lut.specs.Meaning.{AreNamedApart, net_names}
 use Rattle.lw_lut.specs.Texts.{name_at, net_name}
@@ -56,14 +55,6 @@ module _ (n : PlainTableNet) (apart : AreNamedApart n) where
   pub net_place : (c : ℕ) → IsNet c → (i : ℕ) × (slice_get (net_classes n) i ≡ Some c) × (slice_get (net_names n) i ≡ Some (net_name n c))
   net_place c among = name_place (net_classes n) (net_names n) c one_name_each among
 
-  -- two classes of one name are one
-  pub named_once : (c d : ℕ) → IsNet c → IsNet d → net_name n c ≡ net_name n d → c ≡ d
-  named_once c d a b e =
-      let (i, at, named) = net_place c a in
-      let (j, bt, also) = net_place d b in
-      let same : i ≡ j = apart.nets i j (net_name n d) (named ∙ ap Some e) also in
-      same_Some c d (sym at ∙ (ap (slice_get (net_classes n)) same ∙ bt))
-
   -- the name at a place of a class is the class's
   pub net_named : IsTableNet n → (i c : ℕ) → slice_get (net_classes n) i ≡ Some c → slice_get (net_names n) i ≡ Some (net_name n c)
   net_named is i c at =
@@ -75,18 +66,6 @@ module _ (n : PlainTableNet) (apart : AreNamedApart n) where
       contained [] k e = cc
       contained (x ∷ xs) zero e = (zero, omega arith, same_Some x c e)
       contained (x ∷ xs) (suc k) e = let (j, lt, f) = contained xs k e in (suc j, omega arith, f)
-
-  -- an output with the name of a net is of the net's class
-  pub owned_class : (k c : ℕ) (output : List ℕ) (root : ClassId) → IsNet c → slice_get n.ports.outputs k ≡ Some output → slice_get n.ports.roots k ≡ Some root → net_name n c ≡ output → c ≡ root.0
-  owned_class k c output root among at rt e =
-      let (i, here, named) = net_place c among in
-      let own = apart.owned i k output (named ∙ ap Some e) at in
-      same_Some c root.0 (sym here ∙ (own ∙ mapped n.ports.roots k rt))
-    where
-      mapped : (rs : List ClassId) (k : ℕ) → slice_get rs k ≡ Some root → slice_get (numbers rs) k ≡ Some root.0
-      mapped [] k e = cc
-      mapped (r ∷ rs) zero e = ap (λ (r : ClassId). Some r.0) (same_Some r root e)
-      mapped (r ∷ rs) (suc k) e = mapped rs k e
 
   pub input_named : IsTableNet n → (i c : ℕ) → slice_get (numbers n.inputs) i ≡ Some c → slice_get n.ports.inputs i ≡ Some (net_name n c)
   input_named is i c at =

@@ -8,7 +8,7 @@ use Rattle.std.proofs.lemmas.Option.{slice_get-get_or}
 use Rattle.lw_facts.proofs.Lists.{some_within, at_contained}
 use Rattle.lw_naming.specs.declared.places.Place.{Place}
 use Rattle.lw_naming.proofs.Sorting.{AreInOrderBelow, in_order_none, in_order_push, in_order_skip}
-use Rattle.lw_lut.specs.Choosing.{ArePlaces, AreListed}
+use Rattle.lw_lut.specs.Choosing.{ArePlaces}
 
 module _ (depths : List (Option ℕ)) where
   -- the places of the classes below a number
@@ -56,15 +56,6 @@ module _ (depths : List (Option ℕ)) where
       all_at : (c n : ℕ) → c < count + 1 → slice_index_or depths c None ≡ Some (suc n) → (c ≡ count) ⊎ (c ≡ count → ⊥) → (q : Place) × Contains places q × (q.class.0 ≡ c)
       all_at c n lt e (inl s) = absurd (none n (ap (λ k. slice_index_or depths k None) (sym s) ∙ e))
       all_at c n lt e (inr other) = are.all c n (omega (arith, lt, other)) e
-
-  pub listed_all : (count : ℕ) (places : List Place) → length depths ≤ count → AreListedBelow count places → AreListed depths places
-  listed_all count places all are = record {
-    are = record {
-      each = are.each;
-      all = λ c m e. let in' = some_within depths c (suc m) e in are.all c m (omega (arith, in', all)) e;
-    };
-    rising = are.order.rising;
-  }
 
   -- the classes have small numbers
   pub listed_small : (places : List Place) → length depths < 2 ^ 32 → ArePlaces depths places → All (λ (p : Place). p.class.0 < 2 ^ 32) places

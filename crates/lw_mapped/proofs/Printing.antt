@@ -1,5 +1,5 @@
 -- Decimals that are printed: their bytes, and that they are read as the number by any limit above it.
-use Rattle.std.proofs.Common.{ℕ, zero, suc, ◌≡◌, ◌<◌, ◌≤◌, ◌+◌, ◌-◌, ◌*◌, ◌/◌, ◌%◌, ◌^◌, ◌==◌, Bool, true, false, not, ◌&&◌, cond, nat_lt, nat_eq, eqb, List, [], ◌∷◌, ◌++◌, length, take, drop, get_or, reverse, Result, Ok, Err, refl, ap, ap₂, sym, ◌∙◌, arith, add-one, length-take, length-append}
+use Rattle.std.proofs.Common.{ℕ, zero, suc, ◌≡◌, ◌<◌, ◌≤◌, ◌+◌, ◌-◌, ◌*◌, ◌/◌, ◌%◌, ◌^◌, ◌==◌, Bool, true, false, not, ◌&&◌, cond, nat_lt, nat_eq, eqb, List, [], ◌∷◌, ◌++◌, length, take, drop, Result, Ok, Err, refl, ap, ap₂, sym, ◌∙◌, arith, add-one, length-take, length-append}
 use Rattle.std.specs.Prelude.{decimal, nat_le}
 use Rattle.std.specs.Char.{is_ascii_digit, digit_value}
 use Rattle.std.specs.List.{list_all, list_any, suffix_len, position_or_len, before_first, after_first, AllByRecursion as Each}
@@ -7,8 +7,7 @@ use Rattle.std.specs.Str.Parse.{digits_value}
 use Rattle.std.proofs.lemmas.Bool.{and_parts}
 use Rattle.std.proofs.lemmas.Bool.Decides.{nat_tests}
 use Rattle.std.proofs.lemmas.Fmt.{length-decimal-le, digits_decimal, digits_value-decimal, decimal_nonempty}
-use Rattle.std.proofs.lemmas.List.{get_or-reverse, take_at, take_all, drop_all}
-use Rattle.std.proofs.lemmas.List.Sums.{prefix_len_passes, suffix_len-le-length}
+use Rattle.std.proofs.lemmas.List.{take_at, take_all, drop_all}
 use Rattle.std.proofs.lemmas.Str.Parse.{digits_value_short}
 use Rattle.lw_facts.proofs.Lists.{digits_take, drop_point, digits_value_split}
 use Rattle.lw_fixed.specs.declared.micro.Micro.{Micro}
@@ -70,14 +69,6 @@ module _ (r : ℕ) (below : r < 1000000) where
 
 abbrev is_zero : ℕ → Bool
 is_zero d = eqb d 48
-
-zero-behind : (xs : List ℕ) (k : ℕ) → length xs - suffix_len is_zero xs ≤ k → k < length xs → is_zero (get_or xs k 0) ≡ true
-zero-behind xs k le lt =
-    let most : suffix_len is_zero xs ≤ length xs = suffix_len-le-length is_zero xs in
-    let near : length xs - 1 - k < suffix_len is_zero xs = omega arith in
-    let same : length xs - 1 - (length xs - 1 - k) ≡ k = omega arith in
-    let there : get_or (reverse xs) (length xs - 1 - k) 0 ≡ get_or xs (length xs - 1 - (length xs - 1 - k)) 0 = get_or-reverse xs (length xs - 1 - k) 0 (omega arith) in
-    ap is_zero (sym (there ∙ ap (λ i. get_or xs i 0) same)) ∙ prefix_len_passes is_zero (reverse xs) (length xs - 1 - k) 0 near
 
 -- Around the point.
 

@@ -29,7 +29,6 @@ pub use laws::{
     written_texts_read_back,
 };
 pub use lines::name_of;
-pub use parsing::are_digits;
 pub use parts::Parts;
 pub use reader::{MappedReader, Stop};
 pub use saying::Saying;

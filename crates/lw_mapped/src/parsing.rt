@@ -12,7 +12,7 @@ use crate::naming::{is_name, name_at, names_fault, names_from};
 use crate::ties::{gate_of, ties_fault};
 use crate::{MappedKind, Refusal, Saying};
 use itoa::Buffer;
-use lw_fixed::read;
+use lw_fixed::{are_digits, read};
 use lw_frame::read_start;
 use lw_genlib::Library;
 use lw_netlist::Wire;
@@ -123,13 +123,6 @@ fn default_arrival(words: &Words) -> Result<Saying, Refusal>
         Ok(start) => Ok(Saying::DefaultArrival(start)),
         Err(fault) => Err(Refusal::Broken(MappedKind::Decimal(fault))),
     }
-}
-
-/// Whether all bytes are digits.
-pub fn are_digits(bytes: &[u8]) -> bool
-    ensures { result ≡ list_all is_ascii_digit bytes.now }
-{
-    bytes.iter().all(|b| b.is_ascii_digit())
 }
 
 // The value of digits, or the number of classes where it is greater.

@@ -1,7 +1,6 @@
 -- Numbers that fall to what the pairs of a class give.
 use Rattle.std.proofs.Common.{ℕ, ◌+◌, ◌-◌, ◌++◌, take, drop, ◌%◌, ◌<◌, ◌≤◌, ◌≡◌, ◌||◌, Bool, true, false, if◌then◌else◌, List, [], ◌∷◌, length, max, Option, Some, slice_get, get_or, refl, sym, ap, subst, ◌∙◌, inl, inr, arith}
-use Rattle.std.proofs.Math.ListN.{set}
-use Rattle.std.proofs.lemmas.List.Sums.{sum_by-set, sum_by-append, sum_by-take-drop}
+use Rattle.std.proofs.lemmas.List.Sums.{sum_by-append, sum_by-take-drop}
 use Rattle.std.proofs.lemmas.List.Edits.{get_or-between}
 use Rattle.std.specs.List.{slice_range}
 use borrow.Rule.Slice.PartMut.{put_mid}
@@ -18,7 +17,7 @@ use Rattle.lw_match.specs.declared.mark.Mark.{Mark}
 use Rattle.lw_match.specs.declared.parts.Side.{Side}
 use Rattle.lw_match.specs.declared.parts.Part.{Part}
 use Rattle.lw_match.specs.Numbers.{never, no_row, start_of, number_from, Reading, class_below, side_number, pair_number}
-use Rattle.lw_match.specs.Bounds.{total, reading_of, AreApart, AreBare, AreLowered, AreRowsBut, AreSettledBelow}
+use Rattle.lw_match.specs.Bounds.{total, reading_of, AreApart, AreBare, AreLowered, AreRowsBut}
 use Rattle.lw_match.proofs.Pairs.{pair_at}
 use Rattle.lw_graph.proofs.Graphs.{flip_below}
 
@@ -45,10 +44,6 @@ least_settles g r p c row is least below x y (inr h) =
     let second : q.y.0 ≡ x = ap (λ (p : PlainPair). p.y) same in
     let le : least ≤ pair_number r p y x = subst (λ a. least ≤ pair_number r p a x) first (subst (λ b. least ≤ pair_number r p q.x.0 b) second (below k q at)) in
     omega arith
-
--- one number that is less makes the sum less
-pub sum_less : (xs : List ℕ) (i v : ℕ) → i < length xs → v < get_or xs i 0 → total (set xs i v) < total xs
-sum_less xs i v lt less = let e = sum_by-set (λ (n : ℕ). n) xs i v 0 lt in omega arith
 
 -- the numbers so far: none fell, or their sum fell
 pub record HaveFallen (old new : List ℕ) (fell : Bool) : Type 0 where
@@ -137,11 +132,6 @@ rows_but width c starts old new apart has same n d below other = by_test (start_
     by_test true e = refl
     by_test false e =
         same (start_of starts d + n) (outside (λ f. true≢false (sym (eq-eqb (start_of starts d) no_row f) ∙ e)))
-
--- numbers that were not above what the pairs give are settled
-pub lowered_settles : (g : Graph) (old : Reading) (parts : List Part) (new : List ℕ) (c n : ℕ) → new ≡ old.numbers → AreLowered g old parts new c → AreSettledBelow g old parts c n
-lowered_settles g old parts new c n same low k lt p x y at h =
-    subst (λ (ns : List ℕ). number_from ns k (start_of old.starts c) ≤ max (side_number old p.left x) (side_number old p.right y)) same (low k p x y at h)
 
 -- a class with a pair has a row
 pub row_there : (g : Graph) (starts : List ℕ) (c : ℕ) (row : List Pair) → plain_row row ≡ slice_index_or g.pairs c [] → AreBare starts g → (length row ≡ 0 → ⊥) → start_of starts c ≡ no_row → ⊥

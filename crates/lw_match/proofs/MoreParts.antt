@@ -124,16 +124,6 @@ parts_grown room keys new p are few left right e = subst (AreParts room) (sym e)
     by_test true = are
     by_test false = record { small = are.small; few = omega (arith, length-append keys (p ∷ [])); closed = closed_more keys p are.closed left right }
 
--- a side with its shift relative to a base
-pub above_fits : (n base : ℕ) (s : Side) → SideFits n s → SideFits n (side_above base s)
-above_fits n base s h = by_kind s.kind h
-  where
-    by_kind : (k : Kind) → KindFits n k → KindFits n (kind_above base k)
-    by_kind Any h = tt
-    by_kind (Leaf d) h = tt
-    by_kind One h = tt
-    by_kind (Joined p d) h = h
-
 pin_above : (base : ℕ) (k : Kind) → (kind_base k ≡ 18446744073709551615 → ⊥) → HasPin (kind_above base k)
 pin_above base Any some = absurd (some refl)
 pin_above base (Leaf d) some = tt

@@ -13,10 +13,6 @@ pub record ArePassed (pats : List Pattern) (g : Graph) (marks : List (Option Mar
   pub same : fell ≡ false → new ≡ old
   pub settled : whole ≡ true → fell ≡ false → (c : ℕ) → c < n → AreSettledAt old g marks c
 
-pub passed_none : (pats : List Pattern) (g : Graph) (marks : List (Option Mark)) (whole : Bool) (old : BoundsState) → BoundsFit old pats g → ArePassed pats g marks whole old old 0 false
-passed_none pats g marks whole old fits =
-    record { fits = fits; falls = λ e. cc; same = λ e. refl; settled = λ w e c lt. absurd (omega arith) }
-
 pub passed_more : (pats : List Pattern) (g : Graph) (marks : List (Option Mark)) (whole : Bool) (old mid new : BoundsState) (n : ℕ) (one fell : Bool) → ArePassed pats g marks whole old mid n fell → (BoundsFit mid pats g → BoundsFit new pats g) → (one ≡ true → bounds_weight new < bounds_weight mid) → (one ≡ false → new ≡ mid) → (whole ≡ true → one ≡ false → AreSettledAt mid g marks n) → ArePassed pats g marks whole old new (n + 1) (one || fell)
 passed_more pats g marks whole old mid new n true true h fits falls same settled =
     record { fits = fits h.fits; falls = λ e. let a = h.falls refl in let b = falls refl in omega arith; same = λ e. cc; settled = λ w e. cc }

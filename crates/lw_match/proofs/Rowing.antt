@@ -7,7 +7,7 @@ use Rattle.lw_laws.specs.Graphs.{Graph, Pair as PlainPair}
 use Rattle.lw_graph.specs.declared.pair.Pair.{Pair}
 use Rattle.lw_graph.specs.Graphs.{plain_row}
 use Rattle.lw_match.specs.Numbers.{no_row, start_of, AreStarts}
-use Rattle.lw_match.specs.Bounds.{AreApart, AreBare}
+use Rattle.lw_match.specs.Bounds.{AreApart}
 
 -- the rows of the first n classes
 pub record AreStartsBelow (width : ℕ) (starts : List ℕ) (size : ℕ) (g : Graph) (n : ℕ) : Type 0 where
@@ -16,10 +16,6 @@ pub record AreStartsBelow (width : ℕ) (starts : List ℕ) (size : ℕ) (g : Gr
   pub rows : AreStarts width starts size
   pub bare : (c : ℕ) → c < n → start_of starts c ≡ no_row → slice_index_or g.pairs c [] ≡ []
   pub apart : AreApart width starts
-
-pub starts_none : (width : ℕ) (g : Graph) → AreStartsBelow width [] 0 g 0
-starts_none width g =
-    record { count = refl; few = omega arith; rows = λ c. inl refl; bare = λ c lt e. absurd (omega arith); apart = λ c d other one. absurd (one refl) }
 
 -- the start of one more class
 data IsOneOf (starts : List ℕ) (n start c : ℕ) : Type 0 where
@@ -84,10 +80,3 @@ starts_more width starts size more start g n le most row bare behind h = record 
 pub bare_row : (row : List Pair) (ps : List PlainPair) → plain_row row ≡ ps → length row ≡ 0 → ps ≡ []
 bare_row [] ps e none = sym e
 bare_row (q ∷ row) ps e none = absurd (omega (arith, none))
-
-pub all_bare : (width : ℕ) (starts : List ℕ) (size : ℕ) (g : Graph) (n : ℕ) → length g.pairs ≤ n → AreStartsBelow width starts size g n → AreBare starts g
-all_bare width starts size g n most h c e = by_place (dec_lt c n)
-  where
-    by_place : Dec (c < n) → slice_index_or g.pairs c [] ≡ []
-    by_place (yes lt) = h.bare c lt e
-    by_place (no ge) = get_or_past g.pairs c [] (omega arith)

@@ -1,10 +1,10 @@
 -- The places of names among the signals.
-use Rattle.std.proofs.Common.{◌≡◌, ℕ, zero, suc, ◌+◌, ◌-◌, ◌<◌, ◌≤◌, ◌⊎◌, inl, inr, Bool, true, false, not, cond, unwrap_or, position, Option, Some, None, List, [], ◌∷◌, ◌++◌, length, map, take, drop, replicate, get_or, set, Contains, All, refl, sym, ap, ap₂, subst, ◌∙◌, arith, length-set, get_or-set_same, get_or-set_other}
-use Rattle.std.proofs.lemmas.List.{get_or_default, get_or-map, length-map, length-replicate, map-append, take_more, drop_more}
+use Rattle.std.proofs.Common.{◌≡◌, ℕ, zero, suc, ◌+◌, ◌-◌, ◌<◌, ◌≤◌, ◌⊎◌, Bool, true, false, not, cond, unwrap_or, position, Option, Some, None, List, [], ◌∷◌, ◌++◌, length, map, take, drop, replicate, get_or, Contains, All, refl, sym, ap, ap₂, subst, ◌∙◌, arith}
+use Rattle.std.proofs.lemmas.List.{get_or_default, get_or-map, length-map, map-append, take_more, drop_more}
 use Rattle.std.proofs.lemmas.List.Elements.{All-append, All-map, All-weaker, All-head, All-tail, Contains-get_or}
 use Rattle.std.proofs.lemmas.List.Quantifiers.{position-Some}
 use Rattle.std.proofs.lemmas.Map.Views.{list_any-from_Contains}
-use Rattle.std.proofs.lemmas.Bool.{cases_eq, false≢true}
+use Rattle.std.proofs.lemmas.Bool.{false≢true}
 use Rattle.std.specs.Cmp.Lexicographic.{nat_list_eq_equiv}
 use Rattle.std.specs.List.{IsDistinct}
 use Rattle.std.specs.Str.{bytes_eq}
@@ -24,48 +24,6 @@ none_placed : (count n : ℕ) → place_at (replicate count 0) n ≡ 0
 none_placed zero n = refl
 none_placed (suc count) zero = refl
 none_placed (suc count) (suc n) = none_placed count n
-
-pub places_none : (count : ℕ) (signals : List ℕ) → ArePlaces count 0 signals (replicate count 0)
-places_none count signals = record {
-  one_each = length-replicate count 0;
-  found = λ n some. absurd (omega (arith, none_placed count n));
-  told = λ i lt. absurd (omega arith);
-}
-
--- one more signal has a place
-pub places_more : (count i : ℕ) (signals places : List ℕ) → i < length signals → get_or signals i 0 < count → ArePlaces count i signals places → ArePlaces count (i + 1) signals (set places (get_or signals i 0) (i + 1))
-places_more count i signals places below within are = record {
-  one_each = length-set places (get_or signals i 0) (i + 1) ∙ are.one_each;
-  found = λ n some. found_at n some (cases_eq n (get_or signals i 0));
-  told = λ k lt. told_at k lt (cases_eq (get_or signals k 0) (get_or signals i 0));
-}
-  where
-    in_places : get_or signals i 0 < length places
-    in_places = omega (arith, are.one_each)
-
-    here : place_at (set places (get_or signals i 0) (i + 1)) (get_or signals i 0) ≡ i + 1
-    here = get_or-set_same places (get_or signals i 0) (i + 1) 0 in_places
-
-    other_place : (n : ℕ) → (n ≡ get_or signals i 0 → ⊥) → place_at (set places (get_or signals i 0) (i + 1)) n ≡ place_at places n
-    other_place n other = get_or-set_other places (get_or signals i 0) n (i + 1) 0 other
-
-    found_at : (n : ℕ) → 0 < place_at (set places (get_or signals i 0) (i + 1)) n → (n ≡ get_or signals i 0) ⊎ (n ≡ get_or signals i 0 → ⊥) → (place_at (set places (get_or signals i 0) (i + 1)) n ≤ i + 1) × (get_or signals (place_at (set places (get_or signals i 0) (i + 1)) n - 1) 0 ≡ n)
-    found_at n some (inl same) =
-        let own : place_at (set places (get_or signals i 0) (i + 1)) n ≡ i + 1 = ap (place_at (set places (get_or signals i 0) (i + 1))) same ∙ here in
-        let at : place_at (set places (get_or signals i 0) (i + 1)) n - 1 ≡ i = omega (arith, own) in
-        (omega (arith, own), ap (λ k. get_or signals k 0) at ∙ sym same)
-    found_at n some (inr other) =
-        let own = other_place n other in
-        let old = are.found n (omega (arith, own, some)) in
-        (omega (arith, own, old.0), ap (λ k. get_or signals (k - 1) 0) own ∙ old.1)
-
-    told_at : (k : ℕ) → k < i + 1 → (get_or signals k 0 ≡ get_or signals i 0) ⊎ (get_or signals k 0 ≡ get_or signals i 0 → ⊥) → 0 < place_at (set places (get_or signals i 0) (i + 1)) (get_or signals k 0)
-    told_at k lt (inl same) = omega (arith, ap (place_at (set places (get_or signals i 0) (i + 1))) same, here)
-    told_at k lt (inr other) = by_last (cases_eq k i)
-      where
-        by_last : (k ≡ i) ⊎ (k ≡ i → ⊥) → 0 < place_at (set places (get_or signals i 0) (i + 1)) (get_or signals k 0)
-        by_last (inl last) = absurd (other (ap (λ n. get_or signals n 0) last))
-        by_last (inr before) = omega (arith, other_place (get_or signals k 0) other, are.told k (omega arith))
 
 -- a name that is none of these has no number
 none_among : (names : List (List ℕ)) (name : List ℕ) → is_among names name ≡ false → number_in names name ≡ 0

@@ -1,7 +1,7 @@
 -- A netlist whose gates stand by depth.
 use Rattle.std.proofs.Common.{◌≡◌, ℕ, ◌+◌, ◌-◌, ◌^◌, ◌<◌, ◌≤◌, ◌⊎◌, inl, inr, slice_get, Some, List, [], ◌++◌, length, map, get_or, None, Contains, All, refl, sym, ap, subst, ◌∙◌, arith, length-append}
 use Rattle.std.proofs.lemmas.List.{get_or_default, get_or-map, length-map, get_or-append_right, get_or_append_left}
-use Rattle.std.proofs.lemmas.List.Elements.{All-map, All-weaker, Contains-append_left}
+use Rattle.std.proofs.lemmas.List.Elements.{All-map, All-weaker}
 use Rattle.std.proofs.lemmas.List.Sorted.{IsPermutation-append_right, IsPermutation-map, length_permutation, Contains-permutation, All-permutation}
 use Rattle.std.proofs.lemmas.Option.{slice_get_within, get_or_from_slice_get, slice_get-get_or}
 use Rattle.std.proofs.lemmas.Bool.{cases_lt}
@@ -74,9 +74,6 @@ module _ (draft : GateDraft) (depths starts : List ℕ) (order : List DraftGate)
 
   pub ordered_few : length names ≤ most_nets
   ordered_few = omega (arith, many, length_permutation draft.gates order moved)
-
-  firsts_driven : (name : List ℕ) → Contains firsts name → Contains driven name
-  firsts_driven name among = subst (λ l. Contains l name) (sym (drivers_are draft)) (Contains-append_left firsts (map to_of draft.wires) name among)
 
   -- what a name starts at
   start_among : (name from : List ℕ) → IsStart draft name from → Contains names from

@@ -1,13 +1,9 @@
 -- Chains of the places of names.
-use Rattle.std.proofs.Common.{ℕ, suc, ◌≡◌, ◌≢◌, ◌<◌, ◌≤◌, ◌+◌, ◌*◌, ◌%◌, ◌⊎◌, inl, inr, List, length, drop, set, get_or, ap, sym, ◌∙◌, arith}
+use Rattle.std.proofs.Common.{ℕ, suc, ◌≡◌, ◌≢◌, ◌<◌, ◌≤◌, ◌+◌, ◌*◌, ◌%◌, ◌⊎◌, inl, inr, List, length, set, get_or, ap, sym, ◌∙◌, arith}
 use Rattle.std.proofs.lemmas.Bool.{cases_lt}
 use Rattle.std.proofs.lemmas.Grind.{get_or-set_at}
-use Rattle.std.proofs.lemmas.List.{drop_more, get_or-set_other}
-use Rattle.lw_netlist.specs.Chains.{AreChains, hash_from, name_at}
-
--- one byte more
-pub hash-more : (hash : ℕ) (name : List ℕ) (i : ℕ) → i < length name → hash_from hash (drop i name) ≡ hash_from ((hash * 2654435769 + get_or name i 0) % 4294967296) (drop (i + 1) name)
-hash-more hash name i lt = ap (hash_from hash) (drop_more name i 0 lt)
+use Rattle.std.proofs.lemmas.List.{get_or-set_other}
+use Rattle.lw_netlist.specs.Chains.{AreChains, name_at}
 
 pub same-or-not : (a b : ℕ) → (a ≡ b) ⊎ (a ≢ b)
 same-or-not a b = by_order (cases_lt a b) (cases_lt b a)
@@ -115,15 +111,6 @@ pub record IsSought (bucket : List ℕ → ℕ) (names : List (List ℕ)) (count
   pub low : left ≤ count
   pub chain : (k : ℕ) → left ≡ suc k → bucket (name_at names k) ≡ bucket name
   pub above : (i : ℕ) → i < count → left ≤ i → name_at names i ≢ name
-
-pub sought-first : (bucket : List ℕ → ℕ) (size : ℕ) (names : List (List ℕ)) (count : ℕ) (heads next : List ℕ) (name : List ℕ) (b : ℕ) → AreChains bucket size names count heads next → b ≡ bucket name → b < size → IsSought bucket names count name (get_or heads b 0)
-sought-first bucket size names count heads next name b c own inside = record {
-  low = c.low b inside;
-  chain = λ k e. c.headed b k inside e ∙ own;
-  above = λ i lt past same.
-      let head : get_or heads (bucket (name_at names i)) 0 ≡ get_or heads b 0 = ap (λ x. get_or heads x 0) (ap bucket same ∙ sym own) in
-      omega (arith, c.first i lt, head, past);
-}
 
 pub sought-next : (bucket : List ℕ → ℕ) (size : ℕ) (names : List (List ℕ)) (count : ℕ) (heads next : List ℕ) (name : List ℕ) (left j : ℕ) → AreChains bucket size names count heads next → left ≡ suc j → name_at names j ≢ name → IsSought bucket names count name left → IsSought bucket names count name (get_or next j 0)
 sought-next bucket size names count heads next name left j c is other w = record {

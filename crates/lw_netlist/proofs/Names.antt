@@ -87,15 +87,6 @@ pub undriven_behind_link : {X : Type 0} (driven : List (List ℕ)) (link : X →
 undriven_behind_link driven link xs i x below here rest e =
     sym (undriven_later driven (link x).needs (flat_map needs_of (map link (drop (i + 1) xs))) e) ∙ (ap (undriven_in driven) (sym (needs_from link xs i x below here)) ∙ rest)
 
--- what the first of some links hangs on, and what those behind it do
-pub undriven_in_head : {X : Type 0} (driven : List (List ℕ)) (link : X → Link) (x : X) (xs : List X) (all : List (List ℕ)) (fault : NetlistFault) → undriven_in driven (flat_map needs_of (map link (x ∷ xs))) ≡ undriven_in driven all → TellsUndriven driven (link x).needs fault → TellsUndriven driven all fault
-undriven_in_head driven link x xs all fault same e =
-    let others = flat_map needs_of (map link xs) in
-    undriven_same driven ((link x).needs ++ others) all fault same (undriven_first driven (link x).needs others fault e)
-
-pub undriven_behind_head : {X : Type 0} (driven : List (List ℕ)) (link : X → Link) (x : X) (xs : List X) (all : List (List ℕ)) → undriven_in driven (flat_map needs_of (map link (x ∷ xs))) ≡ undriven_in driven all → undriven_in driven (link x).needs ≡ None → undriven_in driven (flat_map needs_of (map link xs)) ≡ undriven_in driven all
-undriven_behind_head driven link x xs all same e = sym (undriven_later driven (link x).needs (flat_map needs_of (map link xs)) e) ∙ same
-
 pub distinct_push : (xs : List (List ℕ)) (name : List ℕ) → IsDistinct bytes_eq xs → is_among xs name ≡ false → IsDistinct bytes_eq (xs ++ name ∷ [])
 unfolding IsDistinct
 distinct_push [] name distinct is = (tt, tt)

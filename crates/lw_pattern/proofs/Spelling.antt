@@ -1,5 +1,5 @@
 -- Trees and the steps that spell them.
-use Rattle.std.proofs.Common.{◌≡◌, true, List, [], ◌∷◌, ◌++◌, refl, sym, ap, ap₂, ◌∙◌, append_assoc, append-nil}
+use Rattle.std.proofs.Common.{◌≡◌, List, [], ◌∷◌, ◌++◌, refl, sym, ap, ap₂, ◌∙◌, append_assoc, append-nil}
 use Rattle.std.specs.Prelude.{fold}
 use Rattle.lw_laws.specs.Trees.{Tree, leaf, const_one, const_zero, inv, nand}
 use Rattle.lw_laws.specs.Patterns.{inverted, tree_by}
@@ -7,7 +7,7 @@ use Rattle.lw_pattern.specs.declared.step.Step.{Step}
 use Rattle.lw_pattern.specs.declared.step.Step.TheVariants.{Leaf, True, False, Not, Both}
 use Rattle.lw_pattern.specs.declared.step.Operator.{Operator}
 use Rattle.lw_pattern.specs.declared.step.Operator.TheVariants.{And, Or}
-use Rattle.lw_pattern.specs.Steps.{steps_of, stacked, spelled, is_single, is_complement, law_operator, operand_of, operator_steps}
+use Rattle.lw_pattern.specs.Steps.{steps_of, stacked, spelled, law_operator, operand_of, operator_steps}
 
 -- the steps of a tree put it before the others
 pub stacked_tree : (t : Tree) (rest : List Step) (trees : List Tree) → fold stacked trees (steps_of t ++ rest) ≡ fold stacked (t ∷ trees) rest
@@ -29,13 +29,6 @@ spelled_is steps t e = ap spelled e ∙ spelled-steps t
 
 pub kept_is : (steps : List Step) (t : Tree) → steps ≡ steps_of t → steps_of (spelled steps) ≡ steps
 kept_is steps t e = ap steps_of (spelled_is steps t e) ∙ sym e
-
-pub single_kept : (step : Step) → is_single step ≡ true → steps_of (spelled (step ∷ [])) ≡ step ∷ []
-single_kept (Leaf k) e = refl
-single_kept True e = refl
-single_kept False e = refl
-single_kept Not e = cc
-single_kept Both e = cc
 
 -- the steps before the last one
 pub root_of : Tree → Step

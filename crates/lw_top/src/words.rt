@@ -1,7 +1,5 @@
 // The words of a command.
 ghost use Rattle.std.specs.Prelude.{◌≡◌, ◌≤◌, None, Some, map, string_bytes, option_map, MatchOption};
-ghost use Rattle.std.specs.List.{list_all};
-ghost use Rattle.std.specs.Char.{is_ascii_digit};
 ghost use Rattle.lw_top.specs.Words.{width_of, is_file_word, two, three, one_file, two_files, three_files, with_mode, begun_by, is_numeral, number_of, seed_of, count_of, certified_of, mapping_begun, checking_begun, counting_begun, leaves_of, tabling_begun, deadline_of, traded_of, trading_begun, timing_of, simulation_of, drawing_of, to_verilog_of, from_verilog_of, named, command_of, file_in, file_word};
 ghost use Rattle.lw_top.specs.declared.refusal.Which.TheVariants as which;
 ghost use Rattle.lw_top.specs.Commands.{plain_begun, plain_command, asked};
@@ -9,7 +7,7 @@ ghost use Rattle.lw_map.specs.Options.{plain_options};
 
 use crate::refusal::Which;
 use lw_assoc::Mode;
-use lw_fixed::{Micro, read};
+use lw_fixed::{Micro, are_digits, read};
 use lw_map::Options;
 
 /// A command, with its options and the words for its files.
@@ -141,13 +139,6 @@ fn begun_by(words: &[String]) -> Option<Begun<'_>>
         }
         _ => Some(with_mode(6, words)),
     }
-}
-
-// Whether each byte is a decimal digit.
-fn are_digits(bytes: &[u8]) -> bool
-    ensures { result ≡ list_all is_ascii_digit bytes.now }
-{
-    bytes.iter().all(|b| b.is_ascii_digit())
 }
 
 // One digit or more, and nothing else.

@@ -1,5 +1,5 @@
 -- Bounds of choices fall with what the groups of their pins have seen.
-use Rattle.std.proofs.Common.{◌≡◌, ◌≢◌, ℕ, zero, suc, ◌+◌, ◌-◌, ◌*◌, ◌<◌, ◌≤◌, ◌⊎◌, inl, inr, length, replicate, List, [], ◌∷◌, ◌++◌, Some, slice_get, slice_index_or, slice_set, length-set, get_or-set_same, get_or-set_other, refl, ap, sym, ◌∙◌, subst, subst₂, arith}
+use Rattle.std.proofs.Common.{◌≡◌, ◌≢◌, ℕ, zero, suc, ◌+◌, ◌-◌, ◌*◌, ◌<◌, ◌≤◌, ◌⊎◌, inl, inr, length, replicate, List, [], ◌∷◌, ◌++◌, Some, slice_get, slice_index_or, slice_set, get_or-set_same, get_or-set_other, refl, ap, sym, ◌∙◌, subst, subst₂, arith}
 use native.Mathlib.Decide.{ℕ_discrete}
 use Rattle.std.proofs.lemmas.List.{get_or-replicate}
 use Rattle.std.proofs.lemmas.Option.{same_Some, slice_get_within}
@@ -17,7 +17,7 @@ use Rattle.lw_trade.specs.Rows.{plain_row, plain_rows}
 use Rattle.lw_trade.specs.Seen.{seen_at, sum_seen}
 use Rattle.lw_trade.specs.Tallies.{AreFirstTallies, AreTallies, HasFallen, IsFirstTally, IsLowered, bound_of, first_of, own_area, pin_count, unseen}
 use Rattle.lw_trade.specs.Uses.{AreUses, HasUse}
-use Rattle.lw_trade.proofs.Lists.{get_some, push_cases, set_cases}
+use Rattle.lw_trade.proofs.Lists.{get_some, push_cases}
 
 -- each pin has a use
 abbrev pub HaveUses : Uses → ℕ → ℕ → List ℕ → List ℕ → Type 0
@@ -126,17 +126,6 @@ lowered_none tallies number fall past = record {
   one_each = refl;
   each = λ n t at. let lt = slice_get_within tallies n t at in inr ((λ e. absurd (omega (arith, e, lt, past))), at);
 }
-
-pub lowered_set : (tallies : List Tally) (number fall : ℕ) (o t : Tally) → slice_get tallies number ≡ Some o → t.class.0 ≡ o.class.0 → bound_of t ≤ bound_of o - fall → IsLowered tallies (slice_set tallies number t) number fall
-lowered_set tallies number fall o t at same le = record {
-  one_each = length-set tallies number t;
-  each = λ n y yt. by_case n y (set_cases tallies number n t y yt);
-}
-  where
-    by_case : (n : ℕ) (y : Tally) → ((n ≡ number) × (t ≡ y)) ⊎ ((n ≢ number) × (slice_get tallies n ≡ Some y)) → ((n ≡ number) × (o : Tally) × (slice_get tallies n ≡ Some o) × (y.class.0 ≡ o.class.0) × (bound_of y ≤ bound_of o - fall)) ⊎ ((n ≢ number) × (slice_get tallies n ≡ Some y))
-    by_case n y (inl (e, f)) =
-        inl (e, o, ap (slice_get tallies) e ∙ at, subst (λ (z : Tally). z.class.0 ≡ o.class.0) f same, subst (λ (z : Tally). bound_of z ≤ bound_of o - fall) f le)
-    by_case n y (inr other) = inr other
 
 module _ (cells : List CellParts) (choices : List Choice) (u : Uses) (are : AreUses cells choices u) (fallen : List ℕ) (group fall : ℕ) (places : List ℕ) where
   own : (n : ℕ) (x : Choice) → slice_get choices n ≡ Some x → AreOwn u n (pin_count x.part)

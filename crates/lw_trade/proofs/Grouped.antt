@@ -151,18 +151,6 @@ module _ (held : List Held) (count : ℕ) where
           let n : ◌≡◌ {A = ℕ} (first + 1 + i) (first + suc i) = omega arith in
           subst (λ c. IsHeldRow held c r) n (are.each i r at)
 
-  pub table_first : IsTable held count count [] [] (0 ∷ [])
-  table_first = record {
-    one_each = refl;
-    later = [];
-    all_left = refl;
-    falling = (omega arith, tt);
-    rows = [];
-    are = record { one_each = omega arith; each = λ i row at. cc };
-    points_are = refl;
-    ways_are = refl;
-  }
-
   pub table_next : (first : ℕ) (row : List Held) (points : List Point) (ways : List Way) (lefts : List ℕ) → IsTable held count (first + 1) points ways lefts → IsHeldRow held first row → IsTable held count first (map point_in row ++ points) (map way_in row ++ ways) (length (map point_in row ++ points) ∷ lefts)
   table_next first row points ways lefts are is = record {
     one_each = omega (arith, n, m, points_wide, ways_wide, are.one_each);

@@ -21,13 +21,6 @@ length_set (y ∷ xs) zero x = refl
 length_set (y ∷ xs) (suc c) x = ap suc (length_set xs c x)
 
 module _ (g : Graph) where
-  pub inputs_first : (n : ℕ) → n ≡ length g.pairs → AreInputsTo g 0 (replicate n None)
-  inputs_first n e = record {
-    one_each = length_none n ∙ e;
-    some = λ c i at. let f = all_none n c (Some i) at in cc;
-    none = λ c i at lt leaf. absurd (omega arith);
-  }
-
   pub inputs_next : (n c : ℕ) (xs : List (Option ℕ)) → slice_get g.leaves n ≡ Some c → c < length xs → AreInputsTo g n xs → AreInputsTo g (n + 1) (slice_set xs c (Some n))
   inputs_next n c xs here lt are = record {
     one_each = length_set xs c (Some n) ∙ are.one_each;

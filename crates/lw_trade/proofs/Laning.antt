@@ -1,5 +1,5 @@
 -- What waits in lanes.
-use Rattle.std.proofs.Common.{◌≡◌, ℕ, zero, suc, ◌+◌, ◌<◌, ◌≤◌, ◌⊎◌, inl, inr, max, List, [], ◌∷◌, ◌++◌, length, take, Contains, Option, Some, slice_get, slice_set, slice_index_or, refl, ap, sym, ◌∙◌, subst, arith}
+use Rattle.std.proofs.Common.{◌≡◌, ℕ, zero, suc, ◌+◌, ◌<◌, ◌≤◌, ◌⊎◌, inl, inr, max, List, [], ◌∷◌, ◌++◌, length, take, Contains, Some, slice_get, slice_set, slice_index_or, refl, ap, sym, ◌∙◌, subst, arith}
 use native.Mathlib.Nat.{eq-or-lt_of_le}
 use Rattle.std.specs.List.Sorted.{IsPermutation}
 use Rattle.std.proofs.lemmas.List.Sorted.{IsPermutation-refl, IsPermutation-trans, IsPermutation-append_right, IsPermutation-middle, IsPermutation-sym}
@@ -47,12 +47,6 @@ most_both xs ys a b m e ((x, xt, xe), xall) ((y, yt, ye), yall) = (by_case (case
     by_case : (a < b) ⊎ (b ≤ a) → (z : Item) × Contains (xs ++ ys) z × (z.0 ≡ m)
     by_case (inl lt) = (y, Contains-append_right xs ys y yt, omega arith)
     by_case (inr le) = (x, Contains-append_left xs ys x xt, omega arith)
-
-pub most_first : (xs ys : List Item) (o : Option ℕ) → xs ≡ [] → IsMostLeft ys o → IsMostLeft (xs ++ ys) o
-most_first xs ys o e is = subst (λ zs. IsMostLeft (zs ++ ys) o) (sym e) is
-
-pub most_second : (xs ys : List Item) (o : Option ℕ) → ys ≡ [] → IsMostLeft xs o → IsMostLeft (xs ++ ys) o
-most_second xs ys o e is = subst (λ zs. IsMostLeft zs o) (sym (append-nil xs) ∙ ap (λ zs. xs ++ zs) (sym e)) is
 
 pub flat_none : (lanes : List (List Item)) (lane : List Item) → flat lanes ≡ [] → lane ≡ [] → flat (lanes ++ lane ∷ []) ≡ []
 flat_none lanes lane e f = flat_snoc lanes lane ∙ (ap (λ xs. xs ++ lane) e ∙ f)

@@ -8,10 +8,10 @@ use Rattle.lw_pool.specs.declared.id.ClassId.{ClassId}
 use Rattle.lw_genlib.specs.Tables.{millionths}
 use Rattle.lw_trade.proofs.Lists.{got}
 use Rattle.lw_fixed.specs.declared.micro.Micro.{Micro}
-use Rattle.lw_laws.specs.Covers.{latest, delays_of, start_of}
+use Rattle.lw_laws.specs.Covers.{latest, delays_of}
 use Rattle.lw_trade.specs.Areas.{most_area, total, area_at}
 use Rattle.lw_trade.specs.Points.{Task, timing}
-use Rattle.lw_trade.specs.Choices.Part.{input, gate}
+use Rattle.lw_trade.specs.Choices.Part.{gate}
 use Rattle.lw_trade.specs.Fronts.{IsLeastSpot}
 use Rattle.lw_trade.specs.Pricing.{ArePinSpots, IsBestOfPins}
 use Rattle.lw_trade.specs.Settling.{Spot, times, areas, IsBest}
@@ -132,10 +132,3 @@ module _ (s : Task) (spots : List Spot) (time cell : ℕ) (ps : List ℕ) where
         let l = low js (record { each = zip; in_time = omega arith }) in
         omega arith,
   )
-
-module _ (s : Task) (spots : List Spot) (time i : ℕ) where
-  pub input_none : time < start_of (timing s).starts i → IsBest s spots (input i) time None
-  input_none lt t a (et, ea) le = absurd (omega arith)
-
-  pub input_some : start_of (timing s).starts i ≤ time → IsBest s spots (input i) time (Some 0)
-  input_some le = ((start_of (timing s).starts i, le, (refl, refl)), λ t a (et, ea) l. omega arith)

@@ -1,5 +1,5 @@
 -- The first of the choices that wait.
-use Rattle.std.proofs.Common.{◌≡◌, ◌≢◌, ℕ, zero, suc, max, ◌-◌, ◌<◌, ◌≤◌, List, [], ◌∷◌, ◌++◌, length, All, Contains, Option, Some, None, ◌⊎◌, inl, inr, slice_get, slice_index_or, refl, ap, sym, subst, arith}
+use Rattle.std.proofs.Common.{◌≡◌, ◌≢◌, ℕ, zero, suc, max, ◌-◌, ◌<◌, ◌≤◌, List, [], ◌∷◌, ◌++◌, length, All, Contains, Some, ◌⊎◌, inl, inr, slice_get, slice_index_or, refl, ap, sym, subst, arith}
 use native.Mathlib.Nat.{eq-or-lt_of_le}
 use Rattle.std.specs.BinaryHeap.{IsHeap, IsUpperBound}
 use Rattle.std.specs.Ordering.{nat_cmp, ordering_then}
@@ -182,10 +182,3 @@ first_of p q one other (w, first) (v, second) lt = (inl w, first, λ t n u. let 
 
 pub second_of : (p q : Queued) (one other : ℕ) → IsFirstTime p (Some one) → IsFirstTime q (Some other) → other ≤ one → IsFirstOf p q (Some other)
 second_of p q one other (w, first) (v, second) lt = (inr v, (λ t n u. let le = first t n u in omega arith), second)
-
-pub only_first : (p q : Queued) (one : ℕ) → IsFirstTime p (Some one) → IsFirstTime q None → IsFirstOf p q (Some one)
-only_first p q one (w, first) none = (inl w, first, λ t n u. absurd (none_waits q none t n u))
-
-pub only_second : (p q : Queued) (o : Option ℕ) → IsFirstTime p None → IsFirstTime q o → IsFirstOf p q o
-only_second p q None none none' = (none, none')
-only_second p q (Some time) none (w, second) = (inr w, (λ t n u. absurd (none_waits p none t n u)), second)

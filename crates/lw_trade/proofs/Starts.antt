@@ -1,16 +1,15 @@
 -- What choices give without points of pins.
-use Rattle.std.proofs.Common.{◌≡◌, ℕ, suc, ◌+◌, ◌<◌, ◌≤◌, ◌⊎◌, inl, inr, length, map, List, [], ◌∷◌, Option, Some, slice_get, refl, ap, sym, ◌∙◌, subst, arith}
+use Rattle.std.proofs.Common.{◌≡◌, ℕ, suc, ◌+◌, ◌<◌, ◌≤◌, ◌⊎◌, inl, inr, length, List, [], ◌∷◌, Option, Some, slice_get, refl, ap, sym, ◌∙◌, subst, arith}
 use native.Mathlib.Nat.{eq-or-lt_of_le}
 use Rattle.std.proofs.lemmas.List.{length-map}
 use Rattle.std.proofs.lemmas.Option.{same_Some, slice_get_within}
 use Rattle.lw_fixed.specs.declared.micro.Micro.{Micro}
 use Rattle.lw_pool.specs.declared.id.ClassId.{ClassId}
-use Rattle.lw_laws.specs.Covers.{start_of, delays_of}
-use Rattle.lw_genlib.specs.Tables.{millionths}
+use Rattle.lw_laws.specs.Covers.{delays_of}
 use Rattle.lw_trade.specs.declared.choices.Row.{Row}
 use Rattle.lw_trade.specs.declared.uses.Uses.{Uses}
 use Rattle.lw_trade.specs.Choices.{Choice, AreListedChoices}
-use Rattle.lw_trade.specs.Choices.Part.{input, gate}
+use Rattle.lw_trade.specs.Choices.Part.{gate}
 use Rattle.lw_trade.specs.Points.{Task, timing}
 use Rattle.lw_trade.specs.Rows.{plain_row, plain_rows}
 use Rattle.lw_trade.specs.Settling.{Gives, Queued, Waits, AreFirst, IsStarted, IsStillFor}
@@ -18,9 +17,6 @@ use Rattle.lw_trade.specs.Uses.{turns_of}
 use Rattle.lw_trade.proofs.Queueing.{none_waits}
 use Rattle.lw_pool.specs.Numbers.{numbers}
 use Rattle.lw_laws.proofs.LabelLaws.{latest_none}
-
-pub input_first : (s : Task) (starts : List Micro) (i t a r : ℕ) → s.starts ≡ starts → r ≡ start_of (map millionths starts) i → Gives s [] (input i) t a → Some r ≡ Some t
-input_first s starts i t a r e f (et, ea) = ap Some (f ∙ (ap (λ ms. start_of (map millionths ms) i) (sym e) ∙ sym et))
 
 pub pinless_first : (s : Task) (cell t a : ℕ) (ps : List ℕ) → ps ≡ [] → Gives s [] (gate cell ps) t a → ◌≡◌ {A = Option ℕ} (Some 0) (Some t)
 pinless_first s cell t a [] e ([], zip, et, ea) = ap Some (sym (et ∙ latest_none (delays_of (timing s).delays cell)))

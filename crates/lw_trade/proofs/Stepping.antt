@@ -213,9 +213,6 @@ module _ (s : Task) (choices : List Choice) (now g : ℕ) (spots : List Spot) (u
 
 -- Uses of a point that was gained.
 
-delay_in : (ds : List ℕ) (j : ℕ) → ℕ
-delay_in ds j = slice_index_or ds j 0
-
 pin_below : (ds : List ℕ) (ks : List Spot) (j : ℕ) (k : Spot) → length ds ≡ length ks → slice_get ks j ≡ Some k → k.time + slice_index_or ds j 0 ≤ latest ds (times ks)
 pin_below ds [] j k e at = cc
 pin_below [] (l ∷ ks) j k e at = absurd (omega arith)

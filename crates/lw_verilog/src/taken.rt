@@ -12,7 +12,7 @@ ghost use Rattle.lw_netlist.specs.Plain.{port_name};
 
 use crate::putting::is_output;
 use itoa::Buffer;
-use lw_mapped::are_digits;
+use lw_fixed::are_digits;
 use lw_netlist::Port;
 use lw_pool::Name;
 

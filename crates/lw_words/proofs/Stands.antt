@@ -1,6 +1,6 @@
 -- What a value stands for, call by call.
-use Rattle.std.proofs.Common.{ℕ, zero, suc, ◌≡◌, ◌+◌, ◌≤◌, Bool, true, false, ◌&&◌, cond, List, [], ◌∷◌, ◌++◌, length, drop, Option, Some, None, refl, ap, sym, ◌∙◌, subst, arith, length-append}
-use Rattle.std.specs.Prelude.{slice_get, option_to_list}
+use Rattle.std.proofs.Common.{ℕ, zero, suc, ◌≡◌, ◌+◌, ◌≤◌, Bool, true, false, ◌&&◌, cond, List, [], ◌∷◌, ◌++◌, length, drop, Option, None, refl, ap, sym, ◌∙◌, subst, arith, length-append}
+use Rattle.std.specs.Prelude.{option_to_list}
 use Rattle.std.proofs.lemmas.List.{drop-append-le}
 use Rattle.lw_words.specs.declared.place.Place.{Place}
 use Rattle.lw_words.specs.declared.lines.Lines.{Lines}
@@ -121,25 +121,6 @@ stands-finish old new fed taken r still h =
       open_line = λ e. let wrong : true ≡ false = sym r.finished ∙ e in cc;
     }
 
--- the first line that is left
-slice_get-left : (taken : ℕ) (all left : List LogicalLine) → left ≡ drop taken all → slice_get all taken ≡ slice_get left 0
-slice_get-left zero [] left e = ap (λ ls. slice_get ls 0) (sym e)
-slice_get-left zero (x ∷ all) left e = ap (λ ls. slice_get ls 0) (sym e)
-slice_get-left (suc taken) [] left e = ap (λ ls. slice_get ls 0) (sym e)
-slice_get-left (suc taken) (x ∷ all) left e = slice_get-left taken all left e
-
-drop-one : (taken : ℕ) (all : List LogicalLine) (x : LogicalLine) (rest : List LogicalLine) → x ∷ rest ≡ drop taken all → (rest ≡ drop (taken + 1) all) × (taken + 1 ≤ length all)
-drop-one taken [] x rest e = by_number taken e
-  where
-    by_number : (n : ℕ) → x ∷ rest ≡ drop n [] → (rest ≡ drop (taken + 1) []) × (taken + 1 ≤ 0)
-    by_number zero e = cc
-    by_number (suc n) e = cc
-drop-one zero (y ∷ all) x rest e = let is : rest ≡ all = cc in (is, omega arith)
-drop-one (suc taken) (y ∷ all) x rest e =
-    let h = drop-one taken all x rest e in
-    let more : suc taken + 1 ≡ suc (taken + 1) = omega arith in
-    (h.0 ∙ sym (ap (λ n. drop n (y ∷ all)) more), omega (arith, h.1))
-
 pub record Takes (old : Lines) (line : Option LogicalLine) (new : Lines) : Type 0 where
   pub marked : new.marked ≡ old.marked
   pub finished : new.finished ≡ old.finished
@@ -150,35 +131,3 @@ pub record Takes (old : Lines) (line : Option LogicalLine) (new : Lines) : Type 
   pub gathering : new.gathering ≡ old.gathering
   pub ready : old.ready.items ≡ option_to_list line ++ new.ready.items
   pub none : line ≡ None → old.ready.items ≡ []
-
-pub take-line : (old new : Lines) (line : Option LogicalLine) (fed : List ℕ) (taken : ℕ) → Takes old line new → StandsFor old fed taken → line ≡ slice_get (lines_so_far old fed) taken
-take-line old new line fed taken r h = by_line line r.ready r.none ∙ sym (slice_get-left taken (lines_so_far old fed) old.ready.items h.left)
-  where
-    by_line : (l : Option LogicalLine) → old.ready.items ≡ option_to_list l ++ new.ready.items → (l ≡ None → old.ready.items ≡ []) → l ≡ slice_get old.ready.items 0
-    by_line None e none = sym (ap (λ ls. slice_get ls 0) (none refl))
-    by_line (Some l) e none = sym (ap (λ ls. slice_get ls 0) e)
-
-same-so_far : (old new : Lines) (fed : List ℕ) → new.marked ≡ old.marked → new.finished ≡ old.finished → lines_so_far new fed ≡ lines_so_far old fed
-same-so_far old new fed em ef =
-    ap (λ t. cond t (logical_lines new.marked fed) (finished_lines new.marked fed)) ef
-    ∙ ap (λ m. cond old.finished (logical_lines m fed) (finished_lines m fed)) em
-
-pub stands-take : (old new : Lines) (line : Option LogicalLine) (fed : List ℕ) (taken : ℕ) → Takes old line new → StandsFor old fed taken → StandsFor new fed (taken + length (option_to_list line))
-stands-take old new line fed taken r h =
-    let same = same-so_far old new fed r.marked r.finished in
-    let parts = by_line line r.ready r.none in
-    record {
-      count = r.fed ∙ h.count;
-      within = omega (arith, parts.1, ap length same);
-      left = parts.0 ∙ sym (ap (drop (taken + length (option_to_list line))) same);
-      open_line = λ e. same-reading old.marked new.marked fed _ new.number _ new.at _ new.place _ new.gathering r.marked r.number r.at r.place r.gathering (h.open_line (sym r.finished ∙ e));
-    }
-  where
-    by_line : (l : Option LogicalLine) → old.ready.items ≡ option_to_list l ++ new.ready.items → (l ≡ None → old.ready.items ≡ []) →
-        (new.ready.items ≡ drop (taken + length (option_to_list l)) (lines_so_far old fed)) × (taken + length (option_to_list l) ≤ length (lines_so_far old fed))
-    by_line None e none =
-        let zero_more : taken + 0 ≡ taken = omega arith in
-        (sym e ∙ (h.left ∙ ap (λ n. drop n (lines_so_far old fed)) (sym zero_more)), omega (arith, h.within))
-    by_line (Some l) e none =
-        let d = drop-one taken (lines_so_far old fed) l new.ready.items (sym e ∙ h.left) in
-        (d.0, d.1)
