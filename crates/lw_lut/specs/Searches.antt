@@ -92,7 +92,7 @@ abbrev pub ServesAsSide : Search → ℕ → PlainCut → Type 0
 ServesAsSide s c cut =
     (g : Graph) (most limit : ℕ) → AreCounts g most limit s → count_at s.counts.items c ≤ most → IsSide g limit s c cut
 
--- The same while classes get the depth d: known depths are d at most.
+-- What a search keeps while classes get the depth d: its lists, and known depths of d at most.
 abbrev pub AreSettling : Graph → ℕ → ℕ → Search → Type 0
 AreSettling g most d s =
     AreLists g most d (suc d) s.counts.items s.cuts.items s.pins.items s.depths.items × ((c e : ℕ) → depth_in s.depths.items c ≡ Some e → e ≤ d)

@@ -70,7 +70,7 @@ pub record SeesPlace (t : Task) (s : Search) (place : ℕ) (next span : Span) : 
   pub grown : IsWithin next span
   pub seen : (slice_index s.counts.items place ≤ 1 → ⊥) → slice_index s.counts.items place ≤ t.leaves → IsWithin (span_at t.reach.now place) span
 
--- the same for all places, where only those of a span had few enough leaves and no depth; what is to be looked at then is in another
+-- all places are settled, where only those of one span had few enough leaves and no depth; what is to be looked at then is in another
 pub record SettlesAll (t : Task) (d : ℕ) (old new : Search) (swept next : Span) (changed : Bool) : Type 0 where
   pub lists : (g : Graph) → AreSettling g t.leaves d old → AreSettling g t.leaves d new
   pub settled : (g : Graph) → AreSettling g t.leaves d old → AreKnownBut t.leaves old.counts.items old.depths.items swept → AreSettled t.leaves d old new (length old.counts.items) changed

@@ -68,10 +68,10 @@ pub(crate) fn put_reason<S: Sink>(out: &mut Writer<'_, S>, reason: &Reason)
             u128::from(*class),
             b" is not in the graph",
         ),
-        Reason::NotMatch(net) => { put_three(out, b"gate ", net.as_bytes(), b" is no match") }
-        Reason::Label(class, label, value) => { put_label_reason(out, *class, *label, *value) }
+        Reason::NotMatch(net) => put_three(out, b"gate ", net.as_bytes(), b" is no match"),
+        Reason::Label(class, label, value) => put_label_reason(out, *class, *label, *value),
         Reason::Root(name, found, root) => put_root_reason(out, name, *found, *root),
-        Reason::Value(name, arrival, label) => { put_value_reason(out, name, *arrival, *label) }
+        Reason::Value(name, arrival, label) => put_value_reason(out, name, *arrival, *label),
     }
 }
 

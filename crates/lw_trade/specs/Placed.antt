@@ -58,7 +58,7 @@ pub record ArePortsAt (inputs : ℕ) (places : List ℕ) (names : List (List ℕ
   pub names_are : map port_name ports ≡ names
   pub nets_are : map port_net ports ≡ map (placed_net inputs places) nets
 
--- the same by the places of a walk's nodes
+-- what is placed: whether a net is one of it, the net of a node, and the gate of a node, by the places of a walk's nodes
 abbrev pub HasNet : Placing → ℕ → Type 0
 HasNet at net = net < at.inputs + length at.places.now
 

@@ -198,8 +198,8 @@ fn is_gate(plan: &Plan, trail: &Trail, number: usize) -> bool
     true
 }
 
-// Whether each gate that a walk has found has a user, a cell and nets, and there are no more of them
-// than points.
+// Whether each gate that a walk has found has a user, a cell and nets, and there are no more of
+// them than points.
 fn is_even(trail: &Trail) -> bool
     ensures { IsTrue result → IsEven trail.now }
 {

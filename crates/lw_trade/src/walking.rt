@@ -39,8 +39,8 @@ pub(crate) struct User {
 }
 
 /// The points that get a gate, what uses the net of each first, the exact gate of each point of
-/// each class, the shared gate of each class, the place of the point that shared uses take, the time
-/// by which these need the class, whether roots that are cut share gates, and the walk.
+/// each class, the shared gate of each class, the place of the point that shared uses take, the
+/// time by which these need the class, whether roots that are cut share gates, and the walk.
 #[derive(Drop)]
 pub(crate) struct Trail {
     pub nodes: Vec<Node>,
