@@ -1,6 +1,8 @@
 -- Ranks of nodes, by which most nodes that are on no cycle are told without a search.
-use Rattle.std.specs.Prelude.{ℕ, ◌+◌, ◌*◌, ◌<◌, ◌≤◌, ◌≡◌, ◌⊎◌, List, length, slice_index_or, vec_len, Contains, All}
+use Rattle.std.specs.Prelude.{ℕ, ◌+◌, ◌*◌, ◌<◌, ◌≤◌, ◌≡◌, ◌⊎◌, List, [], length, slice_index_or, vec_len, Contains, All}
 use Rattle.std.specs.Global.{Vec}
+use Rattle.lw_dag.specs.declared.graph.SmallGraph.{SmallGraph}
+use Rattle.lw_dag.specs.declared.ranking.Ranking.{Ranking}
 use Rattle.lw_dag.specs.declared.turning.Stop.{Stop}
 use Rattle.lw_dag.specs.declared.turning.Walk.{Walk}
 use Rattle.lw_dag.specs.Graphs.{fanins_at}
@@ -42,13 +44,14 @@ pub record IsRanking (inputs : ℕ) (graph : List (List ℕ)) (rank : ℕ) (rank
   pub nodes : (x : ℕ) → Contains ready x → (x < length graph) × (rank_at ranks x ≡ rank)
   pub falls : (x y : ℕ) → 0 < rank_at ranks x → Contains (fanins_at graph x) (inputs + y) → IsNotAbove ranks x y ⊎ Contains ready x ⊎ ((rank_at ranks x ≡ rank) × Contains later (inputs + y))
 
--- Fan-ins were ranked: they need not be looked at any more, and there is no more to do than before.
-pub record AreRanked (inputs rank : ℕ) (later still : List ℕ) (ranks new_ranks ready new_ready : Vec ℕ) : Type 0 where
-  pub ranking : (graph : List (List ℕ)) → IsRanking inputs graph rank ranks.items ready.items later → IsRanking inputs graph rank new_ranks.items new_ready.items still
-  pub less : 2 * unknown new_ranks.items + vec_len new_ready ≤ 2 * unknown ranks.items + vec_len ready
-  pub len : vec_len new_ranks ≡ vec_len ranks
+-- Signals were ranked: they need not be looked at any more, and there is no more to do than before.
+pub record AreRanked (inputs rank : ℕ) (later still : List ℕ) (old new : Ranking) : Type 0 where
+  pub ranking : (graph : List (List ℕ)) → IsRanking inputs graph rank old.ranks.items old.ready.items later → IsRanking inputs graph rank new.ranks.items new.ready.items still
+  pub less : 2 * unknown new.ranks.items + vec_len new.ready ≤ 2 * unknown old.ranks.items + vec_len old.ready
+  pub len : vec_len new.ranks ≡ vec_len old.ranks
 
--- all ranks are at most that of the last node that got one
-pub record AreRanksTo (inputs : ℕ) (graph : List (List ℕ)) (rank : ℕ) (ranks : List ℕ) : Type 0 where
-  pub are : AreRanks inputs graph ranks
-  pub low : (x : ℕ) → rank_at ranks x ≤ rank
+-- all ranks are at most that of the last node that got one, and no fan-ins are still to be looked at
+pub record AreRanksTo (graph : SmallGraph) (rank : ℕ) (ranking : Ranking) : Type 0 where
+  pub are : AreRanks graph.inputs graph.nodes.now ranking.ranks.items
+  pub low : (x : ℕ) → rank_at ranking.ranks.items x ≤ rank
+  pub done : ranking.ready.items ≡ []

@@ -1,6 +1,6 @@
 -- While nodes are searched for that a node leads to.
 use Rattle.std.specs.Prelude.{ℕ, ◌+◌, ◌*◌, ◌<◌, ◌≤◌, ◌≡◌, ◌⊎◌, count_by, vec_len, Bool, true, false, not, List, length, slice_index_or, Contains}
-use Rattle.std.specs.Global.{Vec}
+use Rattle.lw_dag.specs.declared.cycles.Reached.{Reached}
 use Rattle.lw_dag.specs.Graphs.{fanins_at, Leads}
 
 abbrev pub is_seen : List Bool → ℕ → Bool
@@ -23,8 +23,8 @@ pub record IsSearching (inputs : ℕ) (graph : List (List ℕ)) (p : ℕ) (seen 
   pub fanins : (s : ℕ) → Contains later s → (s < inputs + length graph) × Leads inputs graph p s
   pub closed : (x y : ℕ) → IsReached p seen x → Contains (fanins_at graph x) (inputs + y) → (is_seen seen y ≡ true) ⊎ Contains ready x ⊎ Contains later (inputs + y)
 
--- Fan-ins were noted: they need not be looked at any more, and there is no more to do than before.
-pub record AreLookedAt (inputs : ℕ) (later still : List ℕ) (seen new_seen : Vec Bool) (ready new_ready : Vec ℕ) : Type 0 where
-  pub searching : (graph : List (List ℕ)) (p : ℕ) → IsSearching inputs graph p seen.items ready.items later → IsSearching inputs graph p new_seen.items new_ready.items still
-  pub less : 2 * unseen new_seen.items + vec_len new_ready ≤ 2 * unseen seen.items + vec_len ready
-  pub len : vec_len new_seen ≡ vec_len seen
+-- Signals were noted: they need not be looked at any more, and there is no more to do than before.
+pub record AreLookedAt (inputs : ℕ) (later still : List ℕ) (old new : Reached) : Type 0 where
+  pub searching : (graph : List (List ℕ)) (p : ℕ) → IsSearching inputs graph p old.seen.items old.ready.items later → IsSearching inputs graph p new.seen.items new.ready.items still
+  pub less : 2 * unseen new.seen.items + vec_len new.ready ≤ 2 * unseen old.seen.items + vec_len old.ready
+  pub len : vec_len new.seen ≡ vec_len old.seen

@@ -1,9 +1,9 @@
 // The first node that leads to itself.
-ghost use Rattle.std.specs.Prelude.{◌≡◌, ◌+◌, ◌<◌, ◌≤◌, ◌↔◌, [], ℕ, false, length, drop, vec_len, IsTrue, IfOk, IfSome, IfNone, OnOk, MatchOption, Contains, All};
+ghost use Rattle.std.specs.Prelude.{◌≡◌, ◌+◌, ◌<◌, ◌≤◌, ◌↔◌, ℕ, List, [], ◌∷◌, false, length, vec_len, IsTrue, IfOk, IfSome, IfNone, OnOk, MatchOption, Contains, All};
 ghost use Rattle.lw_dag.specs.Graphs.{most_signals, IsGraph, height_at, AreHeights, IsStuck, IsFirst};
 ghost use Rattle.lw_dag.specs.Searching.{AreLookedAt};
 ghost use Rattle.lw_dag.specs.Ranking.{AreRanks};
-ghost use Rattle.lw_dag.specs.SmallGraphs.{AreHeightsIn, LeadsToItself, AreAllHigh, IsLowAt};
+ghost use Rattle.lw_dag.specs.SmallGraphs.{AreHeightsOf, LacksHeight, LeadsToItself, IsOnCycle, AreAllHigh, IsLowAt};
 
 use crate::graph::SmallGraph;
 use crate::levels::open_fanin;
@@ -37,19 +37,20 @@ fn stuck_fanin(inputs: usize, fanins: &[u32], heights: &[u32]) -> usize
     }
 }
 
+// A graph with the heights of its signals.
+#[derive(Clone, Copy)]
+struct Levelled<'a> {
+    graph: &'a SmallGraph<'a>,
+    heights: &'a [u32],
+}
+
 // Goes from a node without a height to such a fan-in, until one comes again: it is on a cycle.
-fn on_cycle(
-    alloc: Global,
-    graph: &SmallGraph,
-    heights: &[u32],
-    start: usize,
-) -> Result<usize, AllocError>
-    requires heights { AreHeightsIn graph.now heights.now }
-    requires within { start < length graph.now.nodes.now }
-    requires lacks { height_at heights.now (graph.now.inputs + start) ≡ 0 }
-    ensures within { IfOk result (λ p. p < length graph.now.nodes.now) }
-    ensures cycle { IfOk result (LeadsToItself graph.now) }
+fn on_cycle(alloc: Global, of: &Levelled, start: usize) -> Result<usize, AllocError>
+    requires heights { AreHeightsOf of.now }
+    requires start { LacksHeight of.now start }
+    ensures { IfOk result (IsOnCycle of.now.graph.now) }
 {
+    let Levelled { graph, heights } = *of;
     let mut seen = vec![in alloc; false; graph.nodes.len()]?;
     let mut at = start;
     'walk: while !seen[at] {
@@ -59,46 +60,42 @@ fn on_cycle(
     Ok(at)
 }
 
-// Notes one of the fan-ins, where it is a node that wasn't seen.
-fn note(
-    seen: &mut Vec<bool>,
-    ready: &mut Vec<u32>,
-    inputs: usize,
-    fanins: &[u32],
-    at: usize,
-) -> Result<(), AllocError>
-    requires place { at < length fanins.now }
-    requires signals { All (λ s. s < inputs + vec_len seen.old) fanins.now }
-    ensures { OnOk result (AreLookedAt inputs (drop at fanins.now) (drop (at + 1) fanins.now)
-        seen.old seen.new ready.old ready.new) }
-{
-    let s = fanins[at];
-    if (s as usize) < inputs {
-        return Ok(());
-    }
-    let node = s as usize - inputs;
-    if seen[node] {
-        return Ok(());
-    }
-    ready.push(node as u32)?;
-    seen[node] = true;
-    Ok(())
+// The nodes that were seen, and those whose fan-ins are still to be looked at.
+#[derive(Drop)]
+struct Reached {
+    seen: Vec<bool>,
+    ready: Vec<u32>,
 }
 
-// Notes all the fan-ins of a node.
-fn note_all(
-    seen: &mut Vec<bool>,
-    ready: &mut Vec<u32>,
-    inputs: usize,
-    fanins: &[u32],
-) -> Result<(), AllocError>
-    requires { All (λ s. s < inputs + vec_len seen.old) fanins.now }
-    ensures { OnOk result (AreLookedAt inputs fanins.now [] seen.old seen.new ready.old ready.new) }
-{
-    for at in 0..fanins.len() {
-        note(seen, ready, inputs, fanins, at)?;
+impl Reached {
+    // Notes the node that drives a signal, where it wasn't seen.
+    fn note(&mut self, inputs: usize, s: u32) -> Result<(), AllocError>
+        requires { s < inputs + vec_len self.old.seen }
+        ensures { OnOk result ((later : List ℕ) →
+            AreLookedAt inputs (s ∷ later) later self.old self.new) }
+    {
+        if (s as usize) < inputs {
+            return Ok(());
+        }
+        let node = s as usize - inputs;
+        if self.seen[node] {
+            return Ok(());
+        }
+        self.ready.push(node as u32)?;
+        self.seen[node] = true;
+        Ok(())
     }
-    Ok(())
+
+    // Notes all the fan-ins of a node.
+    fn note_all(&mut self, inputs: usize, fanins: &[u32]) -> Result<(), AllocError>
+        requires { All (λ s. s < inputs + vec_len self.old.seen) fanins.now }
+        ensures { OnOk result (AreLookedAt inputs fanins.now [] self.old self.new) }
+    {
+        for s in fanins {
+            self.note(inputs, *s)?;
+        }
+        Ok(())
+    }
 }
 
 // Whether a node leads to itself.
@@ -106,34 +103,25 @@ fn leads_to_itself(alloc: Global, graph: &SmallGraph, p: usize) -> Result<bool, 
     requires { p < length graph.now.nodes.now }
     ensures { IfOk result (λ b. IsTrue b ↔ LeadsToItself graph.now p) }
 {
-    let mut seen = vec![in alloc; false; graph.nodes.len()]?;
+    let seen = vec![in alloc; false; graph.nodes.len()]?;
     let mut ready = Vec::new(alloc);
     ready.push(p as u32)?;
-    'search: while let Some(x) = ready.pop() {
-        note_all(
-            &mut seen,
-            &mut ready,
-            graph.inputs,
-            graph.nodes[x as usize].as_slice(),
-        )?;
+    let mut reached = Reached { seen, ready };
+    'search: while let Some(x) = reached.ready.pop() {
+        reached.note_all(graph.inputs, graph.nodes[x as usize].as_slice())?;
     }
-    Ok(seen[p])
+    Ok(reached.seen[p])
 }
 
 // Whether a node is on a cycle; one that has a height is not, nor is one whose fan-ins are all
 // below it.
-fn is_on_cycle(
-    alloc: Global,
-    graph: &SmallGraph,
-    heights: &[u32],
-    ranks: &[usize],
-    p: usize,
-) -> Result<bool, AllocError>
-    requires heights { AreHeightsIn graph.now heights.now }
-    requires ranks { AreRanks graph.now.inputs graph.now.nodes.now ranks.now }
-    requires within { p < length graph.now.nodes.now }
-    ensures { IfOk result (λ b. IsTrue b ↔ LeadsToItself graph.now p) }
+fn is_on_cycle(alloc: Global, of: &Levelled, ranks: &[usize], p: usize) -> Result<bool, AllocError>
+    requires heights { AreHeightsOf of.now }
+    requires ranks { AreRanks of.now.graph.now.inputs of.now.graph.now.nodes.now ranks.now }
+    requires within { p < length of.now.graph.now.nodes.now }
+    ensures { IfOk result (λ b. IsTrue b ↔ LeadsToItself of.now.graph.now p) }
 {
+    let Levelled { graph, heights } = *of;
     if heights[graph.inputs + p] != 0 {
         return Ok(false);
     }
@@ -145,21 +133,15 @@ fn is_on_cycle(
 
 // The first node that leads to itself, where some node has no height. By the ranks, only a node on
 // a cycle is searched from.
-fn first_behind(
-    alloc: Global,
-    graph: &SmallGraph,
-    heights: &[u32],
-    start: usize,
-) -> Result<usize, AllocError>
-    requires heights { AreHeightsIn graph.now heights.now }
-    requires within { start < length graph.now.nodes.now }
-    requires lacks { height_at heights.now (graph.now.inputs + start) ≡ 0 }
-    ensures { IfOk result (IsFirst graph.now.inputs graph.now.nodes.now) }
+fn first_behind(alloc: Global, of: &Levelled, start: usize) -> Result<usize, AllocError>
+    requires heights { AreHeightsOf of.now }
+    requires start { LacksHeight of.now start }
+    ensures { IfOk result (IsFirst of.now.graph.now.inputs of.now.graph.now.nodes.now) }
 {
-    let last = on_cycle(alloc, graph, heights, start)?;
-    let ranks = ranks(alloc, graph)?;
+    let last = on_cycle(alloc, of, start)?;
+    let ranks = ranks(alloc, of.graph)?;
     for p in 0..last {
-        if is_on_cycle(alloc, graph, heights, &ranks, p)? {
+        if is_on_cycle(alloc, of, &ranks, p)? {
             return Ok(p);
         }
     }
@@ -183,10 +165,6 @@ pub fn first_on_cycle(
     let Some(start) = first_stuck(inputs, heights) else {
         return Ok(None);
     };
-    let small = SmallGraph {
-        inputs,
-        nodes: graph,
-    };
-    let first = first_behind(alloc, &small, heights, start)?;
-    Ok(Some(first))
+    let graph = &SmallGraph::of(inputs, graph);
+    Ok(Some(first_behind(alloc, &Levelled { graph, heights }, start)?))
 }

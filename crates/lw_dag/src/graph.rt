@@ -1,5 +1,6 @@
 // A graph with how many inputs it has.
-ghost use Rattle.lw_dag.specs.Graphs.{IsSmallGraph};
+ghost use Rattle.std.specs.Prelude.{◌≡◌, ◌+◌, ◌≤◌, length};
+ghost use Rattle.lw_dag.specs.Graphs.{most_signals, IsGraph, IsSmallGraph};
 
 use lw_pool::Numbers;
 
@@ -10,4 +11,16 @@ pub(crate) struct SmallGraph<'a> {
     pub(crate) inputs: usize,
     pub(crate) nodes: &'a [Numbers],
     ghost small: { IsSmallGraph inputs nodes.now },
+}
+
+impl<'a> SmallGraph<'a> {
+    /// The graph of these nodes.
+    pub(crate) fn of(inputs: usize, nodes: &'a [Numbers]) -> SmallGraph<'a>
+        requires graph { IsGraph inputs nodes.now }
+        requires few { inputs + length nodes.now ≤ most_signals }
+        ensures inputs { result.inputs ≡ inputs }
+        ensures nodes { result.nodes.now ≡ nodes.now }
+    {
+        SmallGraph { inputs, nodes }
+    }
 }

@@ -20,7 +20,7 @@ pub loop-p-init : goal.loop-p-init
 loop-p-init c = λ j lt. absurd (omega (arith, lt))
 
 pub is_on_cycle-requires-clause-ranks : goal.is_on_cycle-requires-clause-ranks
-is_on_cycle-requires-clause-ranks c = subst (AreRanks c.args.graph.now.inputs c.args.graph.now.nodes.now) (sym c.deref.ensures.value) c.in_ok-ranks.ensures
+is_on_cycle-requires-clause-ranks c = subst (AreRanks c.args.of.now.graph.now.inputs c.args.of.now.graph.now.nodes.now) (sym c.deref.ensures.value) c.in_ok-ranks.ensures
 
 pub is_on_cycle-requires-clause-within : goal.is_on_cycle-requires-clause-within
 is_on_cycle-requires-clause-within c = omega (arith, c.loop-p-test.true, c.in_ok-last.ensures.within)

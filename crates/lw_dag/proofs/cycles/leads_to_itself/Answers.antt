@@ -9,35 +9,35 @@ use Rattle.lw_dag.proofs.cycles.leads_to_itself.Goals as goal
 
 pub bounds-graph-x : goal.bounds-graph-x
 bounds-graph-x c =
-    let popped : c.search.ready.items ≡ c.pop.new.self.items ++ c.in-Some.x ∷ [] = c.in-Some.ensures.items in
+    let popped : c.search.reached.ready.items ≡ c.pop.new.self.items ++ c.in-Some.x ∷ [] = c.in-Some.ensures.items in
     (c.search.invariant.nodes c.in-Some.x (subst (λ l. Contains l c.in-Some.x) (sym popped) (Contains-push c.pop.new.self.items c.in-Some.x))).0
 
 pub note_all-requires : goal.note_all-requires
 note_all-requires c =
     let graph = c.args.graph.now.nodes.now in
     let x = c.in-Some.x in
-    let popped : c.search.ready.items ≡ c.pop.new.self.items ++ x ∷ [] = c.in-Some.ensures.items in
+    let popped : c.search.reached.ready.items ≡ c.pop.new.self.items ++ x ∷ [] = c.in-Some.ensures.items in
     let within : x < length graph = (c.search.invariant.nodes x (subst (λ l. Contains l x) (sym popped) (Contains-push c.pop.new.self.items x))).0 in
     let fanins : c.as_slice.result.now ≡ fanins_at graph x = c.as_slice.ensures ∙ get_or_default graph x c.index-graph-x.result [] within in
     let all : All (λ s. s < c.args.graph.now.inputs + length graph) (fanins_at graph x) = c.args.graph.now.small.graph x in
-    let flags : length graph ≡ vec_len c.search.seen = omega (arith, c.search.invariant.flags) in
+    let flags : length graph ≡ vec_len c.search.reached.seen = omega (arith, c.search.invariant.flags) in
     subst (λ n. All (λ s. s < c.args.graph.now.inputs + n) c.as_slice.result.now) flags (subst (All (λ s. s < c.args.graph.now.inputs + length graph)) (sym fanins) all)
 
 pub search-preserved : goal.search-preserved
 search-preserved c =
     let graph = c.args.graph.now.nodes.now in
     let x = c.in-Some.x in
-    let popped : c.search.ready.items ≡ c.pop.new.self.items ++ x ∷ [] = c.in-Some.ensures.items in
+    let popped : c.search.reached.ready.items ≡ c.pop.new.self.items ++ x ∷ [] = c.in-Some.ensures.items in
     let within : x < length graph = (c.search.invariant.nodes x (subst (λ l. Contains l x) (sym popped) (Contains-push c.pop.new.self.items x))).0 in
     let fanins : c.as_slice.result.now ≡ fanins_at graph x = c.as_slice.ensures ∙ get_or_default graph x c.index-graph-x.result [] within in
-    c.in_ok-note_all.ensures.searching graph c.args.p (subst (IsSearching c.args.graph.now.inputs graph c.args.p c.search.seen.items c.pop.new.self.items) (sym fanins) (searching_taken c.args.graph.now.inputs graph c.args.p c.search.seen.items c.search.ready.items c.pop.new.self.items x c.args.graph.now.small.graph popped c.search.invariant))
+    c.in_ok-note_all.ensures.searching graph c.args.p (subst (IsSearching c.args.graph.now.inputs graph c.args.p c.search.reached.seen.items c.pop.new.self.items) (sym fanins) (searching_taken c.args.graph.now.inputs graph c.args.p c.search.reached.seen.items c.search.reached.ready.items c.pop.new.self.items x c.args.graph.now.small.graph popped c.search.invariant))
 
 pub returns : goal.returns
 returns c =
     let graph = c.args.graph.now.nodes.now in
     let p = c.args.p in
-    let seen = c.search.seen.items in
-    let empty : c.search.ready.items ≡ [] = nil_from_length c.search.ready.items (omega (arith, c.in_default.ensures.cases.0)) in
+    let seen = c.search.reached.seen.items in
+    let empty : c.search.reached.ready.items ≡ [] = nil_from_length c.search.reached.ready.items (omega (arith, c.in_default.ensures.cases.0)) in
     let done = subst (λ l. IsSearching c.args.graph.now.inputs graph p seen l []) empty c.search.invariant in
     let within : p < length seen = omega (arith, c.search.invariant.flags) in
     let read = get_or_read seen p c.index.result.now within c.index.ensures false in

@@ -5,10 +5,10 @@ use Rattle.lw_dag.proofs.cycles.on_cycle.Given as goal
 
 abbrev pub invariant-walk : goal.invariant-walk
 invariant-walk l = record {
-  flags : vec_len l.seen ≡ length l.graph.nodes.now;
-  within : l.at < length l.graph.nodes.now;
-  lacks : height_at l.heights (l.graph.inputs + l.at) ≡ 0;
-  led : (x : ℕ) → is_seen l.seen.items x ≡ true → Leads l.graph.inputs l.graph.nodes.now x (l.graph.inputs + l.at);
+  flags : vec_len l.seen ≡ length l.of.graph.now.nodes.now;
+  within : l.at < length l.of.graph.now.nodes.now;
+  lacks : height_at l.of.heights.now (l.of.graph.now.inputs + l.at) ≡ 0;
+  led : (x : ℕ) → is_seen l.seen.items x ≡ true → Leads l.of.graph.now.inputs l.of.graph.now.nodes.now x (l.of.graph.now.inputs + l.at);
 }
 
 abbrev pub decreases-walk : goal.decreases-walk

@@ -17,6 +17,7 @@ loop-i-init c =
     record {
       are = subst (AreRanks c.args.graph.now.inputs graph) none (ranks_none c.args.graph.now.inputs graph);
       low = subst (λ ranks. (x : ℕ) → rank_at ranks x ≤ 0) none (low_none (length graph));
+      done = c.new-ready.ensures.items;
     }
 
 pub rank_from-requires-clause-within : goal.rank_from-requires-clause-within
@@ -30,7 +31,7 @@ pub rank_from-requires-clause-some : goal.rank_from-requires-clause-some
 rank_from-requires-clause-some c = omega arith
 
 pub rank_from-requires-clause-before : goal.rank_from-requires-clause-before
-rank_from-requires-clause-before c = record { are = c.loop-i.invariant.are; low = λ x. omega (arith, c.loop-i.invariant.low x) }
+rank_from-requires-clause-before c = record { are = c.loop-i.invariant.are; low = λ x. omega (arith, c.loop-i.invariant.low x); done = c.loop-i.invariant.done }
 
 pub returns-in_err-rank_from : goal.returns-in_err-rank_from
 returns-in_err-rank_from c = IfOk-from_err _ _ c.from_residual-in_err-rank_from.ensures.0

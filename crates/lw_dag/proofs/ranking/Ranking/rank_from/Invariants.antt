@@ -1,10 +1,10 @@
 use Rattle.std.proofs.Common.{◌+◌, ◌*◌, [], vec_len}
 use Rattle.lw_dag.specs.Rising.{unknown}
 use Rattle.lw_dag.specs.Ranking.{IsRanking}
-use Rattle.lw_dag.proofs.ranking.rank_from.Given as goal
+use Rattle.lw_dag.proofs.ranking.Ranking.rank_from.Given as goal
 
 abbrev pub invariant-search : goal.invariant-search
-invariant-search l = IsRanking l.graph.inputs l.graph.nodes.now l.rank l.ranks.items l.ready.items []
+invariant-search l = IsRanking l.graph.inputs l.graph.nodes.now l.rank l.self.ranks.items l.self.ready.items []
 
 abbrev pub decreases-search : goal.decreases-search
-decreases-search l = 2 * unknown l.ranks.items + vec_len l.ready
+decreases-search l = 2 * unknown l.self.ranks.items + vec_len l.self.ready
