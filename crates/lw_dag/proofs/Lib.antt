@@ -5,5 +5,6 @@ pub mod Ordered
 pub mod Ranks
 pub mod Rising
 pub mod Searching
+mod Settling
 pub mod Sorting
 pub mod Shared

@@ -1,8 +1,9 @@
 -- While heights are being found.
-use Rattle.std.specs.Prelude.{ℕ, ◌+◌, ◌*◌, ◌<◌, ◌≤◌, ◌≡◌, ◌⊎◌, ◌++◌, ◌==◌, count_by, List, [], length, replicate, slice_index_or, vec_len, Contains, All}
+use Rattle.std.specs.Prelude.{ℕ, ◌+◌, ◌*◌, ◌<◌, ◌≤◌, ◌≡◌, ◌⊎◌, ◌++◌, ◌==◌, count_by, List, [], ◌∷◌, length, replicate, slice_index_or, slice_set, vec_len, Contains, All}
+use Rattle.lw_dag.specs.declared.levels.Levels.{Levels}
 use Rattle.lw_dag.specs.declared.levels.Search.{Search}
 use Rattle.lw_dag.specs.declared.graph.SmallGraph.{SmallGraph}
-use Rattle.lw_dag.specs.Graphs.{fanins_at, height_at, AreKnown, IsOrdered}
+use Rattle.lw_dag.specs.Graphs.{fanins_at, height_at, AreHeights, AreKnown, IsOrdered}
 
 -- how many heights aren't known
 abbrev pub unknown : List ℕ → ℕ
@@ -49,3 +50,33 @@ pub record IsUntouched (inputs nodes : ℕ) (levels : Search) : Type 0 where
   pub order : levels.order.items ≡ []
   pub waiting : levels.waiting.items ≡ replicate (inputs + nodes) []
   pub ready : levels.ready.items ≡ []
+
+-- a node waits for a signal, and the rest is as it was
+pub record WaitsFor (signal node : ℕ) (old new : Search) : Type 0 where
+  pub heights : new.heights ≡ old.heights
+  pub order : new.order ≡ old.order
+  pub waiting : new.waiting.items ≡ slice_set old.waiting.items signal (waiting_at old.waiting.items signal ++ node ∷ [])
+  pub ready : new.ready ≡ old.ready
+
+-- a node, which drives the signal, has this height, and the rest is as it was
+pub record IsRaised (signal node height : ℕ) (old new : Search) : Type 0 where
+  pub heights : new.heights.items ≡ slice_set old.heights.items signal height
+  pub order : new.order.items ≡ old.order.items ++ node ∷ []
+  pub waiting : new.waiting ≡ old.waiting
+  pub ready : new.ready.items ≡ old.ready.items ++ signal ∷ []
+
+-- nodes were looked at, and there is no more to do than before
+pub record HasSettled (graph : SmallGraph) (later : List ℕ) (old new : Search) : Type 0 where
+  pub levelling : IsLevellingIn graph new later
+  pub less : left_in new ≤ left_in old
+
+-- these are the first numbers
+pub record AreNumbered (many : ℕ) (numbers : List ℕ) : Type 0 where
+  pub one_each : length numbers ≡ many
+  pub each : (j : ℕ) → j < many → slice_index_or numbers j 0 ≡ j
+
+-- the heights of the graph's signals, and the nodes that have one
+pub record AreLevels (graph : SmallGraph) (levels : Levels) : Type 0 where
+  pub heights : AreHeights graph.inputs graph.nodes.now levels.heights.items
+  pub low : All (λ h. h ≤ 1 + length graph.nodes.now) levels.heights.items
+  pub ordered : IsOrdered graph.inputs graph.nodes.now levels.heights.items levels.order.items

@@ -24,11 +24,10 @@ fn with_depths<T: Drop>(
 {
     let mut deep = Vec::with_capacity(alloc, depths.len())?;
     let mut left = items.into_iter();
-    for depth in depths {
+    for &depth in depths {
         let Some(item) = left.next() else {
             return Ok(deep);
         };
-        let depth = *depth;
         deep.push(Deep { depth, item })?;
     }
     Ok(deep)

@@ -22,8 +22,8 @@ struct Walk {
     left: Vec<u32>,
 }
 
-// A row for each node, without entries.
-fn empty_rows(alloc: Global, n: usize) -> Result<Vec<Numbers>, AllocError>
+//// So many rows without entries.
+pub(crate) fn empty_rows(alloc: Global, n: usize) -> Result<Vec<Numbers>, AllocError>
     ensures { IfOk result (λ rows. rows.items ≡ replicate n []) }
 {
     let mut rows = Vec::with_capacity(alloc, n)?;

@@ -1,5 +1,3 @@
-use Rattle.std.proofs.Common.{◌≡◌, ◌+◌, ◌∙◌, ◌++◌, ◌∷◌, [], ℕ, length, ap, ap₂, sym, replicate, append_assoc, arith}
-use Rattle.std.proofs.lemmas.List.{append-nil, replicate_more}
 use Rattle.std.proofs.lemmas.Result.{IfOk-from_err}
 use Rattle.lw_dag.proofs.levels.start.Goals as goal
 
@@ -9,47 +7,13 @@ returns-in_err-heights c = IfOk-from_err _ _ c.from_residual.ensures.0
 pub returns-in_err-waiting : goal.returns-in_err-waiting
 returns-in_err-waiting c = IfOk-from_err _ _ c.from_residual-in_err-waiting.ensures.0
 
-pub returns-in_err-push : goal.returns-in_err-push
-returns-in_err-push c = IfOk-from_err _ _ c.from_residual-in_err-push.ensures.0
-
-pub returns-in_err-push-2 : goal.returns-in_err-push-2
-returns-in_err-push-2 c = IfOk-from_err _ _ c.from_residual-in_err-push-2.ensures.0
-
-pub returns-in_err-push-3 : goal.returns-in_err-push-3
-returns-in_err-push-3 c = IfOk-from_err _ _ c.from_residual-in_err-push-3.ensures.0
-
 pub returns-in_err-with_capacity : goal.returns-in_err-with_capacity
 returns-in_err-with_capacity c = IfOk-from_err _ _ c.from_residual-in_err-with_capacity.ensures.0
 
-pub ones-init : goal.ones-init
-ones-init c = c.in_ok-heights.ensures.items
-
-pub ones-preserved : goal.ones-preserved
-ones-preserved c = c.in_ok-push.ensures.items ∙ (ap (λ l. l ++ 1 ∷ []) c.ones.invariant ∙ replicate_more c.ones._made 1)
-
-pub zeros-init : goal.zeros-init
-zeros-init c =
-    let all : c.ones._made ≡ c.args.graph.now.inputs = omega (arith, c.ones-test.false, c.ones.auto._made-end) in
-    c.ones.invariant ∙ (ap (λ (n : ℕ). replicate n 1) all ∙ sym (append-nil (replicate c.args.graph.now.inputs 1)))
-
-pub zeros-preserved : goal.zeros-preserved
-zeros-preserved c =
-    let ones = replicate c.args.graph.now.inputs 1 in
-    c.in_ok-push-2.ensures.items ∙ (ap (λ l. l ++ 0 ∷ []) c.zeros.invariant ∙ (append_assoc ones (replicate c.zeros._made 0) (0 ∷ []) ∙ ap (λ l. ones ++ l) (replicate_more c.zeros._made 0)))
-
-pub lists-init : goal.lists-init
-lists-init c = c.in_ok-waiting.ensures.items
-
-pub lists-preserved : goal.lists-preserved
-lists-preserved c = c.in_ok-push-3.ensures.items ∙ (ap₂ (λ l x. l ++ x ∷ []) c.lists.invariant c.empty.ensures ∙ replicate_more c.lists._made [])
-
 pub returns : goal.returns
-returns c =
-    let all : c.zeros._made ≡ (length c.args.graph.now.nodes.now) = omega (arith, c.zeros-test.false, c.zeros.auto._made-end) in
-    let both : c.lists._made ≡ c.args.graph.now.inputs + (length c.args.graph.now.nodes.now) = omega (arith, c.lists-test.false, c.lists.auto._made-end) in
-    record {
-      heights = c.zeros.invariant ∙ ap (λ (n : ℕ). replicate c.args.graph.now.inputs 1 ++ replicate n 0) all;
-      order = c.in_ok-with_capacity.ensures.items;
-      waiting = c.lists.invariant ∙ ap (λ (n : ℕ). replicate n []) both;
-      ready = c.new.ensures.items;
-    }
+returns c = record {
+  heights = c.in_ok-heights.ensures;
+  order = c.in_ok-with_capacity.ensures.items;
+  waiting = c.in_ok-waiting.ensures;
+  ready = c.new.ensures.items;
+}

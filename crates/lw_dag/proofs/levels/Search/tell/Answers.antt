@@ -5,7 +5,7 @@ use Rattle.std.proofs.lemmas.List.Elements.{All-contains, All-pop, All-same, Con
 use Rattle.std.proofs.lemmas.Result.{IfOk-from_err}
 use Rattle.lw_dag.specs.Rising.{waiting_at, IsRising}
 use Rattle.lw_dag.proofs.Rising.{rising_told}
-use Rattle.lw_dag.proofs.levels.tell.Goals as goal
+use Rattle.lw_dag.proofs.levels.Search.tell.Goals as goal
 
 -- the signal that is to be told is one of the signals
 told_within : (n : ℕ) (ready rest : List ℕ) (s : ℕ) → ready ≡ rest ++ s ∷ [] → All (λ t. t < n) ready → s < n
@@ -13,7 +13,7 @@ told_within n ready rest s popped all = (All-pop (λ t. t < n) ready rest (Some 
 
 pub returns-in_default-clause-after : goal.returns-in_default-clause-after
 returns-in_default-clause-after c =
-    let l = c.args.levels.now in
+    let l = c.args.self.now in
     record {
       rising = subst (λ ready. IsRising c.args.graph.now.inputs c.args.graph.now.nodes.now l.heights.items l.waiting.items ready []) (c.in_default.ensures.items ∙ append-nil c.pop.new.self.items) c.requires.rising;
       ordered = c.requires.ordered;
@@ -24,18 +24,18 @@ returns-in_default-clause-less c = λ is. absurd (false≢true is)
 
 pub returns-in_default-clause-done : goal.returns-in_default-clause-done
 returns-in_default-clause-done c = λ is.
-    let ready = c.args.levels.now.ready.items in
+    let ready = c.args.self.now.ready.items in
     sym (append-nil c.pop.new.self.items) ∙ (sym c.in_default.ensures.items ∙ nil_from_length ready (omega (arith, c.in_default.ensures.cases.0)))
 
 pub index_mut-requires : goal.index_mut-requires
 index_mut-requires c =
-    let l = c.args.levels.now in
+    let l = c.args.self.now in
     let n = c.args.graph.now.inputs + length c.args.graph.now.nodes.now in
     omega (arith, l.waiting.ok.0, c.requires.rising.lists, told_within n l.ready.items c.pop.new.self.items c.in-Some.s c.in-Some.ensures.items c.requires.rising.signals)
 
 pub settle_all-requires-clause-nodes : goal.settle_all-requires-clause-nodes
 settle_all-requires-clause-nodes c =
-    let l = c.args.levels.now in
+    let l = c.args.self.now in
     let s = c.in-Some.s in
     let n = c.args.graph.now.inputs + length c.args.graph.now.nodes.now in
     let in_waiting : s < length l.waiting.items = omega (arith, c.requires.rising.lists, told_within n l.ready.items c.pop.new.self.items s c.in-Some.ensures.items c.requires.rising.signals) in
@@ -44,7 +44,7 @@ settle_all-requires-clause-nodes c =
 
 pub settle_all-requires-clause-before : goal.settle_all-requires-clause-before
 settle_all-requires-clause-before c =
-    let l = c.args.levels.now in
+    let l = c.args.self.now in
     let s = c.in-Some.s in
     let rest = c.pop.new.self.items in
     let popped : l.ready.items ≡ rest ++ s ∷ [] = c.in-Some.ensures.items in
@@ -63,7 +63,7 @@ returns-in_err-settle_all c =
     record { after = IfOk-from_err _ _ failed; less = IfOk-from_err _ _ failed; done = IfOk-from_err _ _ failed }
 
 pub returns-clause-after : goal.returns-clause-after
-returns-clause-after c = c.in_ok-settle_all.ensures.after
+returns-clause-after c = c.in_ok-settle_all.ensures.levelling
 
 pub returns-clause-less : goal.returns-clause-less
 returns-clause-less c = λ told. omega (arith, c.in_ok-settle_all.ensures.less, c.in-Some.ensures.len)
