@@ -12,6 +12,16 @@ use Rattle.lw_reduce.specs.Representatives.{AreRepresentatives, HasOperands, IsF
 use Rattle.lw_reduce.specs.Settling.{AgreesAt, IsImplied, IsSettled, fact_key, canonical_fact}
 
 module _ (n : ℕ) (nands : List Fact) (links : List Link) where
+  -- the operands of a fact are equivalent to these forms, the lower one first
+  pub operands_in_order : (p : Fact) (x y : ℕ) → Equivalent (family n nands links) p.left x → Equivalent (family n nands links) p.right y → HasOperands n nands links p (min x y) (max x y)
+  operands_in_order p x y l r = by_order (min_max_cases x y)
+    where
+      by_order : ((min x y ≡ x) × (max x y ≡ y)) ⊎ ((min x y ≡ y) × (max x y ≡ x)) → HasOperands n nands links p (min x y) (max x y)
+      by_order (inl (e, f)) =
+          inl (subst (λ k. Equivalent (family n nands links) p.left k) (sym e) l, subst (λ k. Equivalent (family n nands links) p.right k) (sym f) r)
+      by_order (inr (e, f)) =
+          inr (subst (λ k. Equivalent (family n nands links) p.left k) (sym f) l, subst (λ k. Equivalent (family n nands links) p.right k) (sym e) r)
+
   pub fact_implied : (reps : List ℕ) (p : Fact) → AreRepresentatives n nands links reps → Contains nands p → IsImplied n nands links (canonical_fact reps p)
   fact_implied reps p valid listed =
       let in' = All-contains (λ q. (q.form / 2 < n) × (q.left / 2 < n) × (q.right / 2 < n)) nands p valid.nands_in listed in
@@ -22,15 +32,9 @@ module _ (n : ℕ) (nands : List Fact) (links : List Link) where
         fact = p;
         listed = listed;
         alike = f.1;
-        operands = by_order l.1 r.1 (min_max_cases (rep_of reps p.left) (rep_of reps p.right));
+        operands = operands_in_order p (rep_of reps p.left) (rep_of reps p.right) l.1 r.1;
         within = f.0;
       }
-    where
-      by_order : Equivalent (family n nands links) p.left (rep_of reps p.left) → Equivalent (family n nands links) p.right (rep_of reps p.right) → ((min (rep_of reps p.left) (rep_of reps p.right) ≡ rep_of reps p.left) × (max (rep_of reps p.left) (rep_of reps p.right) ≡ rep_of reps p.right)) ⊎ ((min (rep_of reps p.left) (rep_of reps p.right) ≡ rep_of reps p.right) × (max (rep_of reps p.left) (rep_of reps p.right) ≡ rep_of reps p.left)) → HasOperands n nands links p (min (rep_of reps p.left) (rep_of reps p.right)) (max (rep_of reps p.left) (rep_of reps p.right))
-      by_order l r (inl (e, f)) =
-          inl (subst (λ k. Equivalent (family n nands links) p.left k) (sym e) l, subst (λ k. Equivalent (family n nands links) p.right k) (sym f) r)
-      by_order l r (inr (e, f)) =
-          inr (subst (λ k. Equivalent (family n nands links) p.left k) (sym f) l, subst (λ k. Equivalent (family n nands links) p.right k) (sym e) r)
 
   pub all_implied : (reps : List ℕ) (canonical : List Fact) → AreRepresentatives n nands links reps → IsPermutation (map (canonical_fact reps) nands) canonical → All (IsImplied n nands links) canonical
   all_implied reps canonical valid perm =

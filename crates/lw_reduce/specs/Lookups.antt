@@ -4,6 +4,7 @@ use Rattle.lw_reduce.specs.declared.propagate.Lookup.{Lookup}
 use Rattle.lw_reduce.specs.declared.propagate.Operands.{Operands}
 use Rattle.lw_reduce.specs.declared.propagate.Lookup.TheVariants.{Form, Free, Full}
 use Rattle.lw_reduce.specs.declared.facts.Fact.{Fact}
+use Rattle.lw_reduce.specs.declared.facts.Facts.{Facts}
 use Rattle.lw_reduce.specs.declared.facts.Link.{Link}
 use Rattle.lw_reduce.specs.Representatives.{AreRepresentatives, HasOperands, StayRepresentatives}
 use Rattle.lw_reduce.specs.Settling.{IsImplied, no_fact}
@@ -30,44 +31,44 @@ pub record StandAt (facts : List Fact) (o : Operands) (place : ℕ) : Type 0 whe
   pub right : (slice_index_or facts place no_fact).right ≡ o.high
 
 -- representatives with their slots: each slot has 0, or the place after that of a fact
-pub record HaveSlots (nands : List Fact) (links : List Link) (reps slots : List ℕ) : Type 0 where
-  pub valid : AreRepresentatives (length reps) nands links reps
+pub record HaveSlots (facts : Facts) (reps slots : List ℕ) : Type 0 where
+  pub valid : AreRepresentatives (length reps) facts.nands.now facts.links.now reps
   pub some : 0 < length slots
-  pub places : All (λ e. e ≤ length nands) slots
+  pub places : All (λ e. e ≤ length facts.nands.now) slots
 
 -- so they are, and the fact at a place has these operands
-pub record CanInsert (nands : List Fact) (links : List Link) (reps slots : List ℕ) (place : ℕ) (o : Operands) : Type 0 where
-  pub valid : AreRepresentatives (length reps) nands links reps
+pub record CanInsert (facts : Facts) (reps slots : List ℕ) (place : ℕ) (o : Operands) : Type 0 where
+  pub valid : AreRepresentatives (length reps) facts.nands.now facts.links.now reps
   pub some : 0 < length slots
-  pub places : All (λ e. e ≤ length nands) slots
-  pub within : place < length nands
-  pub few : length nands < 2 ^ 32
-  pub operands : HasOperands (length reps) nands links (slice_index_or nands place no_fact) o.low o.high
+  pub places : All (λ e. e ≤ length facts.nands.now) slots
+  pub within : place < length facts.nands.now
+  pub few : length facts.nands.now < 2 ^ 32
+  pub operands : HasOperands (length reps) facts.nands.now facts.links.now (slice_index_or facts.nands.now place no_fact) o.low o.high
 
 -- so they are, and facts over representatives follow from the facts
-pub record CanVisitAll (nands : List Fact) (links : List Link) (reps slots : List ℕ) (facts : List Fact) : Type 0 where
-  pub valid : AreRepresentatives (length reps) nands links reps
-  pub canonical : All (IsImplied (length reps) nands links) facts
+pub record CanVisitAll (facts : Facts) (reps slots : List ℕ) (sorted : List Fact) : Type 0 where
+  pub valid : AreRepresentatives (length reps) facts.nands.now facts.links.now reps
+  pub canonical : All (IsImplied (length reps) facts.nands.now facts.links.now) sorted
   pub some : 0 < length slots
-  pub places : All (λ e. e ≤ length nands) slots
-  pub few : length nands < 2 ^ 32
+  pub places : All (λ e. e ≤ length facts.nands.now) slots
+  pub few : length facts.nands.now < 2 ^ 32
 
 -- and there is a fact at the place
-pub record CanVisit (nands : List Fact) (links : List Link) (reps slots : List ℕ) (facts : List Fact) (place : ℕ) : Type 0 where
-  pub valid : AreRepresentatives (length reps) nands links reps
-  pub canonical : All (IsImplied (length reps) nands links) facts
+pub record CanVisit (facts : Facts) (reps slots : List ℕ) (sorted : List Fact) (place : ℕ) : Type 0 where
+  pub valid : AreRepresentatives (length reps) facts.nands.now facts.links.now reps
+  pub canonical : All (IsImplied (length reps) facts.nands.now facts.links.now) sorted
   pub some : 0 < length slots
-  pub places : All (λ e. e ≤ length nands) slots
-  pub within : place < length nands
-  pub few : length nands < 2 ^ 32
+  pub places : All (λ e. e ≤ length facts.nands.now) slots
+  pub within : place < length facts.nands.now
+  pub few : length facts.nands.now < 2 ^ 32
 
 -- representatives stay such, and what was looked up is found
-pub record LooksUp (n : ℕ) (nands : List Fact) (links : List Link) (old new slots : List ℕ) (o : Operands) (answer : Lookup) : Type 0 where
-  pub kept : StayRepresentatives n nands links old new
-  pub found : IsLookup n nands links (length slots) o.low o.high answer
+pub record LooksUp (facts : Facts) (old new slots : List ℕ) (o : Operands) (answer : Lookup) : Type 0 where
+  pub kept : StayRepresentatives (length old) facts.nands.now facts.links.now old new
+  pub found : IsLookup (length old) facts.nands.now facts.links.now (length slots) o.low o.high answer
 
 -- representatives stay such, and slots are still slots
-pub record KeepSlots (n : ℕ) (nands : List Fact) (links : List Link) (old new slots later : List ℕ) : Type 0 where
-  pub kept : StayRepresentatives n nands links old new
-  pub places : All (λ e. e ≤ length nands) later
+pub record KeepSlots (facts : Facts) (old new slots later : List ℕ) : Type 0 where
+  pub kept : StayRepresentatives (length old) facts.nands.now facts.links.now old new
+  pub places : All (λ e. e ≤ length facts.nands.now) later
   pub len : length later ≡ length slots

@@ -1,8 +1,9 @@
 -- Representatives of forms, as in union-find, and when they are sound and closed.
-use Rattle.std.specs.Prelude.{ℕ, ◌*◌, ◌/◌, ◌%◌, ◌<◌, ◌≤◌, Bool, true, IsFalse, All, ◌≡◌, ◌==◌, ◌⊎◌, List, length, Contains, slice_index, sum_by, if◌then◌else◌}
+use Rattle.std.specs.Prelude.{ℕ, ◌*◌, ◌/◌, ◌%◌, ◌<◌, ◌≤◌, Bool, true, IsTrue, IsFalse, All, ◌≡◌, ◌==◌, ◌⊎◌, List, length, Contains, slice_index, sum_by, if◌then◌else◌}
 use Rattle.lw_laws.specs.Flip.{flip}
 use Rattle.lw_laws.specs.Families.{Family, IsNand, Equivalent}
 use Rattle.lw_reduce.specs.declared.facts.Fact.{Fact}
+use Rattle.lw_reduce.specs.declared.facts.Facts.{Facts}
 use Rattle.lw_reduce.specs.declared.facts.Link.{Link}
 
 -- the facts of a draft of n base forms
@@ -103,14 +104,45 @@ HasOperands n nands links p low high =
 abbrev pub IsLower : List ℕ → Type 0
 IsLower reps = (b : ℕ) → b < length reps → (slice_index reps b ≡ 2 * b) ⊎ (slice_index reps b / 2 < b)
 
+-- representatives of the base forms that these facts speak of
+abbrev pub Represent : Facts → List ℕ → Type 0
+Represent facts reps = AreRepresentatives (length reps) facts.nands.now facts.links.now reps
+
+-- they stay such, and weigh no more
+abbrev pub StillRepresent : Facts → List ℕ → List ℕ → Type 0
+StillRepresent facts old new = StayRepresentatives (length old) facts.nands.now facts.links.now old new
+
+-- the form is known, so that its root can be found
+pub record CanFind (facts : Facts) (reps : List ℕ) (form : ℕ) : Type 0 where
+  pub valid : AreRepresentatives (length reps) facts.nands.now facts.links.now reps
+  pub within : form / 2 < length reps
+
+abbrev pub FindsRoot : Facts → List ℕ → List ℕ → ℕ → ℕ → Type 0
+FindsRoot facts old new form root = IsFound (length old) facts.nands.now facts.links.now old new form root
+
+-- the operands of the fact are known
+pub record CanFindOperands (facts : Facts) (reps : List ℕ) (fact : Fact) : Type 0 where
+  pub valid : AreRepresentatives (length reps) facts.nands.now facts.links.now reps
+  pub within : IsFactIn (length reps) fact
+
+-- representatives stay such, and the fact has these operands
+pub record FindsOperands (facts : Facts) (old new : List ℕ) (fact : Fact) (low high : ℕ) : Type 0 where
+  pub kept : StayRepresentatives (length old) facts.nands.now facts.links.now old new
+  pub operands : HasOperands (length old) facts.nands.now facts.links.now fact low high
+
+-- so it has where the answer is true
+pub record ComparesOperands (facts : Facts) (old new : List ℕ) (fact : Fact) (low high : ℕ) (same : Bool) : Type 0 where
+  pub kept : StayRepresentatives (length old) facts.nands.now facts.links.now old new
+  pub operands : IsTrue same → HasOperands (length old) facts.nands.now facts.links.now fact low high
+
 -- these forms can be given one representative: they are equivalent
-pub record CanUnify (nands : List Fact) (links : List Link) (reps : List ℕ) (f h : ℕ) : Type 0 where
-  pub valid : AreRepresentatives (length reps) nands links reps
+pub record CanUnify (facts : Facts) (reps : List ℕ) (f h : ℕ) : Type 0 where
+  pub valid : AreRepresentatives (length reps) facts.nands.now facts.links.now reps
   pub left : f / 2 < length reps
   pub right : h / 2 < length reps
-  pub alike : Equivalent (family (length reps) nands links) f h
+  pub alike : Equivalent (family (length reps) facts.nands.now facts.links.now) f h
 
 -- Forms were unified, or not: then flat representatives are the same, and agree.
-pub record Unifies (n : ℕ) (nands : List Fact) (links : List Link) (old new : List ℕ) (changed : Bool) (agree : Type 0) : Type 0 where
-  pub progress : Progresses n nands links old new changed
+pub record Unifies (facts : Facts) (old new : List ℕ) (changed : Bool) (agree : Type 0) : Type 0 where
+  pub progress : Progresses (length old) facts.nands.now facts.links.now old new changed
   pub same : IsFalse changed → IsFlat old → (new ≡ old) × agree

@@ -1,8 +1,9 @@
 -- Canonical facts, over representatives, sorted by their operands; and when representatives are settled.
-use Rattle.std.specs.Prelude.{ℕ, ◌+◌, ◌-◌, ◌*◌, ◌/◌, ◌^◌, ◌<◌, ◌≤◌, ◌≡◌, IsFalse, min, max, List, length, map, Contains, All, slice_index_or}
+use Rattle.std.specs.Prelude.{ℕ, ◌+◌, ◌-◌, ◌*◌, ◌/◌, ◌^◌, ◌<◌, ◌≤◌, ◌≡◌, IsFalse, IsTrue, Bool, min, max, List, length, map, Contains, All, slice_index_or}
 use Rattle.std.specs.List.Sorted.{IsNonDecreasingBy, IsPermutation}
 use Rattle.lw_laws.specs.Families.{Equivalent}
 use Rattle.lw_reduce.specs.declared.facts.Fact.{Fact}
+use Rattle.lw_reduce.specs.declared.facts.Facts.{Facts}
 use Rattle.lw_reduce.specs.declared.facts.Link.{Link}
 use Rattle.lw_reduce.specs.declared.rounds.RoundOutcome.{RoundOutcome}
 use Rattle.lw_reduce.specs.Representatives.{AreRepresentatives, HasOperands, IsFlat, LinkAgrees, Progresses, family, rep_of}
@@ -61,18 +62,36 @@ abbrev pub HaveDistinctOperands : List ℕ → List Fact → Type 0
 HaveDistinctOperands reps nands =
     (p q : Fact) → Contains nands p → Contains nands q → operands_key reps p ≡ operands_key reps q → p ≡ q
 
--- facts over representatives follow from the facts, and two of them stand at a place and before it
-pub record CanUnifyAt (nands : List Fact) (links : List Link) (reps : List ℕ) (facts : List Fact) (place : ℕ) : Type 0 where
-  pub valid : AreRepresentatives (length reps) nands links reps
-  pub canonical : All (IsImplied (length reps) nands links) facts
+-- representatives, and facts over them that follow from the facts
+pub record HaveCanonical (facts : Facts) (reps : List ℕ) (sorted : List Fact) : Type 0 where
+  pub valid : AreRepresentatives (length reps) facts.nands.now facts.links.now reps
+  pub canonical : All (IsImplied (length reps) facts.nands.now facts.links.now) sorted
+
+-- so they are, and two of those facts stand at a place and before it
+pub record CanUnifyAt (facts : Facts) (reps : List ℕ) (sorted : List Fact) (place : ℕ) : Type 0 where
+  pub valid : AreRepresentatives (length reps) facts.nands.now facts.links.now reps
+  pub canonical : All (IsImplied (length reps) facts.nands.now facts.links.now) sorted
   pub start : 1 ≤ place
-  pub within : place < length facts
+  pub within : place < length sorted
+
+-- forms of neighbours with the same operands have one representative
+abbrev pub AgreesAll : List ℕ → List Fact → Type 0
+AgreesAll reps sorted = (place : ℕ) → 1 ≤ place → place < length sorted → AgreesAt reps sorted place
 
 -- one round: what it gives follows from the facts, and where nothing changed, the representatives are settled
-pub record IsRoundOutcome (n : ℕ) (nands : List Fact) (links : List Link) (old new : List ℕ) (r : RoundOutcome) : Type 0 where
-  pub progress : Progresses n nands links old new r.changed
-  pub canonical : All (IsImplied n nands links) r.canonical.items
-  pub settled : IsFalse r.changed → IsSettled n nands links new r.canonical.items
+pub record IsRoundOutcome (facts : Facts) (old new : List ℕ) (r : RoundOutcome) : Type 0 where
+  pub progress : Progresses (length old) facts.nands.now facts.links.now old new r.changed
+  pub canonical : All (IsImplied (length old) facts.nands.now facts.links.now) r.canonical.items
+  pub settled : IsFalse r.changed → IsSettled (length old) facts.nands.now facts.links.now new r.canonical.items
+
+-- representatives of as many base forms have become settled
+abbrev pub AreSettledFrom : Facts → List ℕ → List ℕ → Type 0
+AreSettledFrom facts old new = AreSettled (length old) facts.nands.now facts.links.now new
+
+-- they stay representatives, and are settled where the answer is true
+pub record TellsSettled (facts : Facts) (old new : List ℕ) (answer : Bool) : Type 0 where
+  pub valid : AreRepresentatives (length old) facts.nands.now facts.links.now new
+  pub settled : IsTrue answer → AreSettled (length old) facts.nands.now facts.links.now new
 
 -- representatives of the base forms of a draft
 pub record AreDraftReps (inputs : ℕ) (nands : List Fact) (links : List Link) (reps : List ℕ) : Type 0 where

@@ -17,6 +17,13 @@ pub(crate) struct Link {
     pub(crate) right: u32,
 }
 
+// The NAND facts and links of a draft.
+#[derive(Clone, Copy)]
+pub(crate) struct Facts<'a> {
+    pub(crate) nands: &'a [Fact],
+    pub(crate) links: &'a [Link],
+}
+
 // Facts of so many classes, which numbers of 32 bits count.
 #[derive(Drop)]
 pub(crate) struct ClassFacts {

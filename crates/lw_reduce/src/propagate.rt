@@ -1,11 +1,11 @@
 // Passes over the facts whose operands have new representatives, with a hash table of facts by the
 // representatives of their operands.
-ghost use Rattle.std.specs.Prelude.{◌<◌, ◌≤◌, length, All, IfOk, IfSome, IsTrue};
-ghost use Rattle.lw_reduce.specs.Representatives.{AreRepresentatives, HasOperands, IsFactIn, StayRepresentatives};
+ghost use Rattle.std.specs.Prelude.{◌<◌, ◌≤◌, IfOk, IfSome};
+ghost use Rattle.lw_reduce.specs.Representatives.{CanFindOperands, ComparesOperands, FindsOperands, StillRepresent};
 ghost use Rattle.lw_reduce.specs.Lookups.{AreFreeSlots, CanInsert, CanVisit, CanVisitAll, HaveSlots, KeepSlots, LooksUp, StandAt};
-ghost use Rattle.lw_reduce.specs.Settling.{IsImplied};
+ghost use Rattle.lw_reduce.specs.Settling.{HaveCanonical};
 
-use crate::facts::{Fact, Link};
+use crate::facts::{Fact, Facts};
 use crate::known_facts::KnownFact;
 use crate::representatives::{find, rep_of, unify};
 use std::alloc::{AllocError, Global};
@@ -28,43 +28,24 @@ enum Lookup {
 }
 
 // The roots of a fact's operands.
-fn operands_of(reps: &mut [u32], nands: &[Fact], links: &[Link], fact: Fact) -> Operands
-    requires valid { AreRepresentatives (length reps.old) nands.now links.now reps.old }
-    requires within { IsFactIn (length reps.old) fact }
-    ensures kept { StayRepresentatives (length reps.old) nands.now links.now reps.old reps.new }
-    ensures operands { HasOperands (length reps.old) nands.now links.now
-        fact result.low result.high }
+fn operands_of(reps: &mut [u32], facts: &Facts, fact: Fact) -> Operands
+    requires { CanFindOperands facts.now reps.old fact }
+    ensures { FindsOperands facts.now reps.old reps.new fact result.low result.high }
 {
-    let left = find(reps, nands, links, fact.left);
-    let right = find(reps, nands, links, fact.right);
-    if left <= right {
-        Operands {
-            low: left,
-            high: right,
-        }
-    } else {
-        Operands {
-            low: right,
-            high: left,
-        }
+    let left = find(reps, facts, fact.left);
+    let right = find(reps, facts, fact.right);
+    Operands {
+        low: left.min(right),
+        high: left.max(right),
     }
 }
 
 // Whether a fact's operands have these roots.
-fn has_operands(
-    reps: &mut [u32],
-    nands: &[Fact],
-    links: &[Link],
-    fact: Fact,
-    operands: Operands,
-) -> bool
-    requires valid { AreRepresentatives (length reps.old) nands.now links.now reps.old }
-    requires within { IsFactIn (length reps.old) fact }
-    ensures kept { StayRepresentatives (length reps.old) nands.now links.now reps.old reps.new }
-    ensures operands { IsTrue result →
-        HasOperands (length reps.old) nands.now links.now fact operands.low operands.high }
+fn has_operands(reps: &mut [u32], facts: &Facts, fact: Fact, operands: Operands) -> bool
+    requires { CanFindOperands facts.now reps.old fact }
+    ensures { ComparesOperands facts.now reps.old reps.new fact operands.low operands.high result }
 {
-    let own = operands_of(reps, nands, links, fact);
+    let own = operands_of(reps, facts, fact);
     own.low == operands.low && own.high == operands.high
 }
 
@@ -87,16 +68,9 @@ fn next_slot(slot: usize, last: usize) -> usize
 }
 
 // Looks up a fact with these operands.
-fn look_up(
-    reps: &mut [u32],
-    nands: &[Fact],
-    links: &[Link],
-    slots: &[u32],
-    operands: Operands,
-) -> Lookup
-    requires { HaveSlots nands.now links.now reps.old slots.now }
-    ensures { LooksUp (length reps.old) nands.now links.now reps.old reps.new
-        slots.now operands result }
+fn look_up(reps: &mut [u32], facts: &Facts, slots: &[u32], operands: Operands) -> Lookup
+    requires { HaveSlots facts.now reps.old slots.now }
+    ensures { LooksUp facts.now reps.old reps.new slots.now operands result }
 {
     let last = slots.len() - 1;
     let mut slot = slot_of(operands, last);
@@ -105,8 +79,8 @@ fn look_up(
         if entry == 0 {
             return Lookup::Free(slot);
         }
-        let fact = nands[entry as usize - 1];
-        if has_operands(reps, nands, links, fact, operands) {
+        let fact = facts.nands[entry as usize - 1];
+        if has_operands(reps, facts, fact, operands) {
             return Lookup::Form(fact.form);
         }
         slot = next_slot(slot, last);
@@ -137,24 +111,16 @@ fn find_canonical(canonical: &[Fact], operands: Operands) -> Option<usize>
     Some(place)
 }
 
-// Unifies the form of a fact with that of a fact in the table with the same operands, or inserts
-// the fact.
-fn unify_or_insert(
-    reps: &mut [u32],
-    nands: &[Fact],
-    links: &[Link],
-    slots: &mut [u32],
-    place: usize,
-    operands: Operands,
-)
-    requires { CanInsert nands.now links.now reps.old slots.old place operands }
-    ensures { KeepSlots (length reps.old) nands.now links.now reps.old reps.new
-        slots.old slots.new }
+// Inserts a fact into the table, or unifies its form with that of a fact there with the same
+// operands.
+fn insert_fact(reps: &mut [u32], facts: &Facts, slots: &mut [u32], place: usize, operands: Operands)
+    requires { CanInsert facts.now reps.old slots.old place operands }
+    ensures { KeepSlots facts.now reps.old reps.new slots.old slots.new }
 {
-    let fact = nands[place];
-    match look_up(reps, nands, links, slots, operands) {
+    let fact = facts.nands[place];
+    match look_up(reps, facts, slots, operands) {
         Lookup::Form(form) => {
-            let _changed = unify(reps, nands, links, fact.form, form);
+            let _changed = unify(reps, facts, fact.form, form);
         }
         Lookup::Free(slot) => slots[slot] = place as u32 + 1,
         Lookup::Full => {}
@@ -163,48 +129,34 @@ fn unify_or_insert(
 
 // Unifies the form of a fact, whose operands have new representatives, with that of a fact with the
 // same operands.
-fn visit(
-    reps: &mut [u32],
-    nands: &[Fact],
-    links: &[Link],
-    canonical: &[Fact],
-    slots: &mut [u32],
-    place: usize,
-)
-    requires { CanVisit nands.now links.now reps.old slots.old canonical.now place }
-    ensures { KeepSlots (length reps.old) nands.now links.now reps.old reps.new
-        slots.old slots.new }
+fn visit(reps: &mut [u32], facts: &Facts, canonical: &[Fact], slots: &mut [u32], place: usize)
+    requires { CanVisit facts.now reps.old slots.old canonical.now place }
+    ensures { KeepSlots facts.now reps.old reps.new slots.old slots.new }
 {
-    let fact = nands[place];
+    let fact = facts.nands[place];
     let known = KnownFact { reps, fact };
     if has_root_operands(&known) {
         return;
     }
-    let operands = operands_of(reps, nands, links, fact);
+    let operands = operands_of(reps, facts, fact);
     if let Some(found) = find_canonical(canonical, operands) {
-        let _changed = unify(reps, nands, links, fact.form, canonical[found].form);
+        let _changed = unify(reps, facts, fact.form, canonical[found].form);
         return;
     }
-    unify_or_insert(reps, nands, links, slots, place, operands);
+    insert_fact(reps, facts, slots, place, operands);
 }
 
 // Visits all facts in their order, and then in reverse.
-fn visit_all(
-    reps: &mut [u32],
-    nands: &[Fact],
-    links: &[Link],
-    canonical: &[Fact],
-    slots: &mut [u32],
-)
-    requires { CanVisitAll nands.now links.now reps.old slots.old canonical.now }
-    ensures { StayRepresentatives (length reps.old) nands.now links.now reps.old reps.new }
+fn visit_all(reps: &mut [u32], facts: &Facts, canonical: &[Fact], slots: &mut [u32])
+    requires { CanVisitAll facts.now reps.old slots.old canonical.now }
+    ensures { StillRepresent facts.now reps.old reps.new }
 {
-    let count = nands.len();
+    let count = facts.nands.len();
     for step in 0..count {
-        visit(reps, nands, links, canonical, slots, step);
+        visit(reps, facts, canonical, slots, step);
     }
     for step in 0..count {
-        visit(reps, nands, links, canonical, slots, count - 1 - step);
+        visit(reps, facts, canonical, slots, count - 1 - step);
     }
 }
 
@@ -236,18 +188,16 @@ fn empty_slots(alloc: Global, facts: usize) -> Result<Vec<u32>, AllocError>
 pub(crate) fn propagate(
     alloc: Global,
     reps: &mut [u32],
-    nands: &[Fact],
-    links: &[Link],
+    facts: &Facts,
     canonical: &[Fact],
 ) -> Result<(), AllocError>
-    requires valid { AreRepresentatives (length reps.old) nands.now links.now reps.old }
-    requires canonical { All (IsImplied (length reps.old) nands.now links.now) canonical.now }
-    ensures { StayRepresentatives (length reps.old) nands.now links.now reps.old reps.new }
+    requires { HaveCanonical facts.now reps.old canonical.now }
+    ensures { StillRepresent facts.now reps.old reps.new }
 {
-    if nands.len() > 0xFFFF_FFFF {
+    if facts.nands.len() > 0xFFFF_FFFF {
         return Ok(());
     }
-    let mut slots = empty_slots(alloc, nands.len())?;
-    visit_all(reps, nands, links, canonical, &mut slots);
+    let mut slots = empty_slots(alloc, facts.nands.len())?;
+    visit_all(reps, facts, canonical, &mut slots);
     Ok(())
 }

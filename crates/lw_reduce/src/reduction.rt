@@ -10,7 +10,7 @@ use crate::Draft;
 use crate::buckets::class_pairs;
 use crate::class_facts::class_facts;
 use crate::classes::number;
-use crate::facts::{ClassFacts, Fact, Link};
+use crate::facts::{ClassFacts, Fact, Facts, Link};
 use crate::rounds::settle;
 use lw_graph::Graph;
 use lw_pool::{ClassId, Classes};
@@ -97,7 +97,11 @@ fn graph_by(
     ensures { IfOk result (λ graph. (samples : List Bool) → length samples ≡ length reps.old →
         IsReduced (plain_draft inputs samples nands.items links.now) graph) }
 {
-    settle(alloc, reps, &nands, links)?;
+    let facts = Facts {
+        nands: &nands,
+        links,
+    };
+    settle(alloc, reps, &facts)?;
     let graph = graph_of(alloc, inputs, reps, nands, links)?;
     Ok(graph)
 }

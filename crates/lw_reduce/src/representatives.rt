@@ -1,9 +1,9 @@
 // Representatives of forms, as in union-find: for each base form the number of an equivalent form,
 // at most its own.
 ghost use Rattle.std.specs.Prelude.{◌≡◌, ◌/◌, ◌<◌, length, slice_set};
-ghost use Rattle.lw_reduce.specs.Representatives.{AreRepresentatives, CanUnify, IsFlat, IsFound, StayRepresentatives, Unifies, rep_of, in_phase};
+ghost use Rattle.lw_reduce.specs.Representatives.{CanFind, CanUnify, FindsRoot, IsFlat, Represent, StillRepresent, Unifies, rep_of, in_phase};
 
-use crate::facts::{Fact, Link};
+use crate::facts::Facts;
 
 // The representative of a form: that of its base form, or the complement of that.
 #[tactic(auto, using(crate::proofs::Flips::flip_rules))]
@@ -25,10 +25,9 @@ fn set_rep(reps: &mut [u32], form: u32, rep: u32)
 }
 
 // The root that representatives lead to from a form. The path is halved on the way.
-pub(crate) fn find(reps: &mut [u32], nands: &[Fact], links: &[Link], form: u32) -> u32
-    requires valid { AreRepresentatives (length reps.old) nands.now links.now reps.old }
-    requires within { form / 2 < length reps.old }
-    ensures { IsFound (length reps.old) nands.now links.now reps.old reps.new form result }
+pub(crate) fn find(reps: &mut [u32], facts: &Facts, form: u32) -> u32
+    requires { CanFind facts.now reps.old form }
+    ensures { FindsRoot facts.now reps.old reps.new form result }
 {
     let mut at = form;
     'path: loop {
@@ -46,13 +45,13 @@ pub(crate) fn find(reps: &mut [u32], nands: &[Fact], links: &[Link], form: u32) 
 }
 
 // Gives two equivalent forms one root, and says whether they had two.
-pub(crate) fn unify(reps: &mut [u32], nands: &[Fact], links: &[Link], left: u32, right: u32) -> bool
-    requires { CanUnify nands.now links.now reps.old left right }
-    ensures { Unifies (length reps.old) nands.now links.now reps.old reps.new result
+pub(crate) fn unify(reps: &mut [u32], facts: &Facts, left: u32, right: u32) -> bool
+    requires { CanUnify facts.now reps.old left right }
+    ensures { Unifies facts.now reps.old reps.new result
         (rep_of reps.old left ≡ rep_of reps.old right) }
 {
-    let a = find(reps, nands, links, left);
-    let b = find(reps, nands, links, right);
+    let a = find(reps, facts, left);
+    let b = find(reps, facts, right);
     if a == b {
         return false;
     }
@@ -65,9 +64,9 @@ pub(crate) fn unify(reps: &mut [u32], nands: &[Fact], links: &[Link], left: u32,
 }
 
 // Makes each representative a root. Lower forms come first, so one step is enough for each.
-pub(crate) fn flatten(reps: &mut [u32], nands: &[Fact], links: &[Link])
-    requires { AreRepresentatives (length reps.old) nands.now links.now reps.old }
-    ensures kept { StayRepresentatives (length reps.old) nands.now links.now reps.old reps.new }
+pub(crate) fn flatten(reps: &mut [u32], facts: &Facts)
+    requires { Represent facts.now reps.old }
+    ensures kept { StillRepresent facts.now reps.old reps.new }
     ensures flat { IsFlat reps.new }
 {
     for base in 0..reps.len() {

@@ -1,11 +1,11 @@
 // Rounds that unify forms, until one changes nothing.
 ghost use Rattle.std.specs.Prelude.{◌≡◌, ◌^◌, ◌<◌, ◌≤◌, ℕ, length, map, All, IfOk, OnOk, IsTrue};
 ghost use Rattle.lw_facts.specs.Sorting.{AreSortedFrom};
-ghost use Rattle.lw_reduce.specs.Representatives.{AreRepresentatives, LinkAgrees, Unifies};
-ghost use Rattle.lw_reduce.specs.Settling.{AgreesAt, AreSettled, CanUnifyAt, IsImplied, IsRoundOutcome, fact_key, canonical_fact};
+ghost use Rattle.lw_reduce.specs.Representatives.{LinkAgrees, Represent, Unifies};
+ghost use Rattle.lw_reduce.specs.Settling.{AgreesAll, AgreesAt, AreSettledFrom, CanUnifyAt, HaveCanonical, IsRoundOutcome, TellsSettled, fact_key, canonical_fact};
 
 use crate::distinct_operands::have_distinct_operands;
-use crate::facts::{Fact, Link};
+use crate::facts::{Fact, Facts};
 use crate::known_facts::{KnownFact, KnownFacts};
 use crate::propagate::propagate;
 use crate::representatives::{flatten, rep_of, unify};
@@ -20,14 +20,14 @@ struct RoundOutcome {
 }
 
 // Unifies linked forms, and says whether some had two representatives.
-fn unify_linked(reps: &mut [u32], nands: &[Fact], links: &[Link]) -> bool
-    requires { AreRepresentatives (length reps.old) nands.now links.now reps.old }
-    ensures { Unifies (length reps.old) nands.now links.now reps.old reps.new result
-        (All (LinkAgrees reps.old) links.now) }
+fn unify_linked(reps: &mut [u32], facts: &Facts) -> bool
+    requires { Represent facts.now reps.old }
+    ensures { Unifies facts.now reps.old reps.new result
+        (All (LinkAgrees reps.old) facts.now.links.now) }
 {
     let mut changed = false;
-    for link in links {
-        if unify(reps, nands, links, link.left, link.right) {
+    for link in facts.links {
+        if unify(reps, facts, link.left, link.right) {
             changed = true;
         }
     }
@@ -81,36 +81,26 @@ fn sorted_facts(alloc: Global, facts: &KnownFacts) -> Result<Vec<Fact>, AllocErr
 
 // Unifies the form of the fact at an index with that of the fact before it, where their operands
 // are the same.
-fn unify_at(
-    reps: &mut [u32],
-    nands: &[Fact],
-    links: &[Link],
-    canonical: &[Fact],
-    place: usize,
-) -> bool
-    requires { CanUnifyAt nands.now links.now reps.old canonical.now place }
-    ensures { Unifies (length reps.old) nands.now links.now reps.old reps.new result
-        (AgreesAt reps.old canonical.now place) }
+fn unify_at(reps: &mut [u32], facts: &Facts, canonical: &[Fact], place: usize) -> bool
+    requires { CanUnifyAt facts.now reps.old canonical.now place }
+    ensures { Unifies facts.now reps.old reps.new result (AgreesAt reps.old canonical.now place) }
 {
     let first = canonical[place - 1];
     let second = canonical[place];
     if first.left != second.left || first.right != second.right {
         return false;
     }
-    unify(reps, nands, links, first.form, second.form)
+    unify(reps, facts, first.form, second.form)
 }
 
 // Unifies forms with the same operands, and says whether some had two representatives.
-fn unify_equal(reps: &mut [u32], nands: &[Fact], links: &[Link], canonical: &[Fact]) -> bool
-    requires valid { AreRepresentatives (length reps.old) nands.now links.now reps.old }
-    requires canonical { All (IsImplied (length reps.old) nands.now links.now) canonical.now }
-    ensures { Unifies (length reps.old) nands.now links.now reps.old reps.new result
-        ((place : ℕ) → 1 ≤ place → place < length canonical.now →
-        AgreesAt reps.old canonical.now place) }
+fn unify_equal(reps: &mut [u32], facts: &Facts, canonical: &[Fact]) -> bool
+    requires { HaveCanonical facts.now reps.old canonical.now }
+    ensures { Unifies facts.now reps.old reps.new result (AgreesAll reps.old canonical.now) }
 {
     let mut changed = false;
     for place in 1..canonical.len() {
-        if unify_at(reps, nands, links, canonical, place) {
+        if unify_at(reps, facts, canonical, place) {
             changed = true;
         }
     }
@@ -118,19 +108,15 @@ fn unify_equal(reps: &mut [u32], nands: &[Fact], links: &[Link], canonical: &[Fa
 }
 
 // One round over links and facts.
-fn run_round(
-    alloc: Global,
-    reps: &mut [u32],
-    nands: &[Fact],
-    links: &[Link],
-) -> Result<RoundOutcome, AllocError>
-    requires { AreRepresentatives (length reps.old) nands.now links.now reps.old }
-    ensures { IfOk result (IsRoundOutcome (length reps.old) nands.now links.now reps.old reps.new) }
+fn run_round(alloc: Global, reps: &mut [u32], facts: &Facts) -> Result<RoundOutcome, AllocError>
+    requires { Represent facts.now reps.old }
+    ensures { IfOk result (IsRoundOutcome facts.now reps.old reps.new) }
 {
-    flatten(reps, nands, links);
-    let linked = unify_linked(reps, nands, links);
+    flatten(reps, facts);
+    let linked = unify_linked(reps, facts);
+    let nands = facts.nands;
     let canonical = sorted_facts(alloc, &KnownFacts { reps, nands })?;
-    let equal = unify_equal(reps, nands, links, &canonical);
+    let equal = unify_equal(reps, facts, &canonical);
     Ok(RoundOutcome {
         canonical,
         changed: linked || equal,
@@ -139,46 +125,34 @@ fn run_round(
 
 // Flattens the representatives and says whether they are settled without sorting the facts: linked
 // forms have one representative, and all facts have different operands.
-fn are_settled(
-    alloc: Global,
-    reps: &mut [u32],
-    nands: &[Fact],
-    links: &[Link],
-) -> Result<bool, AllocError>
-    requires { AreRepresentatives (length reps.old) nands.now links.now reps.old }
-    ensures valid { IfOk result
-        (λ own. AreRepresentatives (length reps.old) nands.now links.now reps.new) }
-    ensures settled { IfOk result (λ own. IsTrue own →
-        AreSettled (length reps.old) nands.now links.now reps.new) }
+fn are_settled(alloc: Global, reps: &mut [u32], facts: &Facts) -> Result<bool, AllocError>
+    requires { Represent facts.now reps.old }
+    ensures { IfOk result (TellsSettled facts.now reps.old reps.new) }
 {
-    flatten(reps, nands, links);
-    if unify_linked(reps, nands, links) {
+    flatten(reps, facts);
+    if unify_linked(reps, facts) {
         return Ok(false);
     }
+    let nands = facts.nands;
     let own = have_distinct_operands(alloc, &KnownFacts { reps, nands })?;
     Ok(own)
 }
 
 // Runs rounds until one unifies nothing: the congruence closure.
-pub(crate) fn settle(
-    alloc: Global,
-    reps: &mut [u32],
-    nands: &[Fact],
-    links: &[Link],
-) -> Result<(), AllocError>
-    requires valid { AreRepresentatives (length reps.old) nands.now links.now reps.old }
+pub(crate) fn settle(alloc: Global, reps: &mut [u32], facts: &Facts) -> Result<(), AllocError>
+    requires valid { Represent facts.now reps.old }
     requires few { length reps.old < 2 ^ 31 }
-    ensures { OnOk result (AreSettled (length reps.old) nands.now links.now reps.new) }
+    ensures { OnOk result (AreSettledFrom facts.now reps.old reps.new) }
 {
-    let _linked = unify_linked(reps, nands, links);
-    if are_settled(alloc, reps, nands, links)? {
+    let _linked = unify_linked(reps, facts);
+    if are_settled(alloc, reps, facts)? {
         return Ok(());
     }
     'rounds: loop {
-        let outcome = run_round(alloc, reps, nands, links)?;
+        let outcome = run_round(alloc, reps, facts)?;
         if !outcome.changed {
             return Ok(());
         }
-        propagate(alloc, reps, nands, links, &outcome.canonical)?;
+        propagate(alloc, reps, facts, &outcome.canonical)?;
     }
 }

@@ -8,8 +8,8 @@ use Rattle.lw_reduce.proofs.representatives.flatten.Goals.{then-top-up, else-top
 pub loop-base-preserved : goal.loop-base-preserved
 loop-base-preserved c =
     let n = length c.args.reps.now in
-    let nands = c.args.nands.now in
-    let links = c.args.links.now in
+    let nands = c.args.facts.now.nands.now in
+    let links = c.args.facts.now.links.now in
     let old = c.args.reps.now in
     let l = c.loop-base in
     let k = l.invariant.kept in

@@ -4,6 +4,6 @@ use Rattle.lw_reduce.proofs.representatives.flatten.Given as goal
 
 abbrev pub invariant-loop-base : goal.invariant-loop-base
 invariant-loop-base l = record {
-  kept : StayRepresentatives (length l.fn.reps) l.nands l.links l.fn.reps l.reps;
+  kept : StayRepresentatives (length l.fn.reps) l.facts.nands.now l.facts.links.now l.fn.reps l.reps;
   flat : IsFlatBelow l.reps l.base;
 }

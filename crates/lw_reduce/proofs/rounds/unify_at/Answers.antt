@@ -7,9 +7,9 @@ use Rattle.lw_reduce.proofs.rounds.unify_at.Goals as goal
 pub unify-requires : goal.unify-requires
 unify-requires c = record {
   valid = c.requires.valid;
-  left = (All-get_or (IsImplied (length c.args.reps.now) c.args.nands.now c.args.links.now) c.args.canonical.now (c.args.place - 1) no_fact (let s = c.requires.start in let w = c.requires.within in omega arith) c.requires.canonical).within;
-  right = (All-get_or (IsImplied (length c.args.reps.now) c.args.nands.now c.args.links.now) c.args.canonical.now c.args.place no_fact c.requires.within c.requires.canonical).within;
-  alike = rows_alike (length c.args.reps.now) c.args.nands.now c.args.links.now c.args.canonical.now c.args.place c.requires.canonical c.requires.within c.if-first-second.false c.if-first-second-2.false;
+  left = (All-get_or (IsImplied (length c.args.reps.now) c.args.facts.now.nands.now c.args.facts.now.links.now) c.args.canonical.now (c.args.place - 1) no_fact (let s = c.requires.start in let w = c.requires.within in omega arith) c.requires.canonical).within;
+  right = (All-get_or (IsImplied (length c.args.reps.now) c.args.facts.now.nands.now c.args.facts.now.links.now) c.args.canonical.now c.args.place no_fact c.requires.within c.requires.canonical).within;
+  alike = rows_alike (length c.args.reps.now) c.args.facts.now.nands.now c.args.facts.now.links.now c.args.canonical.now c.args.place c.requires.canonical c.requires.within c.if-first-second.false c.if-first-second-2.false;
 }
 
 pub returns : goal.returns

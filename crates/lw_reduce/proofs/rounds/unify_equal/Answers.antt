@@ -8,8 +8,8 @@ use Rattle.lw_reduce.proofs.rounds.unify_equal.Goals.{then-unify_at, else-unify_
 pub loop-place-preserved : goal.loop-place-preserved
 loop-place-preserved c =
     let n = length c.args.reps.now in
-    let nands = c.args.nands.now in
-    let links = c.args.links.now in
+    let nands = c.args.facts.now.nands.now in
+    let links = c.args.facts.now.links.now in
     let l = c.loop-place in
     let p = l.invariant.progress in
     let q = c.unify_at.ensures.progress in
@@ -28,8 +28,8 @@ pub unify_at-requires : goal.unify_at-requires
 unify_at-requires c = record {
   valid = let reps = c.loop-place.reps in
       let valid = c.loop-place.invariant.progress.valid in
-      valid_at (length reps) c.args.nands.now c.args.links.now reps (length c.args.reps.now) valid (sym valid.count);
-  canonical = subst (λ n. All (IsImplied n c.args.nands.now c.args.links.now) c.args.canonical.now) (sym c.loop-place.invariant.progress.valid.count) c.requires.canonical;
+      valid_at (length reps) c.args.facts.now.nands.now c.args.facts.now.links.now reps (length c.args.reps.now) valid (sym valid.count);
+  canonical = subst (λ n. All (IsImplied n c.args.facts.now.nands.now c.args.facts.now.links.now) c.args.canonical.now) (sym c.loop-place.invariant.progress.valid.count) c.requires.canonical;
   start = c.loop-place.auto.place;
   within = c.loop-place-test.true;
 }

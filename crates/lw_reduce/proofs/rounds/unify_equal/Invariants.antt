@@ -5,6 +5,6 @@ use Rattle.lw_reduce.proofs.rounds.unify_equal.Given as goal
 
 abbrev pub invariant-loop-place : goal.invariant-loop-place
 invariant-loop-place l = record {
-  progress : Progresses (length l.fn.reps) l.nands l.links l.fn.reps l.reps l.changed;
+  progress : Progresses (length l.fn.reps) l.facts.nands.now l.facts.links.now l.fn.reps l.reps l.changed;
   same : l.changed ≡ false → IsFlat l.fn.reps → (l.reps ≡ l.fn.reps) × ((place : ℕ) → 1 ≤ place → place < l.place → AgreesAt l.fn.reps l.canonical place);
 }

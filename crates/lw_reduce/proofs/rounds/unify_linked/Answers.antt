@@ -12,20 +12,20 @@ unify-requires c =
     let reps = c.loop-link.reps in
     let valid = c.loop-link.invariant.progress.valid in
     let none : Link = record { left = 0; right = 0 } in
-    let link = get_or c.args.links.now c.loop-link.link-index none in
-    let within = All-get_or (IsLinkIn (length c.args.reps.now)) c.args.links.now c.loop-link.link-index none c.loop-link-test.true valid.links_in in
+    let link = get_or c.args.facts.now.links.now c.loop-link.link-index none in
+    let within = All-get_or (IsLinkIn (length c.args.reps.now)) c.args.facts.now.links.now c.loop-link.link-index none c.loop-link-test.true valid.links_in in
     record {
-      valid = valid_at (length reps) c.args.nands.now c.args.links.now reps (length c.args.reps.now) valid (sym valid.count);
+      valid = valid_at (length reps) c.args.facts.now.nands.now c.args.facts.now.links.now reps (length c.args.reps.now) valid (sym valid.count);
       left = subst (λ m. link.left / 2 < m) (sym valid.count) within.0;
       right = subst (λ m. link.right / 2 < m) (sym valid.count) within.1;
-      alike = linked (Contains-get_or c.args.links.now c.loop-link.link-index (record { left = 0; right = 0 }) c.loop-link-test.true);
+      alike = linked (Contains-get_or c.args.facts.now.links.now c.loop-link.link-index (record { left = 0; right = 0 }) c.loop-link-test.true);
     }
 
 pub loop-link-preserved : goal.loop-link-preserved
 loop-link-preserved c =
     let n = length c.args.reps.now in
-    let nands = c.args.nands.now in
-    let links = c.args.links.now in
+    let nands = c.args.facts.now.nands.now in
+    let links = c.args.facts.now.links.now in
     let l = c.loop-link in
     let none : Link = record { left = 0; right = 0 } in
     let lt = c.loop-link-test.true in
