@@ -25,12 +25,6 @@ entry_place nands slots slot places lt ne =
     let in' = All-get_or (λ e. e ≤ length nands) slots slot 0 lt places in
     omega arith
 
--- the fact of an entry of the table
-pub entry_fact : (n m : ℕ) (nands : List Fact) (links : List Link) (slots : List ℕ) (slot low high : ℕ) (d : Fact) → m ≡ n → All (λ e. e ≤ length nands) slots → slot < length slots → slice_index slots slot ≢ 0 → HasOperands m nands links (get_or nands (slice_index slots slot - 1) d) low high → HasFact n nands links low high (get_or nands (slice_index slots slot - 1) d).form
-entry_fact n m nands links slots slot low high d s places lt ne operands =
-    let in' = All-get_or (λ e. e ≤ length nands) slots slot 0 lt places in
-    (get_or nands (slice_index slots slot - 1) d, Contains-get_or nands (slice_index slots slot - 1) d (omega arith), subst (λ k. HasOperands k nands links (get_or nands (slice_index slots slot - 1) d) low high) s operands, refl)
-
 -- a fact and one that was looked up with the same operands
 pub lookup_alike : (n m k : ℕ) (nands : List Fact) (links : List Link) (place low high form : ℕ) (d : Fact) → m ≡ n → k ≡ n → place < length nands → HasOperands n nands links (get_or nands place d) low high → HasFact m nands links low high form → Equivalent (family k nands links) (get_or nands place d).form form
 lookup_alike n m k nands links place low high form d s t lt operands found =

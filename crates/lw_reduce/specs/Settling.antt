@@ -92,17 +92,3 @@ AreSettledFrom facts old new = AreSettled (length old) facts.nands.now facts.lin
 pub record TellsSettled (facts : Facts) (old new : List ℕ) (answer : Bool) : Type 0 where
   pub valid : AreRepresentatives (length old) facts.nands.now facts.links.now new
   pub settled : IsTrue answer → AreSettled (length old) facts.nands.now facts.links.now new
-
--- representatives of the base forms of a draft
-pub record AreDraftReps (inputs : ℕ) (nands : List Fact) (links : List Link) (reps : List ℕ) : Type 0 where
-  pub valid : AreRepresentatives (length reps) nands links reps
-  pub few : length reps < 2 ^ 31
-  pub inputs_in : inputs < length reps
-  pub few_nands : length nands < 2 ^ 32 - 1
-
--- settled ones
-pub record AreSettledReps (inputs : ℕ) (nands : List Fact) (links : List Link) (reps : List ℕ) : Type 0 where
-  pub settled : AreSettled (length reps) nands links reps
-  pub few : length reps < 2 ^ 31
-  pub inputs_in : inputs < length reps
-  pub few_nands : length nands < 2 ^ 32 - 1

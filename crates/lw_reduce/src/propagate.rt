@@ -1,6 +1,6 @@
 // Passes over the facts whose operands have new representatives, with a hash table of facts by the
 // representatives of their operands.
-ghost use Rattle.std.specs.Prelude.{◌<◌, ◌≤◌, IfOk, IfSome};
+ghost use Rattle.std.specs.Prelude.{◌<◌, ◌≤◌, length, All, Contains, IfOk, IfSome};
 ghost use Rattle.lw_reduce.specs.Representatives.{CanFindOperands, ComparesOperands, FindsOperands, StillRepresent};
 ghost use Rattle.lw_reduce.specs.Lookups.{AreFreeSlots, CanInsert, CanVisit, CanVisitAll, HaveSlots, KeepSlots, LooksUp, StandAt};
 ghost use Rattle.lw_reduce.specs.Settling.{HaveCanonical};
@@ -67,6 +67,19 @@ fn next_slot(slot: usize, last: usize) -> usize
     slot.wrapping_add(1) & last
 }
 
+// The fact of a slot, where it has one.
+fn fact_in(facts: &Facts, slots: &[u32], slot: usize) -> Option<Fact>
+    requires places { All (λ e. e ≤ length facts.now.nands.now) slots.now }
+    requires within { slot < length slots.now }
+    ensures { IfSome result (Contains facts.now.nands.now) }
+{
+    let entry = slots[slot];
+    if entry == 0 {
+        return None;
+    }
+    Some(facts.nands[entry as usize - 1])
+}
+
 // Looks up a fact with these operands.
 fn look_up(reps: &mut [u32], facts: &Facts, slots: &[u32], operands: Operands) -> Lookup
     requires { HaveSlots facts.now reps.old slots.now }
@@ -75,11 +88,9 @@ fn look_up(reps: &mut [u32], facts: &Facts, slots: &[u32], operands: Operands) -
     let last = slots.len() - 1;
     let mut slot = slot_of(operands, last);
     for _step in 0..slots.len() {
-        let entry = slots[slot];
-        if entry == 0 {
+        let Some(fact) = fact_in(facts, slots, slot) else {
             return Lookup::Free(slot);
-        }
-        let fact = facts.nands[entry as usize - 1];
+        };
         if has_operands(reps, facts, fact, operands) {
             return Lookup::Form(fact.form);
         }

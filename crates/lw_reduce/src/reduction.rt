@@ -1,20 +1,29 @@
 // The graph of a draft's classes.
-ghost use Rattle.std.specs.Prelude.{◌≡◌, ◌+◌, ◌*◌, ◌<◌, ◌^◌, ℕ, Bool, List, length, map, slice_index, IfOk};
+ghost use Rattle.std.specs.Prelude.{◌≡◌, ◌+◌, ◌*◌, ◌<◌, ◌^◌, ℕ, length, map, slice_index, IfOk};
 ghost use Rattle.std.specs.List.{slice_range};
 ghost use Rattle.lw_laws.specs.Drafts.{IsReduced};
-ghost use Rattle.lw_reduce.specs.Drafting.{plain_draft};
+ghost use Rattle.lw_reduce.specs.Buckets.{AreFactRows, HaveClasses};
 ghost use Rattle.lw_reduce.specs.ClassNumbers.{as_class};
-ghost use Rattle.lw_reduce.specs.Settling.{AreDraftReps, AreSettledReps};
+ghost use Rattle.lw_reduce.specs.DraftFacts.{AreDraftReps, AreSettledReps, IsGraphOf};
 
 use crate::Draft;
 use crate::buckets::class_pairs;
 use crate::class_facts::class_facts;
-use crate::classes::number;
+use crate::classes::{Numbered, number};
 use crate::facts::{ClassFacts, Fact, Facts, Link};
 use crate::rounds::settle;
+use crate::sorted_pairs::Rows;
 use lw_graph::Graph;
 use lw_pool::{ClassId, Classes};
 use std::alloc::{AllocError, Global};
+
+// The inputs, NAND facts and links of a draft.
+#[derive(Drop)]
+struct DraftFacts {
+    inputs: u32,
+    nands: Vec<Fact>,
+    links: Vec<Link>,
+}
 
 // Each base form as its own representative.
 fn own_reps(alloc: Global, samples: &[bool]) -> Result<Vec<u32>, AllocError>
@@ -56,25 +65,27 @@ fn lists_of(alloc: Global, inputs: u32, forms: &[u32]) -> Result<(Classes, Class
     Ok((leaves, all))
 }
 
-// The graph of settled representatives.
-fn graph_of(
-    alloc: Global,
-    inputs: u32,
-    reps: &[u32],
-    nands: Vec<Fact>,
-    links: &[Link],
-) -> Result<Graph, AllocError>
-    requires { AreSettledReps inputs nands.items links.now reps.now }
-    ensures { IfOk result (λ graph. (samples : List Bool) → length samples ≡ length reps.now →
-        IsReduced (plain_draft inputs samples nands.items links.now) graph) }
+// The pairs of all classes: the operands of the facts, by the classes of their forms.
+fn rows_of(alloc: Global, numbered: &Numbered, nands: Vec<Fact>) -> Result<Rows, AllocError>
+    requires { HaveClasses numbered.now nands.items }
+    ensures { IfOk result (λ rows. AreFactRows numbered.now nands.items rows.pairs.items rows.ends) }
 {
-    let numbered = number(alloc, reps)?;
     let facts = ClassFacts {
         facts: class_facts(&numbered.forms, nands),
         classes: numbered.pairs as usize * 2,
     };
-    let lists = class_pairs(alloc, facts)?;
-    let Ok((leaves, forms)) = lists_of(alloc, inputs, &numbered.forms) else {
+    let rows = class_pairs(alloc, facts)?;
+    Ok(rows)
+}
+
+// The graph of settled representatives.
+fn graph_of(alloc: Global, reps: &[u32], draft: DraftFacts) -> Result<Graph, AllocError>
+    requires { AreSettledReps draft reps.now }
+    ensures { IfOk result (IsGraphOf draft reps.now) }
+{
+    let numbered = number(alloc, reps)?;
+    let lists = rows_of(alloc, &numbered, draft.nands)?;
+    let Ok((leaves, forms)) = lists_of(alloc, draft.inputs, &numbered.forms) else {
         drop(lists);
         drop(numbered);
         return Err(AllocError);
@@ -86,23 +97,16 @@ fn graph_of(
 }
 
 // The graph of a draft's facts: settles the representatives, then builds the graph.
-fn graph_by(
-    alloc: Global,
-    inputs: u32,
-    reps: &mut [u32],
-    nands: Vec<Fact>,
-    links: &[Link],
-) -> Result<Graph, AllocError>
-    requires { AreDraftReps inputs nands.items links.now reps.old }
-    ensures { IfOk result (λ graph. (samples : List Bool) → length samples ≡ length reps.old →
-        IsReduced (plain_draft inputs samples nands.items links.now) graph) }
+fn graph_by(alloc: Global, reps: &mut [u32], draft: DraftFacts) -> Result<Graph, AllocError>
+    requires { AreDraftReps draft reps.old }
+    ensures { IfOk result (IsGraphOf draft reps.old) }
 {
     let facts = Facts {
-        nands: &nands,
-        links,
+        nands: &draft.nands,
+        links: &draft.links,
     };
     settle(alloc, reps, &facts)?;
-    let graph = graph_of(alloc, inputs, reps, nands, links)?;
+    let graph = graph_of(alloc, reps, draft)?;
     Ok(graph)
 }
 
@@ -123,6 +127,11 @@ pub fn reduce(alloc: Global, draft: Draft) -> Result<Graph, AllocError>
         links,
     } = draft;
     let mut reps = own_reps(alloc, &samples)?;
-    let graph = graph_by(alloc, inputs, &mut reps, nands, &links)?;
+    let facts = DraftFacts {
+        inputs,
+        nands,
+        links,
+    };
+    let graph = graph_by(alloc, &mut reps, facts)?;
     Ok(graph)
 }
