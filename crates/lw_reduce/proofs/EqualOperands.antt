@@ -1,5 +1,5 @@
 -- Facts whose operands are equivalent have equivalent forms.
-use Rattle.std.proofs.Common.{ℕ, ◌-◌, ◌<◌, ◌≤◌, ◌≡◌, ◌≢◌, inl, inr, List, length, get_or, slice_index, All, Contains, refl, sym, subst, arith}
+use Rattle.std.proofs.Common.{ℕ, ◌-◌, ◌<◌, ◌≤◌, ◌≡◌, ◌≢◌, inl, inr, List, length, get_or, slice_index, All, Contains, sym, subst, arith}
 use Rattle.std.proofs.lemmas.List.Elements.{All-get_or, Contains-get_or}
 use Rattle.lw_laws.specs.Families.{Equivalent}
 use Rattle.lw_laws.specs.Families.Equivalent.{turned as turned_by, joined, nanded}

@@ -6,8 +6,8 @@ use Rattle.lw_reduce.specs.declared.propagate.Lookup.TheVariants.{Form, Free, Fu
 use Rattle.lw_reduce.specs.declared.facts.Fact.{Fact}
 use Rattle.lw_reduce.specs.declared.facts.Facts.{Facts}
 use Rattle.lw_reduce.specs.declared.facts.Link.{Link}
-use Rattle.lw_reduce.specs.Representatives.{AreRepresentatives, HasOperands, StayRepresentatives}
-use Rattle.lw_reduce.specs.Settling.{IsImplied, no_fact}
+use Rattle.lw_reduce.specs.Representatives.{HasOperands, Represent, StillRepresent}
+use Rattle.lw_reduce.specs.Settling.{AreImplied, no_fact}
 
 -- a listed fact with these operands has this form
 abbrev pub HasFact : ℕ → List Fact → List Link → ℕ → ℕ → ℕ → Type 0
@@ -32,13 +32,13 @@ pub record StandAt (facts : List Fact) (o : Operands) (place : ℕ) : Type 0 whe
 
 -- representatives with their slots: each slot has 0, or the place after that of a fact
 pub record HaveSlots (facts : Facts) (reps slots : List ℕ) : Type 0 where
-  pub valid : AreRepresentatives (length reps) facts.nands.now facts.links.now reps
+  pub valid : Represent facts reps
   pub some : 0 < length slots
   pub places : All (λ e. e ≤ length facts.nands.now) slots
 
 -- so they are, and the fact at a place has these operands
 pub record CanInsert (facts : Facts) (reps slots : List ℕ) (place : ℕ) (o : Operands) : Type 0 where
-  pub valid : AreRepresentatives (length reps) facts.nands.now facts.links.now reps
+  pub valid : Represent facts reps
   pub some : 0 < length slots
   pub places : All (λ e. e ≤ length facts.nands.now) slots
   pub within : place < length facts.nands.now
@@ -47,16 +47,16 @@ pub record CanInsert (facts : Facts) (reps slots : List ℕ) (place : ℕ) (o : 
 
 -- so they are, and facts over representatives follow from the facts
 pub record CanVisitAll (facts : Facts) (reps slots : List ℕ) (sorted : List Fact) : Type 0 where
-  pub valid : AreRepresentatives (length reps) facts.nands.now facts.links.now reps
-  pub canonical : All (IsImplied (length reps) facts.nands.now facts.links.now) sorted
+  pub valid : Represent facts reps
+  pub canonical : AreImplied facts reps sorted
   pub some : 0 < length slots
   pub places : All (λ e. e ≤ length facts.nands.now) slots
   pub few : length facts.nands.now < 2 ^ 32
 
 -- and there is a fact at the place
 pub record CanVisit (facts : Facts) (reps slots : List ℕ) (sorted : List Fact) (place : ℕ) : Type 0 where
-  pub valid : AreRepresentatives (length reps) facts.nands.now facts.links.now reps
-  pub canonical : All (IsImplied (length reps) facts.nands.now facts.links.now) sorted
+  pub valid : Represent facts reps
+  pub canonical : AreImplied facts reps sorted
   pub some : 0 < length slots
   pub places : All (λ e. e ≤ length facts.nands.now) slots
   pub within : place < length facts.nands.now
@@ -64,11 +64,11 @@ pub record CanVisit (facts : Facts) (reps slots : List ℕ) (sorted : List Fact)
 
 -- representatives stay such, and what was looked up is found
 pub record LooksUp (facts : Facts) (old new slots : List ℕ) (o : Operands) (answer : Lookup) : Type 0 where
-  pub kept : StayRepresentatives (length old) facts.nands.now facts.links.now old new
+  pub kept : StillRepresent facts old new
   pub found : IsLookup (length old) facts.nands.now facts.links.now (length slots) o.low o.high answer
 
 -- representatives stay such, and slots are still slots
 pub record KeepSlots (facts : Facts) (old new slots later : List ℕ) : Type 0 where
-  pub kept : StayRepresentatives (length old) facts.nands.now facts.links.now old new
+  pub kept : StillRepresent facts old new
   pub places : All (λ e. e ≤ length facts.nands.now) later
   pub len : length later ≡ length slots

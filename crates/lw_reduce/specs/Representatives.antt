@@ -114,7 +114,7 @@ StillRepresent facts old new = StayRepresentatives (length old) facts.nands.now 
 
 -- the form is known, so that its root can be found
 pub record CanFind (facts : Facts) (reps : List ℕ) (form : ℕ) : Type 0 where
-  pub valid : AreRepresentatives (length reps) facts.nands.now facts.links.now reps
+  pub valid : Represent facts reps
   pub within : form / 2 < length reps
 
 abbrev pub FindsRoot : Facts → List ℕ → List ℕ → ℕ → ℕ → Type 0
@@ -122,22 +122,22 @@ FindsRoot facts old new form root = IsFound (length old) facts.nands.now facts.l
 
 -- the operands of the fact are known
 pub record CanFindOperands (facts : Facts) (reps : List ℕ) (fact : Fact) : Type 0 where
-  pub valid : AreRepresentatives (length reps) facts.nands.now facts.links.now reps
+  pub valid : Represent facts reps
   pub within : IsFactIn (length reps) fact
 
 -- representatives stay such, and the fact has these operands
 pub record FindsOperands (facts : Facts) (old new : List ℕ) (fact : Fact) (low high : ℕ) : Type 0 where
-  pub kept : StayRepresentatives (length old) facts.nands.now facts.links.now old new
+  pub kept : StillRepresent facts old new
   pub operands : HasOperands (length old) facts.nands.now facts.links.now fact low high
 
 -- so it has where the answer is true
 pub record ComparesOperands (facts : Facts) (old new : List ℕ) (fact : Fact) (low high : ℕ) (same : Bool) : Type 0 where
-  pub kept : StayRepresentatives (length old) facts.nands.now facts.links.now old new
+  pub kept : StillRepresent facts old new
   pub operands : IsTrue same → HasOperands (length old) facts.nands.now facts.links.now fact low high
 
 -- these forms can be given one representative: they are equivalent
 pub record CanUnify (facts : Facts) (reps : List ℕ) (f h : ℕ) : Type 0 where
-  pub valid : AreRepresentatives (length reps) facts.nands.now facts.links.now reps
+  pub valid : Represent facts reps
   pub left : f / 2 < length reps
   pub right : h / 2 < length reps
   pub alike : Equivalent (family (length reps) facts.nands.now facts.links.now) f h

@@ -6,7 +6,7 @@ use Rattle.lw_reduce.specs.declared.facts.Fact.{Fact}
 use Rattle.lw_reduce.specs.declared.facts.Facts.{Facts}
 use Rattle.lw_reduce.specs.declared.facts.Link.{Link}
 use Rattle.lw_reduce.specs.declared.rounds.RoundOutcome.{RoundOutcome}
-use Rattle.lw_reduce.specs.Representatives.{AreRepresentatives, HasOperands, IsFlat, LinkAgrees, Progresses, family, rep_of}
+use Rattle.lw_reduce.specs.Representatives.{AreRepresentatives, HasOperands, IsFlat, LinkAgrees, Progresses, Represent, family, rep_of}
 
 -- the fact over representatives, the lower operand first
 abbrev pub canonical_fact : List ℕ → Fact → Fact
@@ -62,15 +62,19 @@ abbrev pub HaveDistinctOperands : List ℕ → List Fact → Type 0
 HaveDistinctOperands reps nands =
     (p q : Fact) → Contains nands p → Contains nands q → operands_key reps p ≡ operands_key reps q → p ≡ q
 
+-- the facts over representatives follow from these facts
+abbrev pub AreImplied : Facts → List ℕ → List Fact → Type 0
+AreImplied facts reps sorted = All (IsImplied (length reps) facts.nands.now facts.links.now) sorted
+
 -- representatives, and facts over them that follow from the facts
 pub record HaveCanonical (facts : Facts) (reps : List ℕ) (sorted : List Fact) : Type 0 where
-  pub valid : AreRepresentatives (length reps) facts.nands.now facts.links.now reps
-  pub canonical : All (IsImplied (length reps) facts.nands.now facts.links.now) sorted
+  pub valid : Represent facts reps
+  pub canonical : AreImplied facts reps sorted
 
 -- so they are, and two of those facts stand at a place and before it
 pub record CanUnifyAt (facts : Facts) (reps : List ℕ) (sorted : List Fact) (place : ℕ) : Type 0 where
-  pub valid : AreRepresentatives (length reps) facts.nands.now facts.links.now reps
-  pub canonical : All (IsImplied (length reps) facts.nands.now facts.links.now) sorted
+  pub valid : Represent facts reps
+  pub canonical : AreImplied facts reps sorted
   pub start : 1 ≤ place
   pub within : place < length sorted
 
@@ -81,7 +85,7 @@ AgreesAll reps sorted = (place : ℕ) → 1 ≤ place → place < length sorted 
 -- one round: what it gives follows from the facts, and where nothing changed, the representatives are settled
 pub record IsRoundOutcome (facts : Facts) (old new : List ℕ) (r : RoundOutcome) : Type 0 where
   pub progress : Progresses (length old) facts.nands.now facts.links.now old new r.changed
-  pub canonical : All (IsImplied (length old) facts.nands.now facts.links.now) r.canonical.items
+  pub canonical : AreImplied facts old r.canonical.items
   pub settled : IsFalse r.changed → IsSettled (length old) facts.nands.now facts.links.now new r.canonical.items
 
 -- representatives of as many base forms have become settled
