@@ -21,7 +21,7 @@ fn canonicalize_all(facts: &mut [Fact], forms: &[u32])
     }
 }
 
-// The facts with classes in place of forms.
+/// The facts with classes in place of forms.
 pub(crate) fn class_facts(forms: &[u32], mut facts: Vec<Fact>) -> Vec<Fact>
     requires { All (IsFactIn (length forms.now)) facts.items }
     ensures { result.items ≡ map (canonical_fact forms.now) facts.items }

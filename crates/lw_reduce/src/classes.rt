@@ -6,14 +6,14 @@ ghost use Rattle.lw_reduce.specs.Representatives.{IsLower};
 use crate::representatives::rep_of;
 use std::alloc::{AllocError, Global};
 
-// The class of each base form, and how many pairs of a class and its complement there are.
+/// The class of each base form, and how many pairs of a class and its complement there are.
 #[derive(Drop)]
 pub(crate) struct Numbered {
     pub(crate) forms: Vec<u32>,
     pub(crate) pairs: u32,
 }
 
-// Numbers the classes of base forms: a base form that is its own representative has the next pair.
+/// Numbers the classes of base forms: a base form that is its own representative has the next pair.
 pub(crate) fn number(alloc: Global, reps: &[u32]) -> Result<Numbered, AllocError>
     requires few { length reps.now < 2 ^ 31 }
     requires lower { IsLower reps.now }

@@ -1,8 +1,8 @@
 ghost use Rattle.std.specs.Prelude.{◌-◌, ◌<◌, ◌^◌, length, All};
 ghost use Rattle.lw_reduce.specs.declared.facts.Fact.{Fact};
 
-// A form that is the NAND of two operands. The operands stand first, the right one before the left:
-// so they are one number of the processor.
+/// A form that is the NAND of two operands. The operands stand first, the right one before the left:
+/// so they are one number of the processor.
 #[derive(Clone, Copy, Debug, PartialEq, Eq)]
 pub(crate) struct Fact {
     pub(crate) right: u32,
@@ -10,21 +10,21 @@ pub(crate) struct Fact {
     pub(crate) form: u32,
 }
 
-// Two forms of one signal.
+/// Two forms of one signal.
 #[derive(Clone, Copy, Debug, PartialEq, Eq)]
 pub(crate) struct Link {
     pub(crate) left: u32,
     pub(crate) right: u32,
 }
 
-// The NAND facts and links of a draft.
+/// The NAND facts and links of a draft.
 #[derive(Clone, Copy)]
 pub(crate) struct Facts<'a> {
     pub(crate) nands: &'a [Fact],
     pub(crate) links: &'a [Link],
 }
 
-// Facts of so many classes, which numbers of 32 bits count.
+/// Facts of so many classes, which numbers of 32 bits count.
 #[derive(Drop)]
 pub(crate) struct ClassFacts {
     pub(crate) facts: Vec<Fact>,

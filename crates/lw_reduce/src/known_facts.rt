@@ -3,7 +3,7 @@ ghost use Rattle.lw_reduce.specs.Representatives.{IsFactIn};
 
 use crate::facts::Fact;
 
-// A fact over base forms that have representatives.
+/// A fact over base forms that have representatives.
 #[derive(Clone, Copy)]
 pub(crate) struct KnownFact<'a> {
     pub(crate) reps: &'a [u32],
@@ -11,7 +11,7 @@ pub(crate) struct KnownFact<'a> {
     ghost known: { IsFactIn (length reps.now) fact },
 }
 
-// Facts over base forms that have representatives.
+/// Facts over base forms that have representatives.
 #[derive(Clone, Copy)]
 pub(crate) struct KnownFacts<'a> {
     pub(crate) reps: &'a [u32],

@@ -192,10 +192,10 @@ fn empty_slots(alloc: Global, facts: usize) -> Result<Vec<u32>, AllocError>
     Ok(slots)
 }
 
-// Unifies forms along chains of facts: where a round gave operands new representatives, the forms
-// of their facts may become equivalent in turn. The first pass goes in the order of the facts, so
-// that where operands come before their forms one pass carries a whole chain; the second goes in
-// reverse.
+/// Unifies forms along chains of facts: where a round gave operands new representatives, the forms
+/// of their facts may become equivalent in turn. The first pass goes in the order of the facts, so
+/// that where operands come before their forms one pass carries a whole chain; the second goes in
+/// reverse.
 pub(crate) fn propagate(
     alloc: Global,
     reps: &mut [u32],

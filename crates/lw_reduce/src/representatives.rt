@@ -5,7 +5,7 @@ ghost use Rattle.lw_reduce.specs.Representatives.{CanFind, CanUnify, FindsRoot, 
 
 use crate::facts::Facts;
 
-// The representative of a form: that of its base form, or the complement of that.
+/// The representative of a form: that of its base form, or the complement of that.
 #[tactic(auto, using(crate::proofs::Flips::flip_rules))]
 pub(crate) fn rep_of(reps: &[u32], form: u32) -> u32
     requires { form / 2 < length reps.now }
@@ -24,7 +24,7 @@ fn set_rep(reps: &mut [u32], form: u32, rep: u32)
     reps[(form / 2) as usize] = if form % 2 == 0 { rep } else { rep ^ 1 };
 }
 
-// The root that representatives lead to from a form. The path is halved on the way.
+/// The root that representatives lead to from a form. The path is halved on the way.
 pub(crate) fn find(reps: &mut [u32], facts: &Facts, form: u32) -> u32
     requires { CanFind facts.now reps.old form }
     ensures { FindsRoot facts.now reps.old reps.new form result }
@@ -44,7 +44,7 @@ pub(crate) fn find(reps: &mut [u32], facts: &Facts, form: u32) -> u32
     }
 }
 
-// Gives two equivalent forms one root, and says whether they had two.
+/// Gives two equivalent forms one root, and says whether they had two.
 pub(crate) fn unify(reps: &mut [u32], facts: &Facts, left: u32, right: u32) -> bool
     requires { CanUnify facts.now reps.old left right }
     ensures { Unifies facts.now reps.old reps.new result
@@ -63,7 +63,7 @@ pub(crate) fn unify(reps: &mut [u32], facts: &Facts, left: u32, right: u32) -> b
     true
 }
 
-// Makes each representative a root. Lower forms come first, so one step is enough for each.
+/// Makes each representative a root. Lower forms come first, so one step is enough for each.
 pub(crate) fn flatten(reps: &mut [u32], facts: &Facts)
     requires { Represent facts.now reps.old }
     ensures kept { StillRepresent facts.now reps.old reps.new }

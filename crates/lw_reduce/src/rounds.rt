@@ -34,7 +34,7 @@ fn unify_linked(reps: &mut [u32], facts: &Facts) -> bool
     changed
 }
 
-// A fact over representatives, the lower operand first.
+/// A fact over representatives, the lower operand first.
 pub(crate) fn canonical_fact(known: &KnownFact) -> Fact
     ensures { result ≡ canonical_fact known.now.reps.now known.now.fact }
 {
@@ -138,7 +138,7 @@ fn are_settled(alloc: Global, reps: &mut [u32], facts: &Facts) -> Result<bool, A
     Ok(own)
 }
 
-// Runs rounds until one unifies nothing: the congruence closure.
+/// Runs rounds until one unifies nothing: the congruence closure.
 pub(crate) fn settle(alloc: Global, reps: &mut [u32], facts: &Facts) -> Result<(), AllocError>
     requires valid { Represent facts.now reps.old }
     requires few { length reps.old < 2 ^ 31 }

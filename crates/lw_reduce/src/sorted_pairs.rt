@@ -45,7 +45,7 @@ fn pairs_at<'a>(pairs: &'a [Pair], ends: &[u32], class: usize) -> &'a [Pair]
     &pairs[start..ends[class] as usize]
 }
 
-// The pairs of all classes, sorted within each class, and where those of each class end.
+/// The pairs of all classes, sorted within each class, and where those of each class end.
 #[derive(Drop)]
 pub(crate) struct Rows {
     pub(crate) pairs: Pool<PairId, Pair>,
@@ -89,7 +89,7 @@ fn no_rows(alloc: Global, pairs: usize) -> Result<Rows, AllocError>
     })
 }
 
-// The pairs of each class, sorted and without repeats.
+/// The pairs of each class, sorted and without repeats.
 pub(crate) fn sorted_rows(alloc: Global, pairs: &[Pair], ends: &[u32]) -> Result<Rows, AllocError>
     requires ends { AreEnds (length pairs.now) 0 ends.now }
     requires few { length pairs.now < 2 ^ 32 - 1 }
