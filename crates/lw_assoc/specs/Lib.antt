@@ -1,4 +1,5 @@
 pub mod Drafting
+pub mod Facts
 pub mod Modes
 pub mod Splits
 pub mod Parts

@@ -3,6 +3,7 @@ use Rattle.std.specs.Prelude.{ℕ, zero, suc, ◌+◌, ◌*◌, ◌/◌, ◌%◌
 use Rattle.lw_laws.specs.NumberedForms.{NumberedForms, IsPart}
 use Rattle.lw_laws.specs.NumberedForms.Base.{base_and}
 use Rattle.lw_form.specs.Bases.{picked}
+use Rattle.lw_form.specs.Kept.{HasPart}
 
 -- the operands but the one at the place
 abbrev pub without : List ℕ → ℕ → List ℕ
@@ -25,3 +26,10 @@ pub record HasParts (forms : NumberedForms) (b low : ℕ) (parts : List ℕ) : T
   pub within : b < length forms.bases
   pub size : length parts ≡ 256
   pub each : (fs : List ℕ) (mask : ℕ) → slice_get forms.bases b ≡ Some (base_and fs) → low ≤ mask → mask < 2 ^ length fs → IsPart forms (picked fs mask) (slice_index parts mask)
+
+-- all drops are there, and the parts of higher masks
+pub record CanPutPart (forms : NumberedForms) (drops : List ℕ) (b mask : ℕ) (parts : List ℕ) : Type 0 where
+  pub has : HasPart forms b (mask + 1)
+  pub some : 1 ≤ mask
+  pub drops_all : HasDrops forms (length forms.bases) drops
+  pub higher : HasParts forms b (mask + 1) parts

@@ -1,14 +1,15 @@
 // The draft of all splits and links of listed forms.
 ghost use Rattle.std.specs.Prelude.{◌≡◌, ◌+◌, ◌*◌, length, OnOk, IfOk};
 ghost use Rattle.lw_laws.specs.Modes.Mode.{plain};
-ghost use Rattle.lw_assoc.specs.Drafting.{AddsBases, AddsLinks, AddsNands, AddsSplit, HasBases, HasFactsUpTo, HasLinksUpTo, IsDraftOf, MakeSplit};
+ghost use Rattle.lw_assoc.specs.Drafting.{AddsBases, AddsLinks, AddsSplit, HasBases, HasFactsUpTo, HasLinksUpTo, IsDraftOf};
+ghost use Rattle.lw_assoc.specs.Facts.{AddsAllFacts, AddsFacts, CanAddFacts, CanAddSplit};
 ghost use Rattle.lw_assoc.specs.Modes.{law_mode};
-ghost use Rattle.lw_assoc.specs.Parts.{HasDrops, HasParts};
+ghost use Rattle.lw_assoc.specs.Parts.{HasDrops};
 
 use crate::Mode;
 use crate::drops::drops_of;
 use crate::overlaps::add_further;
-use crate::parts::{MASKS, put_parts};
+use crate::parts::{BaseParts, MASKS, put_parts};
 use crate::splits::half_of;
 use lw_form::{Base, Forms};
 use lw_pool::{FormId, NetId};
@@ -31,61 +32,47 @@ fn add_bases(draft: &mut Draft, forms: &Forms) -> Result<(), AllocError>
 // splits leaves room for all facts.
 pub(crate) fn add_split(
     draft: &mut Draft,
-    forms: &Forms,
-    parts: &[u32],
-    b: u32,
+    base: &BaseParts,
     mask: u32,
     rest: u32,
 ) -> Result<(), AllocError>
-    requires bases { HasBases forms.now (length forms.now.bases) draft.old }
-    requires parts { HasParts forms.now b 1 parts.now }
-    requires split { MakeSplit forms.now b mask rest }
-    ensures { OnOk result (AddsSplit forms.now b mask rest draft.old draft.new) }
+    requires { CanAddSplit base.now mask rest draft.old }
+    ensures { OnOk result (AddsSplit base.now.forms.now base.now.b mask rest draft.old draft.new) }
 {
-    let _ = forms.inputs();
+    let _ = base.forms.inputs();
     if draft.is_full() {
         return Err(AllocError);
     }
-    let left = FormId(parts[mask as usize]);
-    let right = FormId(parts[rest as usize]);
-    draft.nand(FormId(2 * b + 1), left, right)
+    let left = FormId(base.parts[mask as usize]);
+    let right = FormId(base.parts[rest as usize]);
+    draft.nand(FormId(2 * base.b + 1), left, right)
 }
 
 // Adds the splits of a base form, of which an And alone has some. The last operand stands in the
 // second part.
-fn add_splits(draft: &mut Draft, forms: &Forms, parts: &[u32], b: u32) -> Result<(), AllocError>
-    requires parts { HasParts forms.now b 1 parts.now }
-    requires before { HasFactsUpTo plain forms.now b draft.old }
-    ensures facts { OnOk result (HasFactsUpTo plain forms.now (b + 1) draft.new) }
-    ensures kept { OnOk result (AddsNands draft.old draft.new) }
+fn add_splits(draft: &mut Draft, base: &BaseParts) -> Result<(), AllocError>
+    requires { CanAddFacts plain base.now draft.old }
+    ensures { OnOk result (AddsFacts plain base.now draft.old draft.new) }
 {
-    let Base::And(ids) = forms.base(b) else {
+    let Base::And(ids) = base.forms.base(base.b) else {
         return Ok(());
     };
     let half = half_of(ids.len());
     let all = 2 * half - 1;
     for mask in 1..half {
-        add_split(draft, forms, parts, b, mask, all - mask)?;
+        add_split(draft, base, mask, all - mask)?;
     }
     Ok(())
 }
 
 // Adds the splits of a base form in a mode.
-fn add_base(
-    draft: &mut Draft,
-    forms: &Forms,
-    parts: &[u32],
-    b: u32,
-    mode: Mode,
-) -> Result<(), AllocError>
-    requires parts { HasParts forms.now b 1 parts.now }
-    requires before { HasFactsUpTo (law_mode mode) forms.now b draft.old }
-    ensures facts { OnOk result (HasFactsUpTo (law_mode mode) forms.now (b + 1) draft.new) }
-    ensures kept { OnOk result (AddsNands draft.old draft.new) }
+fn add_base(draft: &mut Draft, base: &BaseParts, mode: Mode) -> Result<(), AllocError>
+    requires { CanAddFacts (law_mode mode) base.now draft.old }
+    ensures { OnOk result (AddsFacts (law_mode mode) base.now draft.old draft.new) }
 {
     match mode {
-        Mode::Plain => add_splits(draft, forms, parts, b),
-        Mode::Idempotent => add_further(draft, forms, parts, b),
+        Mode::Plain => add_splits(draft, base),
+        Mode::Idempotent => add_further(draft, base),
     }
 }
 
@@ -100,13 +87,11 @@ fn add_all_splits(
     requires size { length parts.old ≡ 256 }
     requires drops { HasDrops forms.now (length forms.now.bases) drops.now }
     requires none { HasFactsUpTo (law_mode mode) forms.now 0 draft.old }
-    ensures facts { OnOk result (HasFactsUpTo (law_mode mode) forms.now
-        (length forms.now.bases) draft.new) }
-    ensures kept { OnOk result (AddsNands draft.old draft.new) }
+    ensures { OnOk result (AddsAllFacts (law_mode mode) forms.now draft.old draft.new) }
 {
     for b in 0..forms.len() {
         put_parts(parts, forms, drops, b);
-        add_base(draft, forms, parts, b, mode)?;
+        add_base(draft, &BaseParts { forms, parts, b }, mode)?;
     }
     Ok(())
 }
@@ -119,9 +104,7 @@ fn find_splits(
     mode: Mode,
 ) -> Result<(), AllocError>
     requires { HasFactsUpTo (law_mode mode) forms.now 0 draft.old }
-    ensures facts { OnOk result (HasFactsUpTo (law_mode mode) forms.now
-        (length forms.now.bases) draft.new) }
-    ensures kept { OnOk result (AddsNands draft.old draft.new) }
+    ensures { OnOk result (AddsAllFacts (law_mode mode) forms.now draft.old draft.new) }
 {
     let drops = drops_of(alloc, forms)?;
     let mut parts = [0; MASKS];

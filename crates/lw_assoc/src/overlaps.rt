@@ -1,11 +1,12 @@
 // The facts of the further mode: pairs of different parts of an And that together have each
 // operand, and each form by its complement twice.
-ghost use Rattle.std.specs.Prelude.{◌+◌, ◌/◌, ◌<◌, ◌≤◌, length, OnOk};
+ghost use Rattle.std.specs.Prelude.{◌+◌, ◌/◌, ◌<◌, length, OnOk};
 ghost use Rattle.lw_laws.specs.Modes.Mode.{idempotent};
-ghost use Rattle.lw_assoc.specs.Drafting.{AddsInverter, AddsNands, HasBases, HasFactsUpTo, IsMaskBelow, IsOverlapping};
-ghost use Rattle.lw_assoc.specs.Parts.{HasParts};
+ghost use Rattle.lw_assoc.specs.Drafting.{AddsInverter, AddsNands, HasBases, HasFactsUpTo, IsOverlapping};
+ghost use Rattle.lw_assoc.specs.Facts.{AddsFacts, AddsOverlaps, CanAddFacts, CanOverlap, CanOverlapFrom, HasAllParts};
 
 use crate::drafting::add_split;
+use crate::parts::BaseParts;
 use crate::splits::half_of;
 use lw_form::{Base, Forms};
 use lw_pool::FormId;
@@ -15,63 +16,50 @@ use std::alloc::AllocError;
 // Adds the fact of two parts, where together they have each operand.
 fn add_overlap(
     draft: &mut Draft,
-    forms: &Forms,
-    parts: &[u32],
-    b: u32,
+    base: &BaseParts,
     left: u32,
     right: u32,
     all: u32,
 ) -> Result<(), AllocError>
-    requires parts { HasParts forms.now b 1 parts.now }
-    requires left { IsMaskBelow forms.now b left all }
-    requires right { (left < right) × (right ≤ all) }
-    requires before { IsOverlapping forms.now b left right draft.old }
-    ensures so_far { OnOk result (IsOverlapping forms.now b left (right + 1) draft.new) }
-    ensures kept { OnOk result (AddsNands draft.old draft.new) }
+    requires { CanOverlap base.now left right all draft.old }
+    ensures { OnOk result (AddsOverlaps base.now left (right + 1) draft.old draft.new) }
 {
-    let _ = forms.inputs();
+    let _ = base.forms.inputs();
     if left | right != all {
         return Ok(());
     }
-    add_split(draft, forms, parts, b, left, right)?;
+    add_split(draft, base, left, right)?;
     Ok(())
 }
 
 // Adds the facts of one part and those of higher masks.
 fn add_overlaps_with(
     draft: &mut Draft,
-    forms: &Forms,
-    parts: &[u32],
-    b: u32,
+    base: &BaseParts,
     left: u32,
     all: u32,
 ) -> Result<(), AllocError>
-    requires parts { HasParts forms.now b 1 parts.now }
-    requires left { IsMaskBelow forms.now b left all }
-    requires few { all ≤ 255 }
-    requires before { IsOverlapping forms.now b left 0 draft.old }
-    ensures so_far { OnOk result (IsOverlapping forms.now b (left + 1) 0 draft.new) }
-    ensures kept { OnOk result (AddsNands draft.old draft.new) }
+    requires { CanOverlapFrom base.now left all draft.old }
+    ensures { OnOk result (AddsOverlaps base.now (left + 1) 0 draft.old draft.new) }
 {
     for right in left + 1..all + 1 {
-        add_overlap(draft, forms, parts, b, left, right, all)?;
+        add_overlap(draft, base, left, right, all)?;
     }
     Ok(())
 }
 
 // Adds the facts of all two parts of a base form, of which an And alone has some.
-fn add_overlaps(draft: &mut Draft, forms: &Forms, parts: &[u32], b: u32) -> Result<(), AllocError>
-    requires parts { HasParts forms.now b 1 parts.now }
-    requires before { IsOverlapping forms.now b 0 0 draft.old }
-    ensures facts { OnOk result (HasFactsUpTo idempotent forms.now (b + 1) draft.new) }
-    ensures kept { OnOk result (AddsNands draft.old draft.new) }
+fn add_overlaps(draft: &mut Draft, base: &BaseParts) -> Result<(), AllocError>
+    requires parts { HasAllParts base.now }
+    requires before { IsOverlapping base.now.forms.now base.now.b 0 0 draft.old }
+    ensures { OnOk result (AddsFacts idempotent base.now draft.old draft.new) }
 {
-    let Base::And(ids) = forms.base(b) else {
+    let Base::And(ids) = base.forms.base(base.b) else {
         return Ok(());
     };
     let all = 2 * half_of(ids.len()) - 1;
     for left in 1..all {
-        add_overlaps_with(draft, forms, parts, b, left, all)?;
+        add_overlaps_with(draft, base, left, all)?;
     }
     Ok(())
 }
@@ -104,17 +92,10 @@ fn add_inverters(draft: &mut Draft, forms: &Forms, b: u32) -> Result<(), AllocEr
 }
 
 // Adds the facts of a base form in the further mode.
-pub(crate) fn add_further(
-    draft: &mut Draft,
-    forms: &Forms,
-    parts: &[u32],
-    b: u32,
-) -> Result<(), AllocError>
-    requires parts { HasParts forms.now b 1 parts.now }
-    requires before { HasFactsUpTo idempotent forms.now b draft.old }
-    ensures facts { OnOk result (HasFactsUpTo idempotent forms.now (b + 1) draft.new) }
-    ensures kept { OnOk result (AddsNands draft.old draft.new) }
+pub(crate) fn add_further(draft: &mut Draft, base: &BaseParts) -> Result<(), AllocError>
+    requires { CanAddFacts idempotent base.now draft.old }
+    ensures { OnOk result (AddsFacts idempotent base.now draft.old draft.new) }
 {
-    add_inverters(draft, forms, b)?;
-    add_overlaps(draft, forms, parts, b)
+    add_inverters(draft, base.forms, base.b)?;
+    add_overlaps(draft, base)
 }

@@ -1,7 +1,6 @@
 // The parts of an And by their masks, each found from one with an operand more.
-ghost use Rattle.std.specs.Prelude.{◌≡◌, ◌+◌, ◌<◌, ◌≤◌, length};
-ghost use Rattle.lw_form.specs.Kept.{HasPart};
-ghost use Rattle.lw_assoc.specs.Parts.{HasDrops, HasParts, IsFirstUnset};
+ghost use Rattle.std.specs.Prelude.{◌≡◌, ◌+◌, ◌<◌, length};
+ghost use Rattle.lw_assoc.specs.Parts.{CanPutPart, HasDrops, HasParts, IsFirstUnset};
 
 use crate::drops::{PLACES, bit};
 use crate::splits::half_of;
@@ -9,6 +8,14 @@ use lw_form::{Base, Forms};
 
 /// How many masks there are for the operands of an And.
 pub(crate) const MASKS: usize = 256;
+
+/// A listed base form, with its parts by their masks.
+#[derive(Clone, Copy)]
+pub(crate) struct BaseParts<'a> {
+    pub(crate) forms: &'a Forms,
+    pub(crate) parts: &'a [u32],
+    pub(crate) b: u32,
+}
 
 // The place of the lowest bit that is not set.
 fn first_unset(mask: u32) -> usize
@@ -28,10 +35,7 @@ fn first_unset(mask: u32) -> usize
 // Puts the part of a mask, once those of higher masks are there: the one with the lowest further
 // operand, less that operand.
 fn put_part(parts: &mut [u32], forms: &Forms, drops: &[u32], b: u32, mask: u32)
-    requires has { HasPart forms.now b (mask + 1) }
-    requires some { 1 ≤ mask }
-    requires drops { HasDrops forms.now (length forms.now.bases) drops.now }
-    requires higher { HasParts forms.now b (mask + 1) parts.old }
+    requires { CanPutPart forms.now drops.now b mask parts.old }
     ensures { HasParts forms.now b mask parts.new }
 {
     let _ = forms.inputs();

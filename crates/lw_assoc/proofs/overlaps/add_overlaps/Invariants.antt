@@ -3,6 +3,6 @@ use Rattle.lw_assoc.proofs.overlaps.add_overlaps.Given as goal
 
 abbrev pub invariant-loop-left : goal.invariant-loop-left
 invariant-loop-left l = record {
-  so_far : IsOverlapping l.forms l.b l.left 0 l.draft;
+  so_far : IsOverlapping l.base.forms.now l.base.b l.left 0 l.draft;
   kept : AddsNands l.fn.draft l.draft;
 }
