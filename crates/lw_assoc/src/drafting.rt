@@ -28,8 +28,8 @@ fn add_bases(draft: &mut Draft, forms: &Forms) -> Result<(), AllocError>
     Ok(())
 }
 
-// Adds the fact that an And has by the parts of two masks. The draft is never full: the limit on
-// splits leaves room for all facts.
+/// Adds the fact that an And has by the parts of two masks. The draft is never full: the limit on
+/// splits leaves room for all facts.
 pub(crate) fn add_split(
     draft: &mut Draft,
     base: &BaseParts,
@@ -124,7 +124,7 @@ fn add_links(draft: &mut Draft, forms: &Forms) -> Result<(), AllocError>
     Ok(())
 }
 
-// The draft of all base forms, the splits of a mode, and links.
+/// The draft of all base forms, the splits of a mode, and links.
 pub(crate) fn draft_of(alloc: Global, forms: &Forms, mode: Mode) -> Result<Draft, AllocError>
     ensures { IfOk result (λ d. IsDraftOf (law_mode mode) forms.now d) }
 {

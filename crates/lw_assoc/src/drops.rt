@@ -9,7 +9,7 @@ use std::alloc::{AllocError, Global};
 /// How many places a base form has for its operands.
 pub(crate) const PLACES: usize = 8;
 
-// The bit at a place of a mask.
+/// The bit at a place of a mask.
 pub(crate) fn bit(place: usize) -> u32
     requires { place < 8 }
     ensures { result ≡ 2 ^ place }
@@ -43,7 +43,7 @@ fn put_all_drops(drops: &mut [u32], forms: &Forms)
     }
 }
 
-// The Ands of all operands but one: at 8b + k that without the operand of And b at place k.
+/// The Ands of all operands but one: at 8b + k that without the operand of And b at place k.
 pub(crate) fn drops_of(alloc: Global, forms: &Forms) -> Result<Vec<u32>, AllocError>
     ensures { IfOk result (λ drops. HasDrops forms.now (length forms.now.bases) drops.items) }
 {

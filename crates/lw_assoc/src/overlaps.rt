@@ -91,7 +91,7 @@ fn add_inverters(draft: &mut Draft, forms: &Forms, b: u32) -> Result<(), AllocEr
     Ok(())
 }
 
-// Adds the facts of a base form in the further mode.
+/// Adds the facts of a base form in the further mode.
 pub(crate) fn add_further(draft: &mut Draft, base: &BaseParts) -> Result<(), AllocError>
     requires { CanAddFacts idempotent base.now draft.old }
     ensures { OnOk result (AddsFacts idempotent base.now draft.old draft.new) }

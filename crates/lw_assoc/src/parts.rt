@@ -44,7 +44,7 @@ fn put_part(parts: &mut [u32], forms: &Forms, drops: &[u32], b: u32, mask: u32)
     parts[mask as usize] = drops[PLACES * (more / 2) as usize + place];
 }
 
-// Puts all parts of an And.
+/// Puts all parts of an And.
 pub(crate) fn put_parts(parts: &mut [u32], forms: &Forms, drops: &[u32], b: u32)
     requires within { b < length forms.now.bases }
     requires size { length parts.old ≡ 256 }

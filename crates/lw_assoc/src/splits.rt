@@ -15,7 +15,7 @@ pub(crate) const MOST_SPLITS: u64 = 16_777_216;
 // The powers of three.
 const POWERS: [u32; 9] = [1, 3, 9, 27, 81, 243, 729, 2187, 6561];
 
-// How many sub-lists of so many operands leave the last one out.
+/// How many sub-lists of so many operands leave the last one out.
 pub(crate) fn half_of(count: usize) -> u32
     requires some { 1 ≤ count }
     requires few { count ≤ 8 }
@@ -60,7 +60,7 @@ fn splits_at(forms: &Forms, b: u32, mode: Mode) -> u32
     splits_of(mode, ids.len())
 }
 
-// The splits of all base forms.
+/// The splits of all base forms.
 pub(crate) fn split_count(forms: &Forms, mode: Mode) -> u64
     ensures count { result ≡ numbered_splits (law_mode mode) forms.now }
     ensures kept { AreForms forms.now }
