@@ -4,6 +4,7 @@ pub mod Fields
 pub mod Functions
 pub mod Grammar
 pub mod Expects
+pub mod Parsing
 pub mod Postfix
 pub mod Runs
 pub mod FunctionChecks

@@ -33,6 +33,7 @@ mod state_parts;
 mod token;
 mod tokenize;
 mod truth;
+mod unread;
 
 pub use cell::Cell;
 pub use expr::Expr;

@@ -1,13 +1,15 @@
 // Parses an expression from tokens that may stand one after the other.
-ghost use Rattle.std.specs.Prelude.{◌≡◌, ◌+◌, ◌≤◌, ◌^◌, ◌||◌, ◌∷◌, [], true, false, IfOk, OnOk, MatchOption, length, unwrap_or, replicate, ◌++◌};
+ghost use Rattle.std.specs.Prelude.{◌≡◌, ◌≤◌, ◌^◌, ◌||◌, ◌∷◌, [], true, false, IfOk, OnOk, MatchOption, length, unwrap_or, replicate, ◌++◌};
 ghost use Rattle.std.specs.List.{position, prefix_len};
 ghost use Rattle.std.specs.Str.{bytes_eq};
 ghost use Rattle.lw_genlib.specs.declared.token.Token.TheVariants.{Punct};
 ghost use Rattle.lw_genlib.specs.Grammar as grammar;
-ghost use Rattle.lw_genlib.specs.Grammar.{Reads, IsAtom, IsFactor, SpellsProduct, SpellsSum, go_on, begins_with, names_in};
+ghost use Rattle.lw_genlib.specs.Grammar.{SpellsSum, go_on, begins_with, names_in};
+ghost use Rattle.lw_genlib.specs.Parsing.{ReadsSum, ReadsProduct, ReadsFactor, ReadsQuoted, ReadsAtom, HasNoBang};
 ghost use Rattle.lw_genlib.specs.Postfix.{postfix};
 
 use crate::function_check::is_punct;
+use crate::unread::Unread;
 use crate::{Expr, ExprOp, Token};
 use lw_pool::Name;
 use std::alloc::{AllocError, Global};
@@ -21,30 +23,25 @@ pub(crate) fn expression(alloc: Global, tokens: &[Token], pins: &[Name]) -> Resu
     ensures { IfOk result (λ expr. SpellsSum pins.now tokens.now expr) }
 {
     let mut ops = Vec::new(alloc);
-    sum(tokens, 0, pins, &mut ops)?;
+    let whole = Unread {
+        text: tokens,
+        depth: 0,
+        pins,
+    };
+    sum(&whole, &mut ops)?;
     Ok(Expr::new(ops))
 }
 
-// Reads a sum from the front of the tokens, appends its steps, and gives the tokens that are left.
+// Reads a sum from the front of what is left, appends its steps, and gives the tokens behind it.
 #[cycle(expression)]
-fn sum<'a>(
-    tokens: &'a [Token],
-    depth: usize,
-    pins: &[Name],
-    ops: &mut Vec<ExprOp>,
-) -> Result<&'a [Token], AllocError>
-    requires fits { go_on true depth tokens.now ≡ true }
-    requires few { names_in tokens.now ≤ 64 }
-    requires short { depth + length tokens.now ≤ 2 ^ 32 }
-    requires pins { length pins.now ≤ 16 }
-    ensures { IfOk result (λ rest. Reads
-        (SpellsSum pins.now) grammar.after_sum depth tokens.now rest.now ops.old.items
-        ops.new.items) }
+fn sum<'a>(left: &Unread<'a>, ops: &mut Vec<ExprOp>) -> Result<&'a [Token], AllocError>
+    ensures { IfOk result (λ rest. ReadsSum left.now rest.now ops.old.items ops.new.items) }
 {
-    let mut rest = product(tokens, depth, pins, ops)?;
+    let Unread { depth, pins, .. } = *left;
+    let mut rest = product(left, ops)?;
     let mut products = 1u8;
-    while let Some(behind) = behind_punct(b'+', rest) {
-        rest = product(behind, depth, pins, ops)?;
+    while let Some(text) = behind_punct(b'+', rest) {
+        rest = product(&Unread { text, depth, pins }, ops)?;
         products += 1;
     }
     if products > 1 {
@@ -54,24 +51,14 @@ fn sum<'a>(
 }
 
 #[cycle(expression)]
-fn product<'a>(
-    tokens: &'a [Token],
-    depth: usize,
-    pins: &[Name],
-    ops: &mut Vec<ExprOp>,
-) -> Result<&'a [Token], AllocError>
-    requires fits { go_on true depth tokens.now ≡ true }
-    requires few { names_in tokens.now ≤ 64 }
-    requires short { depth + length tokens.now ≤ 2 ^ 32 }
-    requires pins { length pins.now ≤ 16 }
-    ensures { IfOk result (λ rest. Reads
-        (SpellsProduct pins.now) grammar.after_product depth tokens.now rest.now ops.old.items
-        ops.new.items) }
+fn product<'a>(left: &Unread<'a>, ops: &mut Vec<ExprOp>) -> Result<&'a [Token], AllocError>
+    ensures { IfOk result (λ rest. ReadsProduct left.now rest.now ops.old.items ops.new.items) }
 {
-    let mut rest = factor(tokens, depth, pins, ops)?;
+    let Unread { depth, pins, .. } = *left;
+    let mut rest = factor(left, ops)?;
     let mut factors = 1u8;
-    while let Some(behind) = next_factor(rest) {
-        rest = factor(behind, depth, pins, ops)?;
+    while let Some(text) = next_factor(rest) {
+        rest = factor(&Unread { text, depth, pins }, ops)?;
         factors += 1;
     }
     if factors > 1 {
@@ -81,44 +68,23 @@ fn product<'a>(
 }
 
 #[cycle(expression)]
-fn factor<'a>(
-    tokens: &'a [Token],
-    depth: usize,
-    pins: &[Name],
-    ops: &mut Vec<ExprOp>,
-) -> Result<&'a [Token], AllocError>
-    requires fits { go_on true depth tokens.now ≡ true }
-    requires few { names_in tokens.now ≤ 64 }
-    requires short { depth + length tokens.now ≤ 2 ^ 32 }
-    requires pins { length pins.now ≤ 16 }
-    ensures { IfOk result (λ rest. Reads
-        (IsFactor pins.now) grammar.after_factor depth tokens.now rest.now ops.old.items
-        ops.new.items) }
+fn factor<'a>(left: &Unread<'a>, ops: &mut Vec<ExprOp>) -> Result<&'a [Token], AllocError>
+    ensures { IfOk result (λ rest. ReadsFactor left.now rest.now ops.old.items ops.new.items) }
 {
-    let bangs = bangs_first(tokens);
-    let (_, operand) = tokens.split_at(bangs);
-    let rest = quoted(operand, depth, pins, ops)?;
+    let Unread { text, depth, pins } = *left;
+    let bangs = bangs_first(text);
+    let (_, text) = text.split_at(bangs);
+    let rest = quoted(&Unread { text, depth, pins }, ops)?;
     push_complements(ops, bangs)?;
     Ok(rest)
 }
 
 #[cycle(expression)]
-fn quoted<'a>(
-    tokens: &'a [Token],
-    depth: usize,
-    pins: &[Name],
-    ops: &mut Vec<ExprOp>,
-) -> Result<&'a [Token], AllocError>
-    requires fits { go_on true depth tokens.now ≡ true }
-    requires no_bang { begins_with (grammar.is_punct 33) tokens.now ≡ false }
-    requires few { names_in tokens.now ≤ 64 }
-    requires short { depth + length tokens.now ≤ 2 ^ 32 }
-    requires pins { length pins.now ≤ 16 }
-    ensures { IfOk result (λ rest. Reads
-        (IsAtom pins.now) grammar.after_factor depth tokens.now rest.now ops.old.items
-        ops.new.items) }
+fn quoted<'a>(left: &Unread<'a>, ops: &mut Vec<ExprOp>) -> Result<&'a [Token], AllocError>
+    requires { HasNoBang left.now }
+    ensures { IfOk result (λ rest. ReadsQuoted left.now rest.now ops.old.items ops.new.items) }
 {
-    let mut rest = atom(tokens, depth, pins, ops)?;
+    let mut rest = atom(left, ops)?;
     while let Some(behind) = behind_punct(b'\'', rest) {
         ops.push(ExprOp::Not)?;
         rest = behind;
@@ -127,27 +93,21 @@ fn quoted<'a>(
 }
 
 #[cycle(expression)]
-fn atom<'a>(
-    tokens: &'a [Token],
-    depth: usize,
-    pins: &[Name],
-    ops: &mut Vec<ExprOp>,
-) -> Result<&'a [Token], AllocError>
-    requires fits { go_on true depth tokens.now ≡ true }
-    requires no_bang { begins_with (grammar.is_punct 33) tokens.now ≡ false }
-    requires few { names_in tokens.now ≤ 64 }
-    requires short { depth + length tokens.now ≤ 2 ^ 32 }
-    requires pins { length pins.now ≤ 16 }
-    ensures { IfOk result (λ rest. Reads
-        (IsAtom pins.now) grammar.after_atom depth tokens.now rest.now ops.old.items
-        ops.new.items) }
+fn atom<'a>(left: &Unread<'a>, ops: &mut Vec<ExprOp>) -> Result<&'a [Token], AllocError>
+    requires { HasNoBang left.now }
+    ensures { IfOk result (λ rest. ReadsAtom left.now rest.now ops.old.items ops.new.items) }
 {
-    if let Some(inner) = behind_punct(b'(', tokens) {
-        let rest = sum(inner, depth + 1, pins, ops)?;
+    if let Some(inner) = behind_punct(b'(', left.text) {
+        let group = Unread {
+            text: inner,
+            depth: left.depth + 1,
+            pins: left.pins,
+        };
+        let rest = sum(&group, ops)?;
         return Ok(behind_group(rest));
     }
-    let (name, rest) = first_name(tokens);
-    ops.push(literal_of(name, pins))?;
+    let (name, rest) = first_name(left.text);
+    ops.push(literal_of(name, left.pins))?;
     Ok(rest)
 }
 
