@@ -6,6 +6,10 @@ use Rattle.lw_genlib.specs.declared.fault.LibFault.{LibFault}
 use Rattle.lw_genlib.specs.declared.fault.LibFault.TheVariants.{Line, Memory}
 use Rattle.lw_genlib.specs.declared.state_parts.Expect.{Expect}
 use Rattle.lw_genlib.specs.declared.state_parts.Expect.TheVariants as expect
+use Rattle.lw_genlib.specs.declared.state_parts.GateHeader.{GateHeader}
+use Rattle.lw_genlib.specs.declared.state_parts.PinDelay.{PinDelay}
+use Rattle.lw_genlib.specs.declared.pin.Field.{Field}
+use Rattle.lw_genlib.specs.declared.given.Given.{Given}
 use Rattle.lw_genlib.specs.declared.reader_state.ReaderState.{ReaderState}
 use Rattle.lw_genlib.specs.declared.reader.Status.{Status}
 use Rattle.lw_genlib.specs.declared.reader.Status.TheVariants.{Reading, Stopped}
@@ -46,6 +50,42 @@ BreaksAt outcome Memory = ⊤
 abbrev pub ReadsOn : streams.Reading library.CellsSoFar → Result ReaderState LibFault → List StreamItem → Type 0
 ReadsOn step result rest =
     MatchResult result (λ (new : ReaderState). reads_on (library.piece_by step) ≡ resume new rest) (BreaksAt (reads_on (library.piece_by step)))
+
+-- These items were read, whatever follows them.
+abbrev pub ReadsMore : ReaderState → List StreamItem → Result ReaderState LibFault → Type 0
+ReadsMore state items result =
+    (rest : List StreamItem) → MatchResult result (λ (new : ReaderState). resume state (items ++ rest) ≡ resume new rest) (BreaksAt (resume state (items ++ rest)))
+
+-- One more word.
+
+abbrev pub item_of : Given → StreamItem
+item_of given = streams.word_on given.line given.word.now
+
+-- it was read where this was expected, whatever follows it
+abbrev pub ReadsWord : library.CellsSoFar → Expect → Given → Result ReaderState LibFault → Type 0
+ReadsWord so_far expected given result =
+    (rest : List StreamItem)
+    → MatchResult result (λ (new : ReaderState). reads_on (piece_at so_far expected (item_of given ∷ rest)) ≡ resume new rest) (BreaksAt (reads_on (piece_at so_far expected (item_of given ∷ rest))))
+
+-- it begins an entry
+abbrev pub BeginsEntry : library.CellsSoFar → Given → Result ReaderState LibFault → Type 0
+BeginsEntry so_far given result = (rest : List StreamItem) → ReadsOn (library.entry_on given.line given.word.now rest so_far) result rest
+
+-- it begins a pin of this entry, if there is one, or another entry
+abbrev pub BeginsPiece : library.CellsSoFar → Option entry.Entry → Given → Result ReaderState LibFault → Type 0
+BeginsPiece so_far open_one given result = (rest : List StreamItem) → ReadsOn (library.words_behind (library.with_open so_far open_one) open_one given.line given.word.now rest) result rest
+
+-- it is what is left behind the `;` of a function
+abbrev pub EndsFunction : library.CellsSoFar → GateHeader → entry.FunctionText → Given → Result ReaderState LibFault → Type 0
+EndsFunction so_far header text given result =
+    (rest : List StreamItem)
+    → ReadsOn (library.opened_by so_far (streams.with_rest (entry.left_over given.line given.word.now ++ rest) (entry.entry_begun header.line header.name header.area (entry.with_end text given.line)))) result rest
+
+-- what a pin's fields behind this one make of the entry
+abbrev pub EndsField : library.CellsSoFar → entry.Entry → PinDelay → Field → ReaderState → Type 0
+EndsField so_far e pin field new =
+    (rest : List StreamItem)
+    → resume new rest ≡ reads_on (library.piece_by (library.opened_by (library.with_open so_far (Some e)) (entry.behind_target e pin.pins (fields_behind field) pin.delay rest)))
 
 -- whatever follows the lines
 abbrev pub IsAt : Status → ℕ → List LogicalLine → Type 0

@@ -18,6 +18,7 @@ mod fields;
 mod function;
 mod function_check;
 mod function_text;
+mod given;
 mod laws;
 mod library;
 mod lists;

@@ -1,112 +1,78 @@
 // Reads one word, by what is expected next.
-ghost use Rattle.std.specs.Prelude.{◌≡◌, ◌<◌, ◌∷◌, ◌++◌, MatchResult, Some, None, List};
+ghost use Rattle.std.specs.Prelude.{[], ◌∷◌, Some, List};
 ghost use Rattle.lw_genlib.specs.Cells.{IsWord};
-ghost use Rattle.lw_genlib.specs.Streams.{StreamItem, word_on, with_rest};
-ghost use Rattle.lw_genlib.specs.Entries as words;
-ghost use Rattle.lw_genlib.specs.Libraries as library;
-ghost use Rattle.lw_genlib.specs.Standing.{resume, reads_on, BreaksAt, ReadsOn};
-ghost use Rattle.lw_genlib.specs.Fields.{fields_behind};
+ghost use Rattle.lw_genlib.specs.declared.state_parts.Expect.TheVariants as expects;
+ghost use Rattle.lw_genlib.specs.Standing.{ReadsMore, ReadsWord, BeginsPiece, BeginsEntry, EndsFunction, EndsField, item_of};
 ghost use Rattle.lw_words.specs.Limits.{longest_word};
 
 use crate::cells_so_far::close_entry;
 use crate::entry::{begin_entry, with_delay};
 use crate::fields::{begins_entry, cell_name, delay_behind, number, target};
 use crate::function_text::{around_end, no_text, with_word};
+use crate::given::Given;
 use crate::reader_state::{CellsWithRoom, OpenCells, ReaderState};
 use crate::state_parts::{CellsSoFar, Entry, Expect, FunctionText, GateHeader, GateName, PinDelay};
 use crate::{Field, LibFault, LibKind};
 use lw_fixed::Micro;
 use lw_pool::Name;
-use std::alloc::Global;
 
 /// The most entries of a library.
 const MOST_ENTRIES: u32 = 4096;
 
 /// Reads one more word.
-pub(crate) fn read_word(
-    alloc: Global,
-    state: ReaderState,
-    line: u32,
-    word: &[u8],
-) -> Result<ReaderState, LibFault>
-    requires word { IsWord longest_word word.now }
-    ensures { (rest : List StreamItem) → MatchResult result
-        (λ new. resume state (word_on line word.now ∷ rest) ≡ resume new rest)
-        (BreaksAt (resume state (word_on line word.now ∷ rest))) }
+pub(crate) fn read_word(given: &Given, state: ReaderState) -> Result<ReaderState, LibFault>
+    requires word { IsWord longest_word given.now.word.now }
+    ensures { ReadsMore state (item_of given.now ∷ []) result }
 {
     let ReaderState { so_far, expect } = state;
-    // Brings in what the type of `so_far` keeps.
-    let _ = &so_far.cells;
     match expect {
-        Expect::Piece(entry) => read_piece(alloc, OpenCells { so_far, entry }, line, word),
-        Expect::Latch => if begins_entry(word) {
-            read_entry(so_far, line, word)
-        } else {
-            Ok(ReaderState {
-                so_far,
-                expect: Expect::Latch,
-            })
-        },
-        Expect::Name(gate) => read_name(alloc, CellsWithRoom { so_far }, gate, line, word),
-        Expect::Area(gate) => read_area(alloc, CellsWithRoom { so_far }, gate, line, word),
+        Expect::Piece(entry) => read_piece(given, OpenCells { so_far, entry }),
+        Expect::Latch => read_latch(given, so_far),
+        Expect::Name(gate) => read_name(given, CellsWithRoom { so_far }, gate),
+        Expect::Area(gate) => read_area(given, CellsWithRoom { so_far }, gate),
         Expect::Function(header, text) => {
-            read_function(alloc, CellsWithRoom { so_far }, header, text, line, word)
+            read_function(given, CellsWithRoom { so_far }, header, text)
         }
-        Expect::Pin(entry) => read_pin(CellsWithRoom { so_far }, entry, line, word),
+        Expect::Pin(entry) => read_pin(given, CellsWithRoom { so_far }, entry),
         Expect::Field(entry, pin, field) => {
-            read_field(CellsWithRoom { so_far }, entry, pin, field, line, word)
+            read_field(given, CellsWithRoom { so_far }, entry, pin, field)
         }
     }
 }
 
 // A word that begins a pin or an entry.
-fn read_piece(
-    alloc: Global,
-    read: OpenCells,
-    line: u32,
-    word: &[u8],
-) -> Result<ReaderState, LibFault>
-    ensures { (rest : List StreamItem) → ReadsOn
-        (library.words_behind (library.with_open read.so_far read.entry) read.entry line word.now
-        rest) result rest }
+fn read_piece(given: &Given, read: OpenCells) -> Result<ReaderState, LibFault>
+    ensures { BeginsPiece read.so_far read.entry given.now result }
 {
     let OpenCells { so_far, entry } = read;
     // Brings in what the type of `so_far` keeps.
     let _ = &so_far.cells;
     match entry {
-        Some(entry) => read_behind(alloc, CellsWithRoom { so_far }, entry, line, word),
-        None => read_entry(so_far, line, word),
+        Some(entry) => read_behind(given, CellsWithRoom { so_far }, entry),
+        None => read_entry(given, so_far),
     }
 }
 
 // A word that begins a pin of this entry, or another entry.
-fn read_behind(
-    alloc: Global,
-    before: CellsWithRoom,
-    entry: Entry,
-    line: u32,
-    word: &[u8],
-) -> Result<ReaderState, LibFault>
-    ensures { (rest : List StreamItem) → ReadsOn
-        (library.words_behind (library.with_open before.so_far (Some entry)) (Some entry) line
-        word.now rest) result rest }
+fn read_behind(given: &Given, before: CellsWithRoom, entry: Entry) -> Result<ReaderState, LibFault>
+    ensures { BeginsPiece before.so_far (Some entry) given.now result }
 {
-    if word == b"PIN".as_slice() {
+    if given.word == b"PIN".as_slice() {
         let CellsWithRoom { so_far } = before;
         return Ok(ReaderState {
             so_far,
             expect: Expect::Pin(entry),
         });
     }
-    let so_far = close_entry(alloc, before, entry)?;
-    read_entry(so_far, line, word)
+    let so_far = close_entry(given.alloc, before, entry)?;
+    read_entry(given, so_far)
 }
 
 // A word that begins an entry.
-fn read_entry(so_far: CellsSoFar, line: u32, word: &[u8]) -> Result<ReaderState, LibFault>
-    ensures { (rest : List StreamItem) → ReadsOn
-        (library.entry_on line word.now rest so_far) result rest }
+fn read_entry(given: &Given, so_far: CellsSoFar) -> Result<ReaderState, LibFault>
+    ensures { BeginsEntry so_far given.now result }
 {
+    let Given { line, word, .. } = *given;
     if word == b"LATCH".as_slice() {
         return Ok(ReaderState {
             so_far,
@@ -125,21 +91,30 @@ fn read_entry(so_far: CellsSoFar, line: u32, word: &[u8]) -> Result<ReaderState,
     })
 }
 
-fn read_name(
-    alloc: Global,
-    before: CellsWithRoom,
-    gate: u32,
-    line: u32,
-    word: &[u8],
-) -> Result<ReaderState, LibFault>
-    requires { IsWord longest_word word.now }
-    ensures { (rest : List StreamItem) → ReadsOn
-        (library.gate_on before.so_far gate (word_on line word.now ∷ rest)) result rest }
+// A word of a latch, or one that begins an entry.
+fn read_latch(given: &Given, so_far: CellsSoFar) -> Result<ReaderState, LibFault>
+    ensures { ReadsWord so_far expects.Latch given.now result }
 {
-    let Some(name) = cell_name(word) else {
-        return Err(LibFault::Line(line, LibKind::Expected));
+    // Brings in what the type of `so_far` keeps.
+    let _ = &so_far.cells;
+    if begins_entry(given.word) {
+        return read_entry(given, so_far);
+    }
+    Ok(ReaderState {
+        so_far,
+        expect: Expect::Latch,
+    })
+}
+
+// The name of a cell, behind the word `GATE` on this line.
+fn read_name(given: &Given, before: CellsWithRoom, gate: u32) -> Result<ReaderState, LibFault>
+    requires { IsWord longest_word given.now.word.now }
+    ensures { ReadsWord before.so_far (expects.Name gate) given.now result }
+{
+    let Some(name) = cell_name(given.word) else {
+        return Err(LibFault::Line(given.line, LibKind::Expected));
     };
-    let name = Name::from_slice(alloc, name)?;
+    let name = Name::from_slice(given.alloc, name)?;
     let CellsWithRoom { so_far } = before;
     Ok(ReaderState {
         so_far,
@@ -147,101 +122,74 @@ fn read_name(
     })
 }
 
-fn read_area(
-    alloc: Global,
-    before: CellsWithRoom,
-    gate: GateName,
-    line: u32,
-    word: &[u8],
-) -> Result<ReaderState, LibFault>
-    ensures { (rest : List StreamItem) → ReadsOn
-        (library.opened_by before.so_far (words.behind_name gate.line gate.name (word_on line
-        word.now ∷ rest))) result rest }
+// The area of a cell.
+fn read_area(given: &Given, before: CellsWithRoom, gate: GateName) -> Result<ReaderState, LibFault>
+    ensures { ReadsWord before.so_far (expects.Area gate) given.now result }
 {
-    let area = number(line, word)?;
-    let GateName { line: gate, name } = gate;
-    let header = GateHeader {
-        line: gate,
-        name,
-        area,
-    };
+    let area = number(given.line, given.word)?;
+    let GateName { line, name } = gate;
+    let header = GateHeader { line, name, area };
     let CellsWithRoom { so_far } = before;
     Ok(ReaderState {
         so_far,
-        expect: Expect::Function(header, no_text(alloc)),
+        expect: Expect::Function(header, no_text(given.alloc)),
     })
 }
 
 // A word of a function, and what is behind its `;`.
 fn read_function(
-    alloc: Global,
+    given: &Given,
     before: CellsWithRoom,
     header: GateHeader,
     text: FunctionText,
-    line: u32,
-    word: &[u8],
 ) -> Result<ReaderState, LibFault>
-    requires { IsWord longest_word word.now }
-    ensures { (rest : List StreamItem) → ReadsOn
-        (library.opened_by before.so_far (words.behind_words header.line header.name header.area
-        text (word_on line word.now ∷ rest))) result rest }
+    requires { IsWord longest_word given.now.word.now }
+    ensures { ReadsWord before.so_far (expects.Function header text) given.now result }
 {
+    let Given { alloc, line, word } = *given;
     let (part, behind) = around_end(word);
     if part.len() >= text.room {
         return Err(LibFault::Line(line, LibKind::LimitText));
     }
     let text = with_word(alloc, text, line, part)?;
-    let Some(rest) = behind else {
-        let CellsWithRoom { so_far } = before;
-        return Ok(ReaderState {
-            so_far,
-            expect: Expect::Function(header, text),
-        });
-    };
-    end_function(alloc, before, header, text, line, rest)
+    if let Some(word) = behind {
+        return end_function(&Given { alloc, line, word }, before, header, text);
+    }
+    let CellsWithRoom { so_far } = before;
+    Ok(ReaderState {
+        so_far,
+        expect: Expect::Function(header, text),
+    })
 }
 
 // The function's `;`, and what is left of its word.
 fn end_function(
-    alloc: Global,
+    given: &Given,
     before: CellsWithRoom,
     header: GateHeader,
     text: FunctionText,
-    line: u32,
-    left: &[u8],
 ) -> Result<ReaderState, LibFault>
-    ensures { (rest : List StreamItem) → ReadsOn
-        (library.opened_by before.so_far (with_rest (words.left_over line left.now ++ rest)
-        (words.entry_begun header.line header.name header.area (words.with_end text line))))
-        result rest }
+    ensures { EndsFunction before.so_far header text given.now result }
 {
-    let entry = begin_entry(alloc, header, text, line)?;
-    if left.is_empty() {
+    let entry = begin_entry(given.alloc, header, text, given.line)?;
+    if given.word.is_empty() {
         let CellsWithRoom { so_far } = before;
         return Ok(ReaderState {
             so_far,
             expect: Expect::Piece(Some(entry)),
         });
     }
-    read_behind(alloc, before, entry, line, left)
+    read_behind(given, before, entry)
 }
 
-fn read_pin(
-    before: CellsWithRoom,
-    entry: Entry,
-    line: u32,
-    word: &[u8],
-) -> Result<ReaderState, LibFault>
-    ensures { (rest : List StreamItem) → ReadsOn
-        (library.pin_on (library.with_open before.so_far (Some entry)) entry (word_on line word.now
-        ∷ rest)) result rest }
+// The name of a pin, or `*`.
+fn read_pin(given: &Given, before: CellsWithRoom, entry: Entry) -> Result<ReaderState, LibFault>
+    ensures { ReadsWord before.so_far (expects.Pin entry) given.now result }
 {
-    let pins = target(entry.pins(), line, word)?;
+    let pins = target(entry.pins(), given.line, given.word)?;
     let CellsWithRoom { so_far } = before;
-    let pin = PinDelay {
-        pins,
-        delay: Micro(0),
-    };
+    let delay = Micro(0);
+    let pin = PinDelay { pins, delay };
     Ok(ReaderState {
         so_far,
         expect: Expect::Field(entry, pin, Field::Phase),
@@ -250,21 +198,17 @@ fn read_pin(
 
 // A word behind a pin's name.
 fn read_field(
+    given: &Given,
     before: CellsWithRoom,
     entry: Entry,
     pin: PinDelay,
     field: Field,
-    line: u32,
-    word: &[u8],
 ) -> Result<ReaderState, LibFault>
-    ensures { (rest : List StreamItem) → ReadsOn
-        (library.opened_by (library.with_open before.so_far (Some entry)) (words.behind_target
-        entry pin.pins (field ∷ fields_behind field) pin.delay (word_on line word.now ∷ rest)))
-        result rest }
+    ensures { ReadsWord before.so_far (expects.Field entry pin field) given.now result }
 {
     let PinDelay { pins, delay } = pin;
-    match delay_behind(field, delay, line, word) {
-        Ok(more) => Ok(behind_field(before, entry, PinDelay { pins, delay: more }, field)),
+    match delay_behind(field, delay, given.line, given.word) {
+        Ok(delay) => Ok(behind_field(before, entry, PinDelay { pins, delay }, field)),
         Err(fault) => {
             drop(entry);
             drop(before);
@@ -275,9 +219,7 @@ fn read_field(
 
 // What is read behind a word of a pin.
 fn behind_field(before: CellsWithRoom, entry: Entry, pin: PinDelay, field: Field) -> ReaderState
-    ensures { (rest : List StreamItem) → resume result rest ≡ reads_on (library.piece_by
-        (library.opened_by (library.with_open before.so_far (Some entry))
-        (words.behind_target entry pin.pins (fields_behind field) pin.delay rest))) }
+    ensures { EndsField before.so_far entry pin field result }
 {
     let CellsWithRoom { so_far } = before;
     let expect = match field.next() {

@@ -5,10 +5,11 @@ ghost use Rattle.lw_genlib.specs.Cells.{IsWord};
 ghost use Rattle.lw_genlib.specs.Streams.{StreamItem, word_on, text_end, items_on};
 ghost use Rattle.lw_genlib.specs.Libraries.{library_by};
 ghost use Rattle.lw_genlib.specs.Tells.{TellsErr};
-ghost use Rattle.lw_genlib.specs.Standing.{resume, BreaksAt, HasNoHash};
+ghost use Rattle.lw_genlib.specs.Standing.{resume, ReadsMore, HasNoHash};
 ghost use Rattle.lw_words.specs.Limits.{longest_word};
 
 use crate::cells_so_far::{end_entry, no_cells};
+use crate::given::Given;
 use crate::read_word::read_word;
 use crate::reader_state::{OpenCells, ReaderState};
 use crate::state_parts::{CellsSoFar, Expect};
@@ -118,9 +119,7 @@ fn put(status: &mut Status, next: Status)
 // Reads the words of a line.
 fn read_line(alloc: Global, state: ReaderState, line: &Line) -> Result<ReaderState, LibFault>
     requires { HasNoHash line.now }
-    ensures { (rest : List StreamItem) → MatchResult result
-        (λ new. resume state (items_on line.now ++ rest) ≡ resume new rest)
-        (BreaksAt (resume state (items_on line.now ++ rest))) }
+    ensures { ReadsMore state (items_on line.now) result }
 {
     if line.long {
         drop(state);
@@ -129,6 +128,7 @@ fn read_line(alloc: Global, state: ReaderState, line: &Line) -> Result<ReaderSta
     read_words(alloc, state, line.number, &line.words)
 }
 
+// Reads these words of a line.
 fn read_words(
     alloc: Global,
     begun: ReaderState,
@@ -136,13 +136,12 @@ fn read_words(
     words: &Words,
 ) -> Result<ReaderState, LibFault>
     requires { All (IsWord longest_word) words.now }
-    ensures { (rest : List StreamItem) → MatchResult result
-        (λ new. resume begun (map (word_on line) words.now ++ rest) ≡ resume new rest)
-        (BreaksAt (resume begun (map (word_on line) words.now ++ rest))) }
+    ensures { ReadsMore begun (map (word_on line) words.now) result }
 {
     let mut state = begun;
     for place in 0..words.len() {
-        match read_word(alloc, state, line, words.get(place)) {
+        let word = words.get(place);
+        match read_word(&Given { alloc, line, word }, state) {
             Ok(more) => state = more,
             Err(fault) => return Err(fault),
         }

@@ -9,6 +9,6 @@ use Rattle.lw_genlib.proofs.read_word.read_name.Goals as goal
 pub returns : goal.returns
 unfolding resume
 returns c = λ rest.
-    same-piece (library.gate_on c.args.before.so_far c.args.gate (word_on c.args.line c.args.word.now ∷ rest)) (library.opened_by c.args.before.so_far (words.behind_name c.args.gate c.in_ok-name.name rest))
-    (name-read c.args.before.so_far c.args.gate c.args.line c.args.word.now c.in-Some.name.now rest c.in-Some.ensures.some
+    same-piece (library.gate_on c.args.before.so_far c.args.gate (word_on c.args.given.now.line c.args.given.now.word.now ∷ rest)) (library.opened_by c.args.before.so_far (words.behind_name c.args.gate c.in_ok-name.name rest))
+    (name-read c.args.before.so_far c.args.gate c.args.given.now.line c.args.given.now.word.now c.in-Some.name.now rest c.in-Some.ensures.some
     ∙ ap (λ (n : List ℕ). library.opened_by c.args.before.so_far (words.behind_name c.args.gate n rest)) (sym c.in_ok-name.ensures))
