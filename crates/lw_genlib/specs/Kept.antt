@@ -6,7 +6,8 @@ use Rattle.lw_fixed.specs.declared.micro.Micro.{Micro}
 use Rattle.lw_laws.specs.Expressions.{Expr}
 use Rattle.lw_genlib.specs.declared.token.Token.{Token}
 use Rattle.lw_genlib.specs.declared.token.Token.TheVariants.{Name, Punct}
-use Rattle.lw_genlib.specs.Cells.{CellParts, IsWord, IsPinName, IsSmall, IsForm, IsLibrary, form_count, is_punct_byte, longest_function}
+use Rattle.lw_genlib.specs.Cells.{CellParts, IsWord, IsPart, IsPinName, IsSmall, IsForm, IsLibrary, form_count, is_punct_byte, longest_function}
+use Rattle.lw_genlib.specs.Entries.{FunctionText, is_end}
 use Rattle.lw_genlib.specs.Grammar.{is_punct, go_on, names_in}
 use Rattle.lw_genlib.specs.Functions.{pins_in}
 use Rattle.lw_genlib.specs.Spelled.{expression_of}
@@ -30,6 +31,12 @@ pub record IsOpenText (tokens : List Token) (lines : List ℕ) (room : ℕ) : Ty
   pub few : length tokens + room ≤ 2049
   pub no_end : list_any (is_punct 59) tokens ≡ false
   pub runs : AreRuns tokens
+
+-- the bytes are a word, or the part of one before its `;`, for which the text has room
+pub record MayJoin (text : FunctionText) (bytes : List ℕ) : Type 0 where
+  pub part : IsPart bytes
+  pub no_end : list_any is_end bytes ≡ false
+  pub room : 1 + length bytes ≤ text.room
 
 -- what the tokens of a whole function say
 pub record IsFunction (tokens : List Token) (output : List ℕ) (pins : List (List ℕ)) (form : Expr) : Type 0 where

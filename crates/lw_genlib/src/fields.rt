@@ -9,6 +9,7 @@ ghost use Rattle.lw_genlib.specs.Streams.{on_line};
 ghost use Rattle.lw_genlib.specs.declared.fault.LibKind.TheVariants.{Expected};
 ghost use Rattle.lw_words.specs.Limits.{longest_word};
 
+use crate::given::Given;
 use crate::{Field, LibFault, LibKind, Target};
 use lw_fixed::Micro;
 use lw_pool::Name;
@@ -30,12 +31,12 @@ pub(crate) fn cell_name(word: &[u8]) -> Option<&[u8]>
 }
 
 /// A number below a million.
-pub(crate) fn number(line: u32, word: &[u8]) -> Result<Micro, LibFault>
-    ensures { result ≡ on_line line (words.number_of word.now) }
+pub(crate) fn number(given: &Given) -> Result<Micro, LibFault>
+    ensures { result ≡ on_line given.now.line (words.number_of given.now.word.now) }
 {
-    match lw_fixed::read(word, UNITS) {
+    match lw_fixed::read(given.word, UNITS) {
         Ok(number) => Ok(number),
-        Err(fault) => Err(LibFault::Line(line, LibKind::Decimal(fault))),
+        Err(fault) => Err(LibFault::Line(given.line, LibKind::Decimal(fault))),
     }
 }
 
@@ -62,15 +63,15 @@ pub(crate) fn begins_entry(word: &[u8]) -> bool
 }
 
 /// The pins that a word names.
-pub(crate) fn target(pins: &[Name], line: u32, word: &[u8]) -> Result<Target, LibFault>
-    ensures { result ≡ on_line line (words.target_of pins.now word.now) }
+pub(crate) fn target(given: &Given, pins: &[Name]) -> Result<Target, LibFault>
+    ensures { result ≡ on_line given.now.line (words.target_of pins.now given.now.word.now) }
 {
-    if word == b"*".as_slice() {
+    if given.word == b"*".as_slice() {
         return Ok(Target::Every);
     }
-    match place_among(pins, word) {
+    match place_among(pins, given.word) {
         Some(place) => Ok(Target::One(place)),
-        None => Err(LibFault::Line(line, LibKind::PinUnknown)),
+        None => Err(LibFault::Line(given.line, LibKind::PinUnknown)),
     }
 }
 
@@ -81,36 +82,33 @@ fn place_among(names: &[Name], word: &[u8]) -> Option<usize>
 }
 
 // The larger of a delay and a block delay.
-fn larger(delay: Micro, line: u32, word: &[u8]) -> Result<Micro, LibFault>
-    ensures { result ≡ on_line line (words.larger delay (words.number_of word.now)) }
+fn larger(given: &Given, delay: Micro) -> Result<Micro, LibFault>
+    ensures { result
+        ≡ on_line given.now.line (words.larger delay (words.number_of given.now.word.now)) }
 {
-    match number(line, word) {
+    match number(given) {
         Ok(block) => Ok(Micro(delay.0.max(block.0))),
         Err(fault) => Err(fault),
     }
 }
 
 /// The larger of a delay and what a word behind a pin's name says.
-pub(crate) fn delay_behind(
-    field: Field,
-    delay: Micro,
-    line: u32,
-    word: &[u8],
-) -> Result<Micro, LibFault>
-    ensures { result ≡ on_line line (words.delay_behind field delay word.now) }
+pub(crate) fn delay_behind(given: &Given, field: Field, delay: Micro) -> Result<Micro, LibFault>
+    ensures { result
+        ≡ on_line given.now.line (words.delay_behind field delay given.now.word.now) }
 {
     match field {
-        Field::Phase => if is_phase(word) {
+        Field::Phase => if is_phase(given.word) {
             Ok(delay)
         } else {
-            Err(LibFault::Line(line, LibKind::PhaseWord))
+            Err(LibFault::Line(given.line, LibKind::PhaseWord))
         },
-        Field::Rise => larger(delay, line, word),
-        Field::Fall => larger(delay, line, word),
-        _ => if is_like_number(word) {
+        Field::Rise => larger(given, delay),
+        Field::Fall => larger(given, delay),
+        _ => if is_like_number(given.word) {
             Ok(delay)
         } else {
-            Err(LibFault::Line(line, LibKind::Expected))
+            Err(LibFault::Line(given.line, LibKind::Expected))
         },
     }
 }

@@ -3,9 +3,10 @@ ghost use Rattle.std.specs.Prelude.{◌≡◌, ◌+◌, ◌≤◌, ◌++◌, IfO
 ghost use Rattle.std.specs.List.{list_any, before_first, after_first, position};
 ghost use Rattle.lw_genlib.specs.Cells.{IsPart};
 ghost use Rattle.lw_genlib.specs.Entries as words;
-ghost use Rattle.lw_genlib.specs.Kept.{IsOpenText};
+ghost use Rattle.lw_genlib.specs.Kept.{IsOpenText, MayJoin};
 
 use crate::Token;
+use crate::given::Given;
 use crate::state_parts::FunctionText;
 use crate::tokenize::push_tokens;
 use std::alloc::{AllocError, Global};
@@ -22,29 +23,23 @@ pub(crate) fn no_text(alloc: Global) -> FunctionText
 }
 
 /// The text with one more word, or a part of one.
-pub(crate) fn with_word(
-    alloc: Global,
-    text: FunctionText,
-    line: u32,
-    bytes: &[u8],
-) -> Result<FunctionText, AllocError>
-    requires part { IsPart bytes.now }
-    requires no_end { list_any words.is_end bytes.now ≡ false }
-    requires room { 1 + length bytes.now ≤ text.room }
-    ensures { IfOk result (λ new. new ≡ words.with_word text line bytes.now) }
+pub(crate) fn with_word(given: &Given, text: FunctionText) -> Result<FunctionText, AllocError>
+    requires { MayJoin text given.now.word.now }
+    ensures { IfOk result
+        (λ new. new ≡ words.with_word text given.now.line given.now.word.now) }
 {
     let FunctionText {
         mut tokens,
         mut lines,
         room,
     } = text;
-    push_tokens(alloc, bytes, &mut tokens)?;
+    push_tokens(given, &mut tokens)?;
     let more = tokens.len() - lines.len();
-    push_often(&mut lines, line, more)?;
+    push_often(&mut lines, given.line, more)?;
     Ok(FunctionText {
         tokens,
         lines,
-        room: room - bytes.len() - 1,
+        room: room - given.word.len() - 1,
     })
 }
 

@@ -126,7 +126,7 @@ fn read_name(given: &Given, before: CellsWithRoom, gate: u32) -> Result<ReaderSt
 fn read_area(given: &Given, before: CellsWithRoom, gate: GateName) -> Result<ReaderState, LibFault>
     ensures { ReadsWord before.so_far (expects.Area gate) given.now result }
 {
-    let area = number(given.line, given.word)?;
+    let area = number(given)?;
     let GateName { line, name } = gate;
     let header = GateHeader { line, name, area };
     let CellsWithRoom { so_far } = before;
@@ -147,11 +147,11 @@ fn read_function(
     ensures { ReadsWord before.so_far (expects.Function header text) given.now result }
 {
     let Given { alloc, line, word } = *given;
-    let (part, behind) = around_end(word);
-    if part.len() >= text.room {
+    let (word, behind) = around_end(word);
+    if word.len() >= text.room {
         return Err(LibFault::Line(line, LibKind::LimitText));
     }
-    let text = with_word(alloc, text, line, part)?;
+    let text = with_word(&Given { alloc, line, word }, text)?;
     if let Some(word) = behind {
         return end_function(&Given { alloc, line, word }, before, header, text);
     }
@@ -186,7 +186,7 @@ fn end_function(
 fn read_pin(given: &Given, before: CellsWithRoom, entry: Entry) -> Result<ReaderState, LibFault>
     ensures { ReadsWord before.so_far (expects.Pin entry) given.now result }
 {
-    let pins = target(entry.pins(), given.line, given.word)?;
+    let pins = target(given, entry.pins())?;
     let CellsWithRoom { so_far } = before;
     let delay = Micro(0);
     let pin = PinDelay { pins, delay };
@@ -207,7 +207,7 @@ fn read_field(
     ensures { ReadsWord before.so_far (expects.Field entry pin field) given.now result }
 {
     let PinDelay { pins, delay } = pin;
-    match delay_behind(field, delay, given.line, given.word) {
+    match delay_behind(given, field, delay) {
         Ok(delay) => Ok(behind_field(before, entry, PinDelay { pins, delay }, field)),
         Err(fault) => {
             drop(entry);

@@ -5,18 +5,15 @@ ghost use Rattle.lw_genlib.specs.Cells.{is_punct_byte};
 ghost use Rattle.lw_genlib.specs.Functions.{tokens_in};
 
 use crate::Token;
+use crate::given::Given;
 use lw_pool::Name;
-use std::alloc::{AllocError, Global};
+use std::alloc::AllocError;
 
 /// Appends the tokens of a word.
-pub(crate) fn push_tokens(
-    alloc: Global,
-    word: &[u8],
-    tokens: &mut Vec<Token>,
-) -> Result<(), AllocError>
-    ensures { OnOk result (tokens.new.items ≡ tokens.old.items ++ tokens_in word.now) }
+pub(crate) fn push_tokens(given: &Given, tokens: &mut Vec<Token>) -> Result<(), AllocError>
+    ensures { OnOk result (tokens.new.items ≡ tokens.old.items ++ tokens_in given.now.word.now) }
 {
-    let mut rest = word;
+    let mut rest = given.word;
     while let Some(byte) = rest.first() {
         let byte = *byte;
         if is_punct_byte(byte) {
@@ -24,7 +21,7 @@ pub(crate) fn push_tokens(
             rest = &rest[1..];
         } else {
             let (name, behind) = rest.split_at(name_len(rest));
-            tokens.push(Token::Name(Name::from_slice(alloc, name)?))?;
+            tokens.push(Token::Name(Name::from_slice(given.alloc, name)?))?;
             rest = behind;
         }
     }

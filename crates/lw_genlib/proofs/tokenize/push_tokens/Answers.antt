@@ -18,5 +18,5 @@ loop-byte-preserved c =
     sym (c.in_ok-from_slice.ensures ∙ (c.split_at.ensures.front ∙ ap (λ n. take n c.loop-byte.rest.now) c.name_len.ensures)) in
     let behind : drop (prefix_len is_name_byte c.loop-byte.rest.now) c.loop-byte.rest.now ≡ c.split_at.result.1.now =
     sym (c.split_at.ensures.back ∙ ap (λ n. drop n c.loop-byte.rest.now) c.name_len.ensures) in
-    goes_on_by c.args.word.now c.loop-byte.rest.now c.split_at.result.1.now c.args.tokens.now.items c.loop-byte.tokens.items _ (Name c.in_ok-from_slice.field-0) c.loop-byte.invariant
+    goes_on_by c.args.given.now.word.now c.loop-byte.rest.now c.split_at.result.1.now c.args.tokens.now.items c.loop-byte.tokens.items _ (Name c.in_ok-from_slice.field-0) c.loop-byte.invariant
     (name_first c.loop-byte.rest.now some ∙ ap₂ (λ n b. Name n ∷ tokens_in b) name behind) c.in_ok-push-2.ensures.items
