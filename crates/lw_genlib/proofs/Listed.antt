@@ -14,7 +14,7 @@ use Rattle.lw_genlib.specs.Cells.{CellParts, IsForm, IsSmall, IsListed, HaveOneT
 use Rattle.lw_genlib.specs.Spelled.{expression_of}
 use Rattle.lw_genlib.specs.Entries.{Entry, pins_of}
 use Rattle.lw_genlib.specs.Kept.{IsFunction, IsEntry, IsSmallDelay}
-use Rattle.lw_genlib.specs.Merging.{name_first, output_of, own_or, delay_by, delays_of, form_over, cell_of, lacks_delay, is_missing, merged, merged_at, place_of}
+use Rattle.lw_genlib.specs.Merging.{name_first, output_of, own_or, delay_by, delays_of, form_over, cell_of, lacks_delay, delays_or_fault, is_missing, merged, merged_at, place_of}
 use Rattle.lw_genlib.specs.Libraries.{CellsSoFar, with_open, with_cells, entry_ended}
 use Rattle.lw_genlib.specs.Tells.{TellsErr}
 use Rattle.lw_genlib.proofs.Agreeing.{inner-is}
@@ -134,6 +134,22 @@ of-some o x P Q is h = subst (λ p. MatchOption p P Q) is h
 
 pub of-none : {A : Type 0} (o : Option A) (P : Type 0) (Q : A → Type 0) → o ≡ None → MatchOption o P Q → P
 of-none o P Q is h = subst (λ p. MatchOption p P Q) is h
+
+-- the delays of an entry that lacks none
+pub delays-said : (entry : Entry) (delays : List Micro) → delays_or_fault entry ≡ Ok delays → (lacks_delay entry ≡ false) × (delays ≡ delays_of entry)
+delays-said entry delays said = at (lacks_delay entry) refl said
+  where
+    at : (b : Bool) → lacks_delay entry ≡ b → cond b (Err (Line entry.line PinMissing)) (Ok (delays_of entry)) ≡ Ok delays → (lacks_delay entry ≡ false) × (delays ≡ delays_of entry)
+    at true lacks h = cc
+    at false has h = (has, cc)
+
+pub delays-fault : (cells : List CellParts) (entry : Entry) (fault : LibFault) → TellsErr (delays_or_fault entry) fault → TellsErr (merged cells entry) fault
+delays-fault cells entry (Line line kind) said = at (lacks_delay entry) refl said
+  where
+    at : (b : Bool) → lacks_delay entry ≡ b → cond b (Err (Line entry.line PinMissing)) (Ok (delays_of entry)) ≡ Err (Line line kind) → merged cells entry ≡ Err (Line line kind)
+    at true lacks h = let same : Line entry.line PinMissing ≡ Line line kind = cc in missing cells entry lacks ∙ ap (λ (f : LibFault). Err f) same
+    at false has h = cc
+delays-fault cells entry Memory said = tt
 
 -- The cells so far where an entry is at its end.
 

@@ -1,5 +1,5 @@
 -- Cells of entries: an entry makes a cell, or gives one more form to the cell of its name.
-use Rattle.std.specs.Prelude.{ℕ, ◌^◌, Bool, true, false, not, ◌&&◌, ◌==◌, List, [], ◌∷◌, ◌++◌, length, map, Option, Some, None, Result, Ok, Err, unwrap_or, slice_index_or, if◌then◌else◌}
+use Rattle.std.specs.Prelude.{ℕ, ◌≡◌, MatchOption, ◌^◌, Bool, true, false, not, ◌&&◌, ◌==◌, List, [], ◌∷◌, ◌++◌, length, map, Option, Some, None, Result, Ok, Err, unwrap_or, slice_index_or, if◌then◌else◌}
 use Rattle.std.specs.List.{list_any, list_all, position, slice_set, zip, range_with_len}
 use Rattle.std.specs.Str.{bytes_eq}
 use Rattle.lw_fixed.specs.declared.micro.Micro.{Micro}
@@ -42,6 +42,16 @@ delay_by every own = unwrap_or (own_or every own) no_delay
 
 abbrev pub delays_of : Entry → List Micro
 delays_of entry = map (delay_by entry.every) entry.named
+
+-- these are the delays of the pins, or there are none where one pin lacks its delay
+abbrev pub AreDelaysBy : Option Micro → List (Option Micro) → Option (List Micro) → Type 0
+AreDelaysBy every named all =
+    MatchOption all (list_any (λ own. is_missing (own_or every own)) named ≡ true)
+    (λ (delays : List Micro). (list_any (λ own. is_missing (own_or every own)) named ≡ false) × (delays ≡ map (delay_by every) named))
+
+-- the delay of each pin, or the fault that one lacks its delay
+abbrev pub delays_or_fault : Entry → Result (List Micro) LibFault
+delays_or_fault entry = if lacks_delay entry then Err (Line entry.line PinMissing) else Ok (delays_of entry)
 
 -- the entry's expression over these pins
 abbrev pub form_over : List (List ℕ) → Entry → Expr

@@ -1,5 +1,5 @@
 -- A fault tells what a definition says, or that memory is wanting.
-use Rattle.std.specs.Prelude.{◌≡◌, Option, Some, Result, Err}
+use Rattle.std.specs.Prelude.{◌≡◌, Option, Some, Result, Ok, Err, MatchResult}
 use Rattle.lw_genlib.specs.declared.fault.LibFault.{LibFault}
 use Rattle.lw_genlib.specs.declared.fault.LibFault.TheVariants.{Line, Memory}
 
@@ -10,3 +10,7 @@ TellsFault said Memory = Unit {0}
 abbrev pub TellsErr : {A : Type 0} → Result A LibFault → LibFault → Type 0
 TellsErr said (Line line kind) = said ≡ Err (Line line kind)
 TellsErr said Memory = Unit {0}
+
+-- The result is the one that is said. Want of memory is free.
+abbrev pub Gives : {A : Type 0} → Result A LibFault → Result A LibFault → Type 0
+Gives said result = MatchResult result (λ x. said ≡ Ok x) (TellsErr said)

@@ -5,9 +5,9 @@ ghost use Rattle.std.specs.Str.{bytes_eq};
 ghost use Rattle.lw_genlib.specs.Cells.{CellParts, IsCell, IsListed, form_count};
 ghost use Rattle.lw_genlib.specs.Merging as merging;
 ghost use Rattle.lw_genlib.specs.Libraries as library;
-ghost use Rattle.lw_genlib.specs.Tells.{TellsErr};
+ghost use Rattle.lw_genlib.specs.Tells.{Gives, TellsErr};
 
-use crate::entry::delays;
+use crate::entry::delays_of;
 use crate::merge_entry::{merge, place_of};
 use crate::reader_state::{CellsWithRoom, OpenCells};
 use crate::state_parts::{CellsSoFar, Entry};
@@ -27,9 +27,7 @@ pub(crate) fn no_cells(alloc: Global) -> CellsSoFar
 
 /// The cells so far with the entry, if there is one, at its end.
 pub(crate) fn end_entry(alloc: Global, read: OpenCells) -> Result<CellsSoFar, LibFault>
-    ensures { MatchResult result
-        (λ new. library.entry_ended (library.with_open read.so_far read.entry) ≡ Ok new)
-        (TellsErr (library.entry_ended (library.with_open read.so_far read.entry))) }
+    ensures { Gives (library.entry_ended (library.with_open read.so_far read.entry)) result }
 {
     let OpenCells { so_far, entry } = read;
     // Brings in what the type of `so_far` keeps.
@@ -46,22 +44,14 @@ pub(crate) fn close_entry(
     before: CellsWithRoom,
     entry: Entry,
 ) -> Result<CellsSoFar, LibFault>
-    ensures { MatchResult result
-        (λ new. library.entry_ended (library.with_open before.so_far (Some entry)) ≡ Ok new)
-        (TellsErr (library.entry_ended (library.with_open before.so_far (Some entry)))) }
+    ensures { Gives (library.entry_ended (library.with_open before.so_far (Some entry))) result }
 {
-    let Ok(found) = delays(alloc, &entry.named, entry.every) else {
-        drop(entry);
-        drop(before);
-        return Err(LibFault::Memory);
-    };
-    match found {
-        Some(delays) => add_cell_or_form(alloc, before, entry, delays),
-        None => {
-            let line = entry.line;
+    match delays_of(alloc, &entry) {
+        Ok(delays) => add_cell_or_form(alloc, before, entry, delays),
+        Err(fault) => {
             drop(entry);
             drop(before);
-            Err(LibFault::Line(line, LibKind::PinMissing))
+            Err(fault)
         }
     }
 }

@@ -3,12 +3,12 @@ ghost use Rattle.std.specs.Prelude.{◌≡◌, ◌<◌, MatchResult, MatchOption
 ghost use Rattle.std.specs.List.{list_any};
 ghost use Rattle.lw_genlib.specs.Entries as words;
 ghost use Rattle.lw_genlib.specs.Merging as merging;
-ghost use Rattle.lw_genlib.specs.Tells.{TellsErr};
+ghost use Rattle.lw_genlib.specs.Tells.{Gives};
 
 use crate::function::function_of;
 use crate::function_text::with_end;
 use crate::state_parts::{Entry, FunctionText, GateHeader, PinDelay};
-use crate::{LibFault, Target};
+use crate::{LibFault, LibKind, Target};
 use lw_fixed::{Micro, Micros};
 use lw_pool::Name;
 use std::alloc::{AllocError, Global};
@@ -20,10 +20,8 @@ pub(crate) fn begin_entry(
     text: FunctionText,
     line: u32,
 ) -> Result<Entry, LibFault>
-    ensures { MatchResult result (λ e. words.entry_begun header.line header.name header.area
-        (words.with_end text line) ≡ Ok e)
-        (TellsErr (words.entry_begun header.line header.name header.area
-        (words.with_end text line))) }
+    ensures { Gives
+        (words.entry_begun header.line header.name header.area (words.with_end text line)) result }
 {
     let (tokens, lines) = with_end(text, line)?;
     let function = function_of(alloc, &tokens, &lines)?;
@@ -88,16 +86,24 @@ impl Entry {
     }
 }
 
-/// The delay of each pin, or none where one lacks its delay.
-pub(crate) fn delays(
+/// The delay of each pin of the entry, or the fault that one lacks its delay.
+pub(crate) fn delays_of(alloc: Global, entry: &Entry) -> Result<Micros, LibFault>
+    ensures { Gives (merging.delays_or_fault entry.now) result }
+{
+    let found = delays(alloc, &entry.named, entry.every)?;
+    match found {
+        Some(delays) => Ok(delays),
+        None => Err(LibFault::Line(entry.line, LibKind::PinMissing)),
+    }
+}
+
+// The delay of each pin, or none where one lacks its delay.
+fn delays(
     alloc: Global,
     named: &[Option<Micro>],
     every: Option<Micro>,
 ) -> Result<Option<Micros>, AllocError>
-    ensures { IfOk result (λ all. MatchOption all
-        (list_any (λ own. merging.is_missing (merging.own_or every own)) named.now ≡ true)
-        (λ delays. (list_any (λ own. merging.is_missing (merging.own_or every own)) named.now
-        ≡ false) × (delays ≡ map (merging.delay_by every) named.now))) }
+    ensures { IfOk result (λ all. merging.AreDelaysBy every named.now all) }
 {
     let mut delays = Vec::new(alloc);
     for own in named {

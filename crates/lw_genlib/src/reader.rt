@@ -4,7 +4,7 @@ ghost use Rattle.lw_genlib.specs.declared.fault.LibFault.TheVariants.{Memory};
 ghost use Rattle.lw_genlib.specs.Cells.{IsWord};
 ghost use Rattle.lw_genlib.specs.Streams.{StreamItem, word_on, text_end, items_on};
 ghost use Rattle.lw_genlib.specs.Libraries.{library_by};
-ghost use Rattle.lw_genlib.specs.Tells.{TellsErr};
+ghost use Rattle.lw_genlib.specs.Tells.{Gives};
 ghost use Rattle.lw_genlib.specs.Standing.{resume, ReadsMore, HasNoHash};
 ghost use Rattle.lw_words.specs.Limits.{longest_word};
 
@@ -151,9 +151,7 @@ fn read_words(
 
 // The library of what was read, where no line follows the last one.
 fn finish(alloc: Global, last: u32, state: ReaderState) -> Result<Library, LibFault>
-    ensures { MatchResult result
-        (λ library. library_by (resume state (text_end last ∷ [])) ≡ Ok library)
-        (TellsErr (library_by (resume state (text_end last ∷ [])))) }
+    ensures { Gives (library_by (resume state (text_end last ∷ []))) result }
 {
     let ReaderState { so_far, expect } = state;
     // Brings in what the type of `so_far` keeps.
