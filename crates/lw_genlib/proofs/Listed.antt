@@ -1,6 +1,6 @@
 -- The cell of an entry, and where it is put.
 use Rattle.std.proofs.Common.{ℕ, zero, suc, ◌+◌, ◌≡◌, ◌≤◌, Bool, true, false, not, nat_lt, ◌||◌, cond, List, [], ◌∷◌, length, map, Option, Some, None, Result, Ok, Err, refl, ap, ap₂, sym, ◌∙◌, subst, arith}
-use Rattle.std.specs.Prelude.{All, Contains, MatchOption, MatchResult, IfOk}
+use Rattle.std.specs.Prelude.{All, Contains, MatchOption}
 use Rattle.std.specs.List.{list_any, position, position_or_len}
 use Rattle.std.proofs.lemmas.List.{length-map}
 use Rattle.std.proofs.lemmas.Bool.{or_parts, le-ltb, ltb-false}
@@ -159,14 +159,6 @@ as_ok so_far = Ok so_far
 pub ended-none : (so_far : CellsSoFar) → so_far.entry ≡ None → entry_ended (with_open so_far None) ≡ Ok so_far
 ended-none so_far none = ap (λ (e : Option Entry). as_ok (with_open so_far e)) (sym none)
 
-pub ended-some : (so_far new : CellsSoFar) (entry : Entry) → merged so_far.cells entry ≡ Ok new.cells → new.entry ≡ None → entry_ended (with_open so_far (Some entry)) ≡ Ok new
-ended-some so_far new entry is none = ap with_cells is ∙ ap (λ (e : Option Entry). as_ok (with_open new e)) (sym none)
-
-pub ended-fault : (so_far : CellsSoFar) (entry : Entry) (fault : LibFault) → TellsErr (merged so_far.cells entry) fault → TellsErr (entry_ended (with_open so_far (Some entry))) fault
-ended-fault so_far entry (Line line kind) is = ap with_cells is
-ended-fault so_far entry Memory is = tt
-
-pub ended-answer : (so_far : CellsSoFar) (entry : Entry) (r : Result CellsSoFar LibFault) → MatchResult r (λ (new : CellsSoFar). merged so_far.cells entry ≡ Ok new.cells) (TellsErr (merged so_far.cells entry))
-    → IfOk r (λ (new : CellsSoFar). new.entry ≡ None) → MatchResult r (λ (new : CellsSoFar). entry_ended (with_open so_far (Some entry)) ≡ Ok new) (TellsErr (entry_ended (with_open so_far (Some entry))))
-ended-answer so_far entry (Ok new) said whole = ended-some so_far new entry said whole
-ended-answer so_far entry (Err fault) said whole = ended-fault so_far entry fault said
+pub cells-fault : (said : Result (List CellParts) LibFault) (fault : LibFault) → TellsErr said fault → TellsErr (with_cells said) fault
+cells-fault said (Line line kind) is = ap with_cells is
+cells-fault said Memory is = tt

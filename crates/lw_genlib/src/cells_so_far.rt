@@ -64,12 +64,8 @@ fn add_cell_or_form(
     delays: Micros,
 ) -> Result<CellsSoFar, LibFault>
     requires { delays ≡ merging.delays_of entry }
-    ensures cells { MatchResult result
-        (λ new. merging.merged_at before.so_far.cells entry
-        (merging.place_of before.so_far.cells entry) ≡ Ok new.cells)
-        (TellsErr (merging.merged_at before.so_far.cells entry
-        (merging.place_of before.so_far.cells entry))) }
-    ensures whole { IfOk result (λ new. new.entry ≡ None) }
+    ensures { Gives (library.with_cells (merging.merged_at before.so_far.cells entry
+        (merging.place_of before.so_far.cells entry))) result }
 {
     match place_of(&before.so_far.cells, entry.name.as_bytes()) {
         None => {
@@ -129,10 +125,8 @@ fn with_form(
 ) -> Result<CellsSoFar, LibFault>
     requires delays { delays.now ≡ merging.delays_of entry.now }
     requires place { place < length before.so_far.cells }
-    ensures cells { MatchResult result
-        (λ new. merging.merged_at before.so_far.cells entry.now (Some place) ≡ Ok new.cells)
-        (TellsErr (merging.merged_at before.so_far.cells entry.now (Some place))) }
-    ensures whole { IfOk result (λ new. new.entry ≡ None) }
+    ensures { Gives (library.with_cells
+        (merging.merged_at before.so_far.cells entry.now (Some place))) result }
 {
     let CellsWithRoom { so_far } = before;
     let CellsSoFar { mut cells, entries } = so_far;

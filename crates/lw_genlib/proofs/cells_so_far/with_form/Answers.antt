@@ -1,4 +1,4 @@
-use Rattle.std.proofs.Common.{◌≡◌, ◌<◌, ◌+◌, ◌∙◌, List, Ok, sym, ap, ap₂, subst, set, get_or, length}
+use Rattle.std.proofs.Common.{◌≡◌, ◌<◌, ◌+◌, ◌∙◌, List, Some, Ok, sym, ap, ap₂, subst, set, get_or, length}
 use Rattle.std.specs.List.{IsDistinct}
 use Rattle.std.specs.Str.{bytes_eq}
 use Rattle.lw_genlib.specs.Libraries as library
@@ -7,6 +7,7 @@ use Rattle.lw_genlib.specs.Kept.{AreCells}
 use Rattle.lw_genlib.specs.Expects.{HasRoom}
 use Rattle.lw_genlib.specs.Merging as merging
 use Rattle.lw_genlib.proofs.MergeLemmas.{cells-merged, merged-there, fault-there}
+use Rattle.lw_genlib.proofs.Listed.{cells-fault}
 use Rattle.lw_genlib.proofs.cells_so_far.with_form.Goals as goal
 
 pub invariant_of-result : goal.invariant_of-result
@@ -16,18 +17,19 @@ invariant_of-result c =
     (cells-merged c.so_far.inside.cells.items c.so_far.inside.entries c.args.place c.index_mut.result.now (merging.form_over c.index_mut.result.now.pins c.args.entry.now)
     c.so_far.invariant (subst HasRoom cells c.args.before.room) (subst (λ (cs : List CellParts). c.args.place < length cs) cells c.requires.place) c.index_mut.ensures.value c.in-Ok.ensures.kept)
 
-pub returns-in-Ok-clause-cells : goal.returns-in-Ok-clause-cells
-returns-in-Ok-clause-cells c =
+pub returns-in-Ok : goal.returns-in-Ok
+returns-in-Ok c =
     let cells : c.args.before.so_far.cells ≡ c.so_far.inside.cells.items = sym (ap (λ (b : library.CellsSoFar). b.cells) c.so_far.view_is) in
-    merged-there c.args.before.so_far.cells c.args.place c.args.entry.now c.index_mut.result.now c.requires.place
+    ap library.with_cells (merged-there c.args.before.so_far.cells c.args.place c.args.entry.now c.index_mut.result.now c.requires.place
     (c.index_mut.ensures.value ∙ ap (λ (cs : List CellParts). get_or cs c.args.place c.index_mut.result.now) (sym cells)) c.in-Ok.ensures.agrees
-    ∙ ap Ok (ap₂ (λ (cs : List CellParts) (x : CellParts). set cs c.args.place x) cells (sym c.in-Ok.ensures.form))
+    ∙ ap Ok (ap₂ (λ (cs : List CellParts) (x : CellParts). set cs c.args.place x) cells (sym c.in-Ok.ensures.form)))
 
-pub returns-in-Err-clause-cells : goal.returns-in-Err-clause-cells
-returns-in-Err-clause-cells c =
+pub returns-in-Err : goal.returns-in-Err
+returns-in-Err c =
     let cells : c.args.before.so_far.cells ≡ c.so_far.inside.cells.items = sym (ap (λ (b : library.CellsSoFar). b.cells) c.so_far.view_is) in
-    fault-there c.args.before.so_far.cells c.args.place c.args.entry.now c.index_mut.result.now c.in-Err.fault c.requires.place
-    (c.index_mut.ensures.value ∙ ap (λ (cs : List CellParts). get_or cs c.args.place c.index_mut.result.now) (sym cells)) c.in-Err.ensures.agrees
+    cells-fault (merging.merged_at c.args.before.so_far.cells c.args.entry.now (Some c.args.place)) c.in-Err.fault
+    (fault-there c.args.before.so_far.cells c.args.place c.args.entry.now c.index_mut.result.now c.in-Err.fault c.requires.place
+    (c.index_mut.ensures.value ∙ ap (λ (cs : List CellParts). get_or cs c.args.place c.index_mut.result.now) (sym cells)) c.in-Err.ensures.agrees)
 
 pub merge_into-requires-clause-pins_differ : goal.merge_into-requires-clause-pins_differ
 merge_into-requires-clause-pins_differ c =
