@@ -94,8 +94,7 @@ fn larger(given: &Given, delay: Micro) -> Result<Micro, LibFault>
 
 /// The larger of a delay and what a word behind a pin's name says.
 pub(crate) fn delay_behind(given: &Given, field: Field, delay: Micro) -> Result<Micro, LibFault>
-    ensures { result
-        ≡ on_line given.now.line (words.delay_behind field delay given.now.word.now) }
+    ensures { result ≡ on_line given.now.line (words.delay_behind field delay given.now.word.now) }
 {
     match field {
         Field::Phase => if is_phase(given.word) {

@@ -25,8 +25,7 @@ pub(crate) fn no_text(alloc: Global) -> FunctionText
 /// The text with one more word, or a part of one.
 pub(crate) fn with_word(given: &Given, text: FunctionText) -> Result<FunctionText, AllocError>
     requires { MayJoin text given.now.word.now }
-    ensures { IfOk result
-        (λ new. new ≡ words.with_word text given.now.line given.now.word.now) }
+    ensures { IfOk result (λ new. new ≡ words.with_word text given.now.line given.now.word.now) }
 {
     let FunctionText {
         mut tokens,
