@@ -12,8 +12,7 @@ use std::alloc::{AllocError, Global};
 
 /// The pins that the tokens name, or the first token that may not stand, by its line.
 pub(crate) fn pins_of(alloc: Global, tokens: &[Token], lines: &[u32]) -> Result<Names, LibFault>
-    requires lines { length lines.now ≡ length tokens.now }
-    requires short { length tokens.now < 2 ^ 32 }
+    requires { function.AreLined tokens.now lines.now }
     ensures { MatchResult result
         (λ pins. (pins ≡ function.pins_in tokens.now) ×
         (function.first_fault [] lines.now tokens.now ≡ None))

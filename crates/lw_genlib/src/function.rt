@@ -1,6 +1,6 @@
 // What the text of a function says.
 ghost use Rattle.std.specs.Prelude.{◌≡◌, ◌<◌, ◌^◌, [], None, length, MatchResult};
-ghost use Rattle.lw_genlib.specs.Functions.{IsText, Says, first_fault};
+ghost use Rattle.lw_genlib.specs.Functions.{AreLined, IsText, Says, first_fault};
 ghost use Rattle.lw_genlib.specs.Spelled.{inner_of};
 ghost use Rattle.lw_genlib.specs.Tells.{TellsFault};
 
@@ -24,8 +24,7 @@ pub(crate) fn function_of(
     tokens: &[Token],
     lines: &[u32],
 ) -> Result<Function, LibFault>
-    requires lines { length lines.now ≡ length tokens.now }
-    requires short { length tokens.now < 2 ^ 32 }
+    requires lined { AreLined tokens.now lines.now }
     requires text { IsText tokens.now }
     ensures { MatchResult result
         (λ f. Says tokens.now f.output f.pins f.form × (first_fault [] lines.now tokens.now ≡ None))

@@ -7,7 +7,7 @@ use Rattle.lw_genlib.proofs.check_tokens.pins_of.Goals as goal
 
 pub returns-in-Some : goal.returns-in-Some
 returns-in-Some c =
-    found c.args.lines.now c.args.tokens.now c.loop-place.place c.index-tokens-place.result c.loop-place-test.true c.requires.lines c.index-tokens-place.is c.in-Some.kind
+    found c.args.lines.now c.args.tokens.now c.loop-place.place c.index-tokens-place.result c.loop-place-test.true c.requires.paired c.index-tokens-place.is c.in-Some.kind
     (c.in-Some.ensures ∙ (ap (λ (s : FunctionCheck). fault_at s c.index-tokens-place.result) c.loop-place.invariant.0 ∙ fault_same (take c.loop-place.place c.args.tokens.now) c.index-tokens-place.result)) c.loop-place.invariant.1
 
 pub add-requires : goal.add-requires
@@ -17,8 +17,8 @@ add-requires c =
 
 pub loop-place-preserved : goal.loop-place-preserved
 loop-place-preserved c = (
-  check_next c.args.lines.now c.args.tokens.now c.loop-place.place c.index-tokens-place.result c.loop-place-test.true c.requires.lines c.index-tokens-place.is c.loop-place.check c.add.new.check c.loop-place.invariant.0 c.in-Ok.ensures,
-  goes_on c.args.lines.now c.args.tokens.now c.loop-place.place c.index-tokens-place.result c.loop-place-test.true c.requires.lines c.index-tokens-place.is
+  check_next c.args.lines.now c.args.tokens.now c.loop-place.place c.index-tokens-place.result c.loop-place-test.true c.requires.paired c.index-tokens-place.is c.loop-place.check c.add.new.check c.loop-place.invariant.0 c.in-Ok.ensures,
+  goes_on c.args.lines.now c.args.tokens.now c.loop-place.place c.index-tokens-place.result c.loop-place-test.true c.requires.paired c.index-tokens-place.is
       (c.in_default.ensures ∙ (ap (λ (s : FunctionCheck). fault_at s c.index-tokens-place.result) c.loop-place.invariant.0 ∙ fault_same (take c.loop-place.place c.args.tokens.now) c.index-tokens-place.result)) c.loop-place.invariant.1,
 )
 
