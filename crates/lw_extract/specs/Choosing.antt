@@ -11,9 +11,7 @@ use Rattle.lw_laws.specs.Extracts.{IsChosen, AreGateClasses}
 use Rattle.lw_match.specs.declared.mark.Mark.{Mark}
 use Rattle.lw_match.specs.declared.mark.Match.{Match}
 use Rattle.lw_match.specs.Values.{marks_in, plain_match}
-use Rattle.lw_match.specs.Bounds.{AreBounds, BoundsFit, BoundsState}
-use Rattle.lw_match.specs.Least.{AreOfCells}
-use Rattle.lw_label.specs.Labels.{AreLeastMarks, costs_of}
+use Rattle.lw_label.specs.Labels.{costs_of}
 use Rattle.lw_extract.specs.declared.choosing.Chosen.{Chosen}
 use Rattle.lw_pool.specs.Numbers.{numbers}
 
@@ -23,13 +21,6 @@ labels marks = labels_in (costs_of marks)
 
 abbrev pub heights : List (Option Mark) → ℕ → ℕ
 heights marks = heights_of (marks_in marks)
-
--- what a choice rests on: patterns of cells, a least mark for each class, and bounds for these
-pub record CanChoose (g : Graph) (cost : Cost) (pats : List Pattern) (marks : List (Option Mark)) (table : BoundsState) : Type 0 where
-  pub of_cells : AreOfCells cost.pin_counts pats
-  pub least : AreLeastMarks g cost pats marks
-  pub fits : BoundsFit table pats g
-  pub bounds : AreBounds table g marks
 
 -- each of the classes has a mark
 abbrev pub RootsHaveMarks : List (Option Mark) → List ClassId → Type 0

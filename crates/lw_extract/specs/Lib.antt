@@ -3,3 +3,4 @@ pub mod Orders
 pub mod Nets
 pub mod Choosing
 pub mod Gates
+pub mod Jobs

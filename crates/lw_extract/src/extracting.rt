@@ -1,20 +1,16 @@
-ghost use Rattle.std.specs.Prelude.{◌≡◌, ◌<◌, ◌^◌, ◌↔◌, ℕ, All, IfOk, IfSome, IsSome, None, Err, length, map, slice_index_or, MatchOption};
-ghost use Rattle.lw_match.specs.Least.{AreOfCells};
-ghost use Rattle.lw_match.specs.Bounds.{BoundsFit, AreBounds};
-ghost use Rattle.lw_label.specs.Labels.{AreLeastMarks};
-ghost use Rattle.lw_laws.specs.Costs.{Cost as Costs};
-ghost use Rattle.lw_laws.specs.Extracts.{HaveLeafLabels};
-ghost use Rattle.lw_laws.specs.Names.{net_names};
-ghost use Rattle.lw_genlib.specs.Tables.{delays_of_cells};
-ghost use Rattle.lw_netlist.specs.Plain.{IsOver};
-ghost use Rattle.lw_extract.specs.declared.fault.ExtractFault.TheVariants.{NoCover};
-ghost use Rattle.lw_extract.specs.Choosing.{AreChosen, RootsHaveMarks, CanChoose, chosen_classes, labels as labels_of};
-ghost use Rattle.lw_extract.specs.Nets.{AreClassNets};
-ghost use Rattle.lw_extract.specs.Covers.{AreFit, AreLibraryLabels, CostTheirLabels, IsCoverBy, IsExtractedCover, IsFirstUncovered};
+ghost use Rattle.std.specs.Prelude.{◌≡◌, ◌<◌, ◌^◌, ◌↔◌, ℕ, All, IfOk, IfSome, IsSome, None, Err, length, slice_index_or, MatchOption};
 ghost use Rattle.lw_pool.specs.Numbers.{numbers};
+ghost use Rattle.lw_laws.specs.Names.{net_names};
+ghost use Rattle.lw_match.specs.Bounds.{BoundsFit, AreBounds};
+ghost use Rattle.lw_extract.specs.declared.fault.ExtractFault.TheVariants.{NoCover};
+ghost use Rattle.lw_extract.specs.Choosing.{chosen_classes};
+ghost use Rattle.lw_extract.specs.Nets.{AreClassNets};
+ghost use Rattle.lw_extract.specs.Covers.{AreFit, AreLibraryLabels, IsCoverBy, IsFirstUncovered};
+ghost use Rattle.lw_extract.specs.Jobs.{AreJobBounds, AreJobChoices, CanCover, IsJobCover};
 
 use crate::choosing::{Chosen, choose};
 use crate::gates::{gates_of, outputs_of};
+use crate::job::Job;
 use crate::nets::{add_gates, input_nets};
 use crate::{Cover, ExtractFault, Ports};
 use lw_genlib::Library;
@@ -72,29 +68,21 @@ fn names_of(
 }
 
 // The netlist of these matches, over the nets of their classes and of the inputs'.
-fn assemble(
+fn assemble<C: Cost>(
     alloc: Global,
-    graph: &Graph,
-    pats: &Patterns,
-    lib: &Library,
-    ports: &Ports,
+    job: &Job<C>,
     nets: &[Option<NetId>],
     chosen: &[Chosen],
 ) -> Result<Cover, AllocError>
-    requires fit { AreFit graph.now ports.now }
-    requires chosen { (costs : Costs) × (marks : _) ×
-        (costs.pin_counts ≡ map length (delays_of_cells lib.now)) ×
-        (length marks ≡ length graph.now.pairs) ×
-        AreChosen graph.now costs pats.now marks ports.now.roots chosen.now }
-    requires nets { AreClassNets graph.now (chosen_classes chosen.now) nets.now }
-    ensures cover { (costs : Costs) (marks : _) →
-        AreChosen graph.now costs pats.now marks ports.now.roots chosen.now →
-        IfOk result (IsExtractedCover graph.now costs pats.now marks ports.now) }
-    ensures over { IfOk result (λ cover. IsOver lib.now cover.netlist) }
+    requires ready { CanCover C.costs job.now }
+    requires chosen { AreJobChoices C.costs job.now chosen.now }
+    requires nets { AreClassNets job.now.graph.now (chosen_classes chosen.now) nets.now }
+    ensures { IfOk result (IsJobCover C.costs job.now) }
 {
-    let _ = lib.len();
+    let _ = job.lib.len();
+    let (graph, ports) = (job.graph, job.ports);
     let inputs = graph.inputs();
-    let gates = gates_of(alloc, pats, nets, inputs, chosen)?;
+    let gates = gates_of(alloc, job.pats, nets, inputs, chosen)?;
     let outputs = outputs_of(alloc, nets, ports)?;
     let classes = classes_of(alloc, chosen)?;
     let names = names_of(alloc, graph, ports, classes.as_slice())?;
@@ -106,56 +94,32 @@ fn assemble(
 }
 
 // The netlist of the chosen matches.
-fn cover<C: Cost>(
-    alloc: Global,
-    graph: &Graph,
-    pats: &Patterns,
-    lib: &Library,
-    bounds: &Bounds,
-    marks: &[Option<Mark>],
-    ports: &Ports,
-    cost: &C,
-) -> Result<Cover, AllocError>
-    requires labels { AreLibraryLabels graph.now (C.costs cost.now) pats.now lib.now marks.now }
-    requires settled { CanChoose graph.now (C.costs cost.now) pats.now marks.now bounds.now }
-    requires fit { AreFit graph.now ports.now }
-    requires covered { RootsHaveMarks marks.now ports.now.roots }
-    ensures { IfOk result (IsCoverBy graph.now (C.costs cost.now) pats.now lib.now marks.now
-        ports.now) }
+fn cover<C: Cost>(alloc: Global, job: &Job<C>, bounds: &Bounds) -> Result<Cover, AllocError>
+    requires ready { CanCover C.costs job.now }
+    requires bounds { AreJobBounds job.now bounds.now }
+    ensures { IfOk result (IsJobCover C.costs job.now) }
 {
-    let mut nets = input_nets(alloc, graph)?;
-    let roots = ports.roots.as_slice();
-    let chosen = choose(alloc, graph, pats, cost, bounds, marks, roots, &nets)?;
-    add_gates(&mut nets, graph.inputs(), &chosen);
-    assemble(alloc, graph, pats, lib, ports, &nets, &chosen)
+    let mut nets = input_nets(alloc, job.graph)?;
+    let chosen = choose(alloc, job, bounds, &nets)?;
+    add_gates(&mut nets, job.graph.inputs(), &chosen);
+    assemble(alloc, job, &nets, &chosen)
 }
 
 // The netlist of the chosen matches, by a table of bounds that is at hand or is made here.
 fn cover_with<C: Cost>(
     alloc: Global,
-    graph: &Graph,
-    pats: &Patterns,
-    lib: &Library,
+    job: &Job<C>,
     bounds: Option<&Bounds>,
-    marks: &[Option<Mark>],
-    ports: &Ports,
-    cost: &C,
 ) -> Result<Cover, AllocError>
-    requires labels { AreLibraryLabels graph.now (C.costs cost.now) pats.now lib.now marks.now }
-    requires settled { IfSome bounds
-        (λ b. CanChoose graph.now (C.costs cost.now) pats.now marks.now b.now) }
-    requires fit { AreFit graph.now ports.now }
-    requires covered { RootsHaveMarks marks.now ports.now.roots }
-    ensures { IfOk result (IsCoverBy graph.now (C.costs cost.now) pats.now lib.now marks.now
-        ports.now) }
+    requires ready { CanCover C.costs job.now }
+    requires bounds { IfSome bounds (λ b. AreJobBounds job.now b.now) }
+    ensures { IfOk result (IsJobCover C.costs job.now) }
 {
-    match bounds {
-        Some(bounds) => cover(alloc, graph, pats, lib, bounds, marks, ports, cost),
-        None => {
-            let bounds = Bounds::settled(alloc, graph, pats, marks, cost)?;
-            cover(alloc, graph, pats, lib, &bounds, marks, ports, cost)
-        }
+    if let Some(bounds) = bounds {
+        return cover(alloc, job, bounds);
     }
+    let bounds = Bounds::settled(alloc, job.graph, job.pats, job.marks, job.cost)?;
+    cover(alloc, job, &bounds)
 }
 
 /// The netlist that the labels of a graph's classes give to some outputs, by a table of bounds for
@@ -172,25 +136,28 @@ pub fn extract_with<C: Cost>(
     ports: &Ports,
     cost: &C,
 ) -> Result<Cover, ExtractFault>
-    requires cells { (C.costs cost.now).pin_counts ≡ map length (delays_of_cells lib.now) }
-    requires of_cells { AreOfCells (C.costs cost.now).pin_counts pats.now }
-    requires least { AreLeastMarks graph.now (C.costs cost.now) pats.now labels.now }
+    requires labels { AreLibraryLabels graph.now (C.costs cost.now) pats.now lib.now labels.now }
     requires fits { IfSome bounds (λ b. BoundsFit b.now pats.now graph.now) }
     requires bounds { IfSome bounds (λ b. AreBounds b.now graph.now labels.now) }
-    requires leaves { HaveLeafLabels graph.now (C.costs cost.now) (labels_of labels.now) }
     requires fit { AreFit graph.now ports.now }
     ensures no_cover { (k : ℕ) → (result ≡ Err (NoCover k)) ↔
         IsFirstUncovered labels.now ports.now.roots k }
-    ensures cover { IfOk result (IsExtractedCover graph.now
-        (C.costs cost.now) pats.now labels.now ports.now) }
-    ensures over { IfOk result (λ cover. IsOver lib.now cover.netlist) }
-    ensures costs { IfOk result (CostTheirLabels graph.now (C.costs cost.now) labels.now) }
+    ensures cover { IfOk result
+        (IsCoverBy graph.now (C.costs cost.now) pats.now lib.now labels.now ports.now) }
 {
     let marks = labels.marks();
     if let Some(output) = first_uncovered(marks, ports.roots.as_slice()) {
         return Err(ExtractFault::NoCover(output));
     }
-    match cover_with(alloc, graph, pats, lib, bounds, marks, ports, cost) {
+    let job = Job {
+        graph,
+        pats,
+        lib,
+        cost,
+        marks,
+        ports,
+    };
+    match cover_with(alloc, &job, bounds) {
         Ok(cover) => Ok(cover),
         Err(_) => Err(ExtractFault::Memory),
     }
@@ -207,17 +174,12 @@ pub fn extract<C: Cost>(
     ports: &Ports,
     cost: &C,
 ) -> Result<Cover, ExtractFault>
-    requires cells { (C.costs cost.now).pin_counts ≡ map length (delays_of_cells lib.now) }
-    requires of_cells { AreOfCells (C.costs cost.now).pin_counts pats.now }
-    requires least { AreLeastMarks graph.now (C.costs cost.now) pats.now labels.now }
-    requires leaves { HaveLeafLabels graph.now (C.costs cost.now) (labels_of labels.now) }
+    requires labels { AreLibraryLabels graph.now (C.costs cost.now) pats.now lib.now labels.now }
     requires fit { AreFit graph.now ports.now }
     ensures no_cover { (k : ℕ) → (result ≡ Err (NoCover k)) ↔
         IsFirstUncovered labels.now ports.now.roots k }
-    ensures cover { IfOk result (IsExtractedCover graph.now
-        (C.costs cost.now) pats.now labels.now ports.now) }
-    ensures over { IfOk result (λ cover. IsOver lib.now cover.netlist) }
-    ensures costs { IfOk result (CostTheirLabels graph.now (C.costs cost.now) labels.now) }
+    ensures cover { IfOk result
+        (IsCoverBy graph.now (C.costs cost.now) pats.now lib.now labels.now ports.now) }
 {
     extract_with(alloc, graph, pats, lib, labels, None, ports, cost)
 }

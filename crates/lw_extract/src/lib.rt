@@ -5,6 +5,7 @@ mod choosing;
 mod extracting;
 mod fault;
 mod gates;
+mod job;
 mod laws;
 mod nets;
 mod ordering;

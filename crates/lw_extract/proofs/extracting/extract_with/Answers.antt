@@ -1,28 +1,24 @@
 use Rattle.std.proofs.Common.{All, IsSome, Option, None, List, IfSome, slice_index_or, sym, subst, subst₂}
 use Rattle.lw_facts.proofs.Results.{some_both}
 use Rattle.lw_pool.specs.declared.id.ClassId.{ClassId}
-use Rattle.lw_laws.specs.Extracts.{HaveLeafLabels}
 use Rattle.lw_match.specs.declared.mark.Mark.{Mark}
-use Rattle.lw_label.specs.Labels.{AreLeastMarks}
-use Rattle.lw_extract.specs.Choosing.{CanChoose, labels}
+use Rattle.lw_match.specs.Bounds.{AreBounds}
+use Rattle.lw_extract.specs.Choosing.{RootsHaveMarks}
+use Rattle.lw_extract.specs.Covers.{AreLibraryLabels}
 use Rattle.lw_extract.proofs.Uncovered.{covered_ok, covered_memory}
 use Rattle.lw_extract.proofs.extracting.extract_with.Goals as goal
 
-pub cover_with-requires-clause-labels : goal.cover_with-requires-clause-labels
-cover_with-requires-clause-labels g c =
-    let cost = g.C.Cost.costs c.args.cost.now in
-    record {
-      cells = c.requires.cells;
-      of_cells = c.requires.of_cells;
-      least = subst (AreLeastMarks c.args.graph.now cost c.args.pats.now) (sym c.marks-marks.ensures) c.requires.least;
-      leaves = subst (λ (ms : List (Option Mark)). HaveLeafLabels c.args.graph.now cost (labels ms)) (sym c.marks-marks.ensures) c.requires.leaves;
-    }
+pub cover_with-requires-clause-ready : goal.cover_with-requires-clause-ready
+cover_with-requires-clause-ready g c = record {
+  labels = subst (AreLibraryLabels c.args.graph.now (g.C.Cost.costs c.args.cost.now) c.args.pats.now c.args.lib.now) (sym c.marks-marks.ensures) c.requires.labels;
+  fit = c.requires.fit;
+  covered = subst (λ (rs : List ClassId). RootsHaveMarks c.marks-marks.result.now rs) c.as_slice.ensures c.in_default.ensures;
+}
 
-pub cover_with-requires-clause-settled : goal.cover_with-requires-clause-settled
-cover_with-requires-clause-settled g c =
-    let cost = g.C.Cost.costs c.args.cost.now in
-    subst (λ (ms : List (Option Mark)). IfSome c.args.bounds (λ b. CanChoose c.args.graph.now cost c.args.pats.now ms b.now)) (sym c.marks-marks.ensures)
-    (some_both c.args.bounds c.requires.fits c.requires.bounds (λ b fits bounds. record { of_cells = c.requires.of_cells; least = c.requires.least; fits = fits; bounds = bounds }))
+pub cover_with-requires-clause-bounds : goal.cover_with-requires-clause-bounds
+cover_with-requires-clause-bounds g c =
+    let bounds = subst (λ (ms : List (Option Mark)). IfSome c.args.bounds (λ b. AreBounds b.now c.args.graph.now ms)) (sym c.marks-marks.ensures) c.requires.bounds in
+    some_both c.args.bounds c.requires.fits bounds (λ b fits are. record { fits = fits; are = are })
 
 pub returns-in-Err-clause-no_cover : goal.returns-in-Err-clause-no_cover
 returns-in-Err-clause-no_cover g c =

@@ -10,15 +10,20 @@ pub extract_with-cover-requires-clause-fit : goal.extract_with-cover-requires-cl
 extract_with-cover-requires-clause-fit g c =
     ports_fit c.args.self.now.net.now [] c.args.self.now.choices.now c.in_ok-ports.ports c.inputs.ensures.kept c.requires.given.chosen c.in_ok-ports.ensures c.requires.given.outputs
 
-pub extract_with-cover-requires-clause-leaves : goal.extract_with-cover-requires-clause-leaves
-extract_with-cover-requires-clause-leaves g c = λ k i at.
-    least_cover_once c.args.self.now.choices.now.graph c.args.self.now.pats (g.C.Cost.costs c.args.cost.now) k (labels c.args.labelled.now.labels k) (Some ((g.C.Cost.costs c.args.cost.now).leaf i))
-    (c.requires.labels.least.least k) (c.requires.given.leaves i k at)
+pub extract_with-cover-requires-clause-labels : goal.extract_with-cover-requires-clause-labels
+extract_with-cover-requires-clause-labels g c = record {
+  cells = c.requires.given.counts;
+  of_cells = c.requires.given.of_cells;
+  least = c.requires.labels.least;
+  leaves = λ k i at.
+      least_cover_once c.args.self.now.choices.now.graph c.args.self.now.pats (g.C.Cost.costs c.args.cost.now) k (labels c.args.labelled.now.labels k) (Some ((g.C.Cost.costs c.args.cost.now).leaf i))
+      (c.requires.labels.least.least k) (c.requires.given.leaves i k at);
+}
 
 pub returns-clause-cover : goal.returns-clause-cover
 returns-clause-cover g c =
-    ok_both c.extract_with-cover.result c.extract_with-cover.ensures.cover c.extract_with-cover.ensures.over
-    (λ cover is over. record { extracted = (c.in_ok-ports.ports, c.in_ok-ports.ensures, is); over = over })
+    ok_both c.extract_with-cover.result c.extract_with-cover.ensures.cover c.extract_with-cover.ensures.cover
+    (λ cover is same. record { extracted = (c.in_ok-ports.ports, c.in_ok-ports.ensures, is.cover); over = is.over })
 
 pub returns-clause-lacks : goal.returns-clause-lacks
 returns-clause-lacks g c =
