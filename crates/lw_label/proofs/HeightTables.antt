@@ -168,24 +168,24 @@ module _ (g : Graph) where
     }
 
 -- A visit of a place that is not still.
-module _ {C : _} (cost : Cost) (d : Given C) (place : ℕ) (still : List Bool) (moves : slice_index_or still place false ≡ false) (marks others : List (Option Mark)) (same : AreSameBut (λ c. c / 2 ≡ place) marks others) (table later : Option LabelState) (has : IfSome table (HasHeightsOf marks)) (numbers : IfSome table (IsHeightTable d.graph.now d.pats.now still)) (found : later ≡ with_heights others table) (tops : TopsState) (search : IsHeightSearch cost d tops others) (kept : AreStill d.graph.now cost d.pats.now d.labels.now marks still) where
+module _ {C : _} (cost : Cost) (d : Given C) (place : ℕ) (still : List Bool) (moves : slice_index_or still place false ≡ false) (marks others : List (Option Mark)) (same : AreSameBut (λ c. c / 2 ≡ place) marks others) (table later : Option LabelState) (has : IfSome table (HasHeightsOf marks)) (numbers : IfSome table (IsHeightTable d.task.now.graph.now d.task.now.pats.now still)) (found : later ≡ with_heights others table) (tops : TopsState) (search : IsHeightSearch cost d tops others) (kept : AreStill d.task.now.graph.now cost d.task.now.pats.now d.labels.now marks still) where
   found_heights : IfSome later (HasHeightsOf others)
   found_heights = subst (λ t. IfSome t (HasHeightsOf others)) (sym found) (with_has others table)
 
-  found_table : IfSome later (IsHeightTable d.graph.now d.pats.now still)
-  found_table = subst (λ t. IfSome t (IsHeightTable d.graph.now d.pats.now still)) (sym found) (table_found d.graph.now d.pats.now marks others still place table search.heights.one_each moves same has numbers)
+  found_table : IfSome later (IsHeightTable d.task.now.graph.now d.task.now.pats.now still)
+  found_table = subst (λ t. IfSome t (IsHeightTable d.task.now.graph.now d.task.now.pats.now still)) (sym found) (table_found d.task.now.graph.now d.task.now.pats.now marks others still place table search.heights.one_each moves same has numbers)
 
-  found_still : AreStill d.graph.now cost d.pats.now d.labels.now others still
-  found_still = still_kept d.graph.now cost d.pats.now d.labels.now search.given.of_cells marks others still place moves same kept
+  found_still : AreStill d.task.now.graph.now cost d.task.now.pats.now d.labels.now others still
+  found_still = still_kept d.task.now.graph.now cost d.task.now.pats.now d.labels.now search.given.of_cells marks others still place moves same kept
 
   pub visit_found : AreHeightsFalling cost d tops later others still
   visit_found = record { search = search; kept = found_still; heights = found_heights; numbers = found_table }
 
   -- the place has become still
-  pub visit_settled : (more : List Bool) → IsStillAfter d.graph.now place still more → ((c : ℕ) → c / 2 ≡ place → IsReachedFrom cost d others c) → AreHeightsFalling cost d tops later others more
+  pub visit_settled : (more : List Bool) → IsStillAfter d.task.now.graph.now place still more → ((c : ℕ) → c / 2 ≡ place → IsReachedFrom cost d others c) → AreHeightsFalling cost d tops later others more
   visit_settled more after reached = record {
     search = search;
-    kept = still_more d.graph.now cost d.pats.now d.labels.now others place still more after reached found_still;
+    kept = still_more d.task.now.graph.now cost d.task.now.pats.now d.labels.now others place still more after reached found_still;
     heights = found_heights;
-    numbers = table_more d.graph.now d.pats.now place still more later after kept.parts found_table;
+    numbers = table_more d.task.now.graph.now d.task.now.pats.now place still more later after kept.parts found_table;
   }

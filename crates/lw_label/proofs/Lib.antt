@@ -7,6 +7,7 @@ pub mod Low
 pub mod Marked
 pub mod OneVisit
 pub mod Passing
+pub mod Searching
 pub mod Still
 pub mod Times
 pub mod Walking

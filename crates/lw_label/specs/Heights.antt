@@ -108,16 +108,16 @@ LowersHeights g cost pats labels old new at changed = Passes heights_weight (IsR
 
 -- What heights are found by: what is given, what is known of gaps, and the marks so far.
 pub record IsHeightSearch {C : _} (cost : Cost) (d : Given C) (tops : TopsState) (marks : List (Option Mark)) : Type 0 where
-  pub given : AreGiven d.graph.now cost d.pats.now d.bounds.now d.labels.now
-  pub known : AreKnown cost d.pats.now d.bounds.now.gaps tops
-  pub heights : AreHeightMarks d.graph.now cost d.pats.now d.labels.now marks
+  pub given : AreGiven d.task.now.graph.now cost d.task.now.pats.now d.bounds.now d.labels.now
+  pub known : AreKnown cost d.task.now.pats.now d.bounds.now.gaps tops
+  pub heights : AreHeightMarks d.task.now.graph.now cost d.task.now.pats.now d.labels.now marks
 
 -- no match at the class would lower its height, by what is given
 abbrev pub IsReachedFrom : {C : _} → Cost → Given C → List (Option Mark) → ℕ → Type 0
-IsReachedFrom cost d marks c = IsReached d.graph.now cost d.pats.now d.labels.now marks c
+IsReachedFrom cost d marks c = IsReached d.task.now.graph.now cost d.task.now.pats.now d.labels.now marks c
 
 abbrev pub LowersFrom : {C : _} → Cost → Given C → List (Option Mark) → List (Option Mark) → (ℕ → Type 0) → Bool → Type 0
-LowersFrom cost d old new at changed = LowersHeights d.graph.now cost d.pats.now d.labels.now old new at changed
+LowersFrom cost d old new at changed = LowersHeights d.task.now.graph.now cost d.task.now.pats.now d.labels.now old new at changed
 
 abbrev pub TakesFrom : {C : _} → Cost → Given C → List (Option Mark) → List (Option Mark) → Bool → Type 0
-TakesFrom cost d old new changed = TakesHeight d.graph.now cost d.pats.now d.labels.now old new changed
+TakesFrom cost d old new changed = TakesHeight d.task.now.graph.now cost d.task.now.pats.now d.labels.now old new changed

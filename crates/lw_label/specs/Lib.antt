@@ -6,3 +6,4 @@ pub mod Lowering
 pub mod OneVisit
 pub mod Orders
 pub mod Passes
+pub mod Searches

@@ -1,5 +1,5 @@
 -- Labels that are found by one visit of each place.
-use Rattle.std.specs.Prelude.{ℕ, ◌<◌, ◌≤◌, ◌≡◌, ◌⊎◌, ◌/◌, Bool, true, false, List, length, Option, Some, None, slice_set}
+use Rattle.std.specs.Prelude.{ℕ, ◌<◌, ◌≤◌, ◌≡◌, ◌⊎◌, ◌/◌, Bool, List, length, Option, Some, None, slice_set}
 use Rattle.lw_laws.specs.Graphs.{Graph, HoldsPair}
 use Rattle.lw_laws.specs.Costs.{Cost}
 use Rattle.lw_laws.specs.Covers.{Pattern}
@@ -11,9 +11,8 @@ use Rattle.lw_match.specs.Numbers.{number_from, start_of}
 use Rattle.lw_match.specs.Bounds.{BoundsState, AreBounds, AreRows, AreSettledAt, BoundsFit, IsTableBut}
 use Rattle.lw_match.specs.Cutting.{AreKnown, TopsState}
 use Rattle.lw_match.specs.Least.{AreOfCells}
-use Rattle.lw_label.specs.declared.heights.Visit.{Visit}
 use Rattle.lw_label.specs.Heights.{AreSameBut}
-use Rattle.lw_label.specs.Lowering.{AreLowering, IsBounded, LabelState, Lowers, Takes}
+use Rattle.lw_label.specs.Lowering.{AreLowering, IsBounded, LabelState}
 use Rattle.lw_label.specs.Orders.{ArePartsStill, IsStillAt, VisitState, places_of}
 
 -- the marks, where a class gets the cost of a match that was found
@@ -80,33 +79,6 @@ IsNoCheaper mark other =
 pub record IsSearchAround (g : Graph) (cost : Cost) (pats : List Pattern) (b : BoundsState) (tops : TopsState) (marks : List (Option Mark)) (place : ℕ) : Type 0 where
   pub search : IsSearch g cost pats b tops marks
   pub around : AreBoundsAround b g marks place
-
--- what a search at one class does: it lowers the label or not, and no match would lower it then, by a table of bounds, if it is still
-pub record LowersMark (g : Graph) (cost : Cost) (pats : List Pattern) (b : BoundsState) (tops : TopsState) (old new : List (Option Mark)) (class : ℕ) (visit : Visit) : Type 0 where
-  pub known : AreKnown cost pats b.gaps tops
-  pub takes : Takes g cost pats old new visit.lowered
-  pub none : visit.lowered ≡ false → visit.is_still ≡ true
-  pub bounded : visit.is_still ≡ true → AreBounds b g old → IsBounded g cost pats new class
-  pub others : AreSameBut (λ c. c ≡ class) old new
-
--- what a visit of a place does in rounds: only its numbers and labels are others, and some have fallen, or none would
-pub record LowersPair (g : Graph) (cost : Cost) (pats : List Pattern) (tops : TopsState) (old new : LabelState) (place : ℕ) (changed : Bool) : Type 0 where
-  pub search : IsSearch g cost pats new.bounds tops new.marks
-  pub lowers : Lowers g cost pats old new (λ c. c / 2 ≡ place) changed
-  pub others : IsSameBut (λ c. c / 2 ≡ place) old new
-
--- the label of the class has been lowered until no match would lower it
-pub record IsFound (g : Graph) (cost : Cost) (pats : List Pattern) (b : BoundsState) (tops : TopsState) (old new : List (Option Mark)) (class : ℕ) (lowered : Bool) : Type 0 where
-  pub search : IsSearch g cost pats b tops new
-  pub same : lowered ≡ false → new ≡ old
-  pub bounded : IsBounded g cost pats new class
-  pub others : AreSameBut (λ c. c ≡ class) old new
-
--- those of the two classes of the place have been lowered, and no match would lower one if that is told
-pub record ArePairFound (g : Graph) (cost : Cost) (pats : List Pattern) (b : BoundsState) (tops : TopsState) (old new : List (Option Mark)) (place : ℕ) (found : Bool) : Type 0 where
-  pub search : IsSearch g cost pats b tops new
-  pub bounded : found ≡ true → (c : ℕ) → c / 2 ≡ place → IsBounded g cost pats new c
-  pub others : AreSameBut (λ c. c / 2 ≡ place) old new
 
 -- a table with the rows of the graph, and as many marks as classes, where the parts of the place are other places
 pub record AreRowsAround (g : Graph) (b : BoundsState) (marks : List (Option Mark)) (place : ℕ) : Type 0 where

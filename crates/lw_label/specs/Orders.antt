@@ -1,5 +1,5 @@
 -- The order in which the classes of a graph are visited, by places: place p is that of the classes 2p and 2p + 1.
-use Rattle.std.specs.Prelude.{ℕ, ◌<◌, ◌/◌, ◌≡◌, ◌-◌, ◌+◌, ◌*◌, ◌^◌, ◌⊎◌, Bool, true, false, List, length, All, Contains, Some, slice_get, slice_index_or, slice_set}
+use Rattle.std.specs.Prelude.{ℕ, ◌<◌, ◌/◌, ◌≡◌, ◌-◌, ◌+◌, ◌*◌, ◌^◌, ◌⊎◌, Bool, true, false, List, length, All, Contains, IfSome, Some, slice_get, slice_index_or, slice_set}
 use Rattle.std.specs.List.{sum_by}
 use Rattle.lw_laws.specs.Graphs.{Graph, HoldsPair}
 use Rattle.lw_label.specs.declared.order.Walk.{Walk}
@@ -74,6 +74,10 @@ pub record IsVisitOf (g : Graph) (v : VisitState) (n : ℕ) : Type 0 where
 pub record IsPlaceAt (v : VisitState) (number p : ℕ) : Type 0 where
   pub place : slice_get v.order number ≡ Some p
   pub within : p < v.places
+
+-- the place of the visit is still
+abbrev pub IsStillIn : VisitState → ℕ → Type 0
+IsStillIn v number = IfSome (slice_get v.order number) (λ p. slice_index_or v.still p false ≡ true)
 
 -- a place that is not still, but its parts are
 pub record IsReady (g : Graph) (v : VisitState) (place : ℕ) : Type 0 where

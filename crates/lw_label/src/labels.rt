@@ -1,11 +1,13 @@
 ghost use Rattle.std.specs.Prelude.{◌≡◌, ◌<◌, None, IfOk, length, slice_index_or};
 ghost use Rattle.lw_match.specs.Bounds.{BoundsFit, AreBounds};
 ghost use Rattle.lw_match.specs.Least.{AreOfCells};
-ghost use Rattle.lw_label.specs.HeightTables.{AreUnmarked};
+ghost use Rattle.lw_label.specs.HeightTables.{IsUnmarked, MayMark};
 ghost use Rattle.lw_label.specs.Labels.{AreBoundedMarks, AreLeastMarks};
+ghost use Rattle.lw_label.specs.Searches.{HasCells};
 
-use crate::heights::{Given, lower_all_heights, start_heights};
-use crate::lowering::{label_inputs, lower_all, no_marks};
+use crate::heights::{Given, HeightRounds};
+use crate::labelling::{LabelRounds, Labelling, Task};
+use crate::lowering::no_marks;
 use crate::table::{HeightTable, height_table};
 use crate::visits::Visits;
 use lw_graph::Graph;
@@ -91,53 +93,64 @@ pub fn relabel_with_bounds<C: Cost>(
     ensures fits { IfOk result (λ l. BoundsFit l.bounds pats.now graph.now) }
     ensures bounds { IfOk result (λ l. AreBounds l.bounds graph.now l.labels) }
 {
-    let mut labels = no_marks(alloc, graph)?;
-    let mut marks = no_marks(alloc, graph)?;
-    let mut table = height_table(alloc, graph, pats)?;
-    let mut visits = Visits::new(alloc, graph)?;
-    let mut bounds = Bounds::new(alloc, graph, pats, cost)?;
-    mark_all(
-        graph,
-        pats,
-        cost,
-        &mut visits,
-        &mut bounds,
-        &mut table,
-        &mut labels,
-        &mut marks,
-    );
-    let labels = Labels { marks };
-    Ok(BoundedLabels { labels, bounds })
+    let task = Task { graph, pats, cost };
+    let room = Room::new(alloc, &task)?;
+    let mut tops = Tops::new(pats, cost, &room.bounds);
+    Ok(mark_all(&task, room, &mut tops))
+}
+
+/// The memory that labels are found in: all that is filled in.
+#[derive(Drop)]
+struct Room {
+    labels: Vec<Option<Mark>>,
+    marks: Vec<Option<Mark>>,
+    table: Option<HeightTable>,
+    visits: Visits,
+    bounds: Bounds,
+}
+
+impl Room {
+    // No class has a label or a height.
+    fn new<C: Cost>(alloc: Global, task: &Task<C>) -> Result<Room, AllocError>
+        requires { HasCells C.costs task.now }
+        ensures { IfOk result (IsUnmarked task.now) }
+    {
+        let (graph, pats, cost) = (task.graph, task.pats, task.cost);
+        Ok(Room {
+            labels: no_marks(alloc, graph)?,
+            marks: no_marks(alloc, graph)?,
+            table: height_table(alloc, graph, pats)?,
+            visits: Visits::new(alloc, graph)?,
+            bounds: Bounds::new(alloc, graph, pats, cost)?,
+        })
+    }
 }
 
 // Fills in the marks of all classes, by way of their labels.
-fn mark_all<C: Cost>(
-    graph: &Graph,
-    pats: &Patterns,
-    cost: &C,
-    visits: &mut Visits,
-    bounds: &mut Bounds,
-    table: &mut Option<HeightTable>,
-    labels: &mut [Option<Mark>],
-    marks: &mut [Option<Mark>],
-)
-    requires of_cells { AreOfCells (C.costs cost.now).pin_counts pats.now }
-    requires unmarked { AreUnmarked graph.now pats.now visits.old bounds.old table.old labels.old
-        marks.old }
-    ensures { AreBoundedMarks graph.now (C.costs cost.now) pats.now bounds.new marks.new }
+fn mark_all<C: Cost>(task: &Task<C>, room: Room, tops: &mut Tops) -> BoundedLabels
+    requires { MayMark C.costs task.now room tops.old }
+    ensures { AreBoundedMarks task.now.graph.now (C.costs task.now.cost.now) task.now.pats.now
+        result.bounds result.labels }
 {
-    let _ = graph.classes();
-    label_inputs(graph, cost, labels);
-    let mut tops = Tops::new(pats, cost, bounds);
-    lower_all(graph, pats, cost, visits, bounds, &mut tops, labels);
-    start_heights(graph, labels, table, marks);
-    visits.restart();
-    let given = Given {
-        graph,
-        pats,
-        cost,
+    let (bounds, visits, labels) = (room.bounds, room.visits, room.labels);
+    let (table, marks) = (room.table, room.marks);
+    let labelling = Labelling {
         bounds,
-        labels,
+        tops,
+        marks: labels,
     };
-    lower_all_heights(&given, &mut tops, table, visits, marks);
+    let mut rounds = LabelRounds { visits, labelling };
+    rounds.lower_all(task);
+    let LabelRounds { visits, labelling } = rounds;
+    let (bounds, labels, tops) = (labelling.bounds, labelling.marks, labelling.tops);
+    let given = Given {
+        task,
+        bounds: &bounds,
+        labels: &labels,
+    };
+    let mut rounds = HeightRounds::new(&given, visits, table, marks, tops);
+    rounds.lower_all(&given);
+    let heights = rounds.heights;
+    let labels = Labels::from_marks(heights.marks);
+    BoundedLabels { labels, bounds }
 }

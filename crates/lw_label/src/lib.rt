@@ -12,6 +12,7 @@
 
 mod delay;
 mod heights;
+mod labelling;
 mod labels;
 mod laws;
 mod lowering;

@@ -1,16 +1,15 @@
 // Labels by one visit of each place.
 ghost use Rattle.std.specs.Prelude.{◌≡◌, ◌<◌, ◌/◌, ◌⊎◌, false, length};
 ghost use Rattle.lw_match.specs.Bounds.{AreRows, AreSettledAt, AreZero, IsTableBut};
-ghost use Rattle.lw_label.specs.Lowering.{state};
-ghost use Rattle.lw_label.specs.OneVisit.{ArePairFound, AreRowsAround, AreSetAt, IsFirstRound, IsFound, IsNoCheaper, IsRound, IsSearchAround};
+ghost use Rattle.lw_label.specs.OneVisit.{AreRowsAround, AreSetAt, IsNoCheaper};
 ghost use Rattle.lw_label.specs.Orders.{IsStillAt, places_of};
+ghost use Rattle.lw_label.specs.Searches.{AreFirstRounds, ArePairFound, AreRounds, IsFound, IsFoundBeside, MayLowerAround, SetsNumbers};
 
 use crate::heights::first_of;
-use crate::lowering::lower_mark;
+use crate::labelling::{LabelRounds, Labelling, Task};
 use crate::visits::Visits;
 use lw_graph::Graph;
-use lw_match::{Bounds, Cost, Mark, Tops};
-use lw_pattern::Patterns;
+use lw_match::{Bounds, Cost, Mark};
 use lw_pool::ClassId;
 
 // Gives a class the numbers that its pairs give.
@@ -35,30 +34,6 @@ pub(crate) fn set_pair(graph: &Graph, bounds: &mut Bounds, marks: &[Option<Mark>
     set_class(graph, bounds, marks, ClassId(place * 2));
 }
 
-// Lowers the label of a class until no match would lower it, and says whether it did.
-fn lower_whole<C: Cost>(
-    graph: &Graph,
-    pats: &Patterns,
-    cost: &C,
-    bounds: &Bounds,
-    tops: &mut Tops,
-    marks: &mut [Option<Mark>],
-    class: ClassId,
-) -> bool
-    requires class { class.0 < length graph.now.pairs }
-    requires at { IsSearchAround graph.now (C.costs cost.now) pats.now bounds.now tops.old
-        marks.old (class.0 / 2) }
-    ensures { IsFound graph.now (C.costs cost.now) pats.now bounds.now tops.new marks.old
-        marks.new class.0 result }
-{
-    let first = lower_mark(graph, pats, cost, bounds, tops, marks, class);
-    if first.is_still {
-        return first.lowered;
-    }
-    while !lower_mark(graph, pats, cost, bounds, tops, marks, class).is_still {}
-    true
-}
-
 // Whether a class with one mark, if it was lowered, may be the pin of a match that lowers the label
 // of a class with the other.
 fn may_lower(lowered: bool, mark: Option<Mark>, other: Option<Mark>) -> bool
@@ -74,89 +49,6 @@ fn may_lower(lowered: bool, mark: Option<Mark>, other: Option<Mark>) -> bool
     }
 }
 
-// Finds the labels of the two classes of a place, given those of its parts, and says whether no
-// match would lower one then. A class is looked at again where the other one, which was lowered
-// since, may be the pin of a match that lowers it.
-fn label_pair<C: Cost>(
-    graph: &Graph,
-    pats: &Patterns,
-    cost: &C,
-    bounds: &Bounds,
-    tops: &mut Tops,
-    marks: &mut [Option<Mark>],
-    place: u32,
-) -> bool
-    requires place { place < places_of graph.now }
-    requires at { IsSearchAround graph.now (C.costs cost.now) pats.now bounds.now tops.old
-        marks.old place }
-    ensures { ArePairFound graph.now (C.costs cost.now) pats.now bounds.now tops.new marks.old
-        marks.new place result }
-{
-    let class = first_of(graph, marks, place);
-    let other = class.flip();
-    lower_whole(graph, pats, cost, bounds, tops, marks, class);
-    let lowered = lower_whole(graph, pats, cost, bounds, tops, marks, other);
-    if !may_lower(lowered, marks[other.0 as usize], marks[class.0 as usize]) {
-        return true;
-    }
-    let lowered = lower_whole(graph, pats, cost, bounds, tops, marks, class);
-    if !may_lower(lowered, marks[class.0 as usize], marks[other.0 as usize]) {
-        return true;
-    }
-    let lowered = lower_whole(graph, pats, cost, bounds, tops, marks, other);
-    !may_lower(lowered, marks[other.0 as usize], marks[class.0 as usize])
-}
-
-// Finds the labels of the place of a visit, if its parts are still.
-fn label_place<C: Cost>(
-    graph: &Graph,
-    pats: &Patterns,
-    cost: &C,
-    visits: &mut Visits,
-    bounds: &mut Bounds,
-    tops: &mut Tops,
-    marks: &mut [Option<Mark>],
-    number: usize,
-)
-    requires number { number < length visits.old.order }
-    requires first { IsFirstRound graph.now (C.costs cost.now) pats.now visits.old
-        (state bounds.old marks.old) tops.old }
-    ensures order { visits.new.order ≡ visits.old.order }
-    ensures first { IsFirstRound graph.now (C.costs cost.now) pats.now visits.new
-        (state bounds.new marks.new) tops.new }
-{
-    let Some(place) = visits.ready(graph, number) else {
-        return;
-    };
-    set_pair(graph, bounds, marks, place);
-    if label_pair(graph, pats, cost, bounds, tops, marks, place) {
-        visits.keep(graph, place);
-    }
-}
-
-// Visits each place once. Where its parts are still, as all are where no cycle leads back to a
-// place, its labels are found to their end. All numbers are 0 until then, so that the table is one
-// of bounds at any time.
-pub(crate) fn label_places<C: Cost>(
-    graph: &Graph,
-    pats: &Patterns,
-    cost: &C,
-    visits: &mut Visits,
-    bounds: &mut Bounds,
-    tops: &mut Tops,
-    marks: &mut [Option<Mark>],
-)
-    requires round { IsRound graph.now (C.costs cost.now) pats.now visits.old
-        (state bounds.old marks.old) tops.old }
-    requires zero { AreZero bounds.old.numbers }
-    ensures { IsRound graph.now (C.costs cost.now) pats.now visits.new
-        (state bounds.new marks.new) tops.new }
-{
-    for number in 0..visits.len() {
-        label_place(graph, pats, cost, visits, bounds, tops, marks, number);
-    }
-}
-
 // Puts the numbers of all classes back whose places are not still, so that they can fall.
 pub(crate) fn forget_moving(graph: &Graph, visits: &Visits, bounds: &mut Bounds)
     requires places { visits.now.places ≡ places_of graph.now }
@@ -166,6 +58,94 @@ pub(crate) fn forget_moving(graph: &Graph, visits: &Visits, bounds: &mut Bounds)
     for number in 0..graph.classes() {
         if !visits.is_still(ClassId(number)) {
             bounds.forget(ClassId(number));
+        }
+    }
+}
+
+impl Labelling<'_> {
+    // Gives the two classes of a place the numbers that their pairs give.
+    fn set_pair(&mut self, graph: &Graph, place: u32)
+        requires place { place < places_of graph.now }
+        requires around { AreRowsAround graph.now self.old.bounds self.old.marks.items place }
+        ensures { SetsNumbers graph.now self.old self.new place }
+    {
+        set_pair(graph, &mut self.bounds, &self.marks, place);
+    }
+
+    // Lowers the label of a class until no match would lower it, and says whether it did.
+    fn lower_whole<C: Cost>(&mut self, task: &Task<C>, class: ClassId) -> bool
+        requires place { class.0 / 2 < places_of task.now.graph.now }
+        requires may { MayLowerAround C.costs task.now self.old (class.0 / 2) }
+        ensures { IsFound C.costs task.now self.old self.new class.0 result }
+    {
+        let first = self.lower_mark(task, class);
+        if first.is_still {
+            return first.lowered;
+        }
+        while !self.lower_mark(task, class).is_still {}
+        true
+    }
+
+    // The same, and says whether the class may now be the pin of a match that lowers the label of
+    // its complement.
+    fn lower_beside<C: Cost>(&mut self, task: &Task<C>, class: ClassId) -> bool
+        requires place { class.0 / 2 < places_of task.now.graph.now }
+        requires may { MayLowerAround C.costs task.now self.old (class.0 / 2) }
+        ensures { IsFoundBeside C.costs task.now self.old self.new class.0 result }
+    {
+        let lowered = self.lower_whole(task, class);
+        may_lower(lowered, self.mark(class), self.mark(class.flip()))
+    }
+
+    // Finds the labels of the two classes of a place, given those of its parts, and says whether no
+    // match would lower one then. A class is looked at again where the other one, which was lowered
+    // since, may be the pin of a match that lowers it.
+    fn label_pair<C: Cost>(&mut self, task: &Task<C>, place: u32) -> bool
+        requires place { place < places_of task.now.graph.now }
+        requires may { MayLowerAround C.costs task.now self.old place }
+        ensures { ArePairFound C.costs task.now self.old self.new place result }
+    {
+        let class = first_of(task.graph, &self.marks, place);
+        let other = class.flip();
+        self.lower_whole(task, class);
+        if !self.lower_beside(task, other) {
+            return true;
+        }
+        if !self.lower_beside(task, class) {
+            return true;
+        }
+        !self.lower_beside(task, other)
+    }
+}
+
+impl LabelRounds<'_> {
+    // Finds the labels of the place of a visit, if its parts are still.
+    fn label_place<C: Cost>(&mut self, task: &Task<C>, number: usize)
+        requires number { number < length self.old.visits.order }
+        requires first { AreFirstRounds C.costs task.now self.old }
+        ensures order { self.new.visits.order ≡ self.old.visits.order }
+        ensures first { AreFirstRounds C.costs task.now self.new }
+    {
+        let graph = task.graph;
+        let Some(place) = self.visits.ready(graph, number) else {
+            return;
+        };
+        self.labelling.set_pair(graph, place);
+        if self.labelling.label_pair(task, place) {
+            self.visits.keep(graph, place);
+        }
+    }
+
+    // Visits each place once. Where its parts are still, as all are where no cycle leads back to a
+    // place, its labels are found to their end. All numbers are 0 until then, so that the table is
+    // one of bounds at any time.
+    pub(crate) fn label_places<C: Cost>(&mut self, task: &Task<C>)
+        requires rounds { AreRounds C.costs task.now self.old }
+        requires zero { AreZero self.old.labelling.bounds.numbers }
+        ensures { AreRounds C.costs task.now self.new }
+    {
+        for number in 0..self.visits.len() {
+            self.label_place(task, number);
         }
     }
 }

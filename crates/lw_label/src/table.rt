@@ -1,7 +1,7 @@
 // A table of bounds on heights.
-ghost use Rattle.std.specs.Prelude.{◌≡◌, ◌<◌, false, IfOk, IfSome, length, option_map, slice_index_or, slice_set};
+ghost use Rattle.std.specs.Prelude.{◌≡◌, ◌<◌, IfOk, IfSome, length, option_map, slice_set};
 ghost use Rattle.lw_match.specs.HeightBounds.{height_mark};
-ghost use Rattle.lw_label.specs.HeightTables.{HasHeightsOf, IsHeightTable, IsNewTable};
+ghost use Rattle.lw_label.specs.HeightTables.{IsNewTable, MaySetRows, SetsRows};
 ghost use Rattle.lw_label.specs.Lowering.{state};
 ghost use Rattle.lw_label.specs.OneVisit.{AreRowsAround, AreSetAt};
 ghost use Rattle.lw_label.specs.Orders.{places_of};
@@ -126,23 +126,16 @@ pub(crate) fn set_if_still<C: Cost>(
     table: &mut Option<HeightTable>,
     place: u32,
 )
-    requires place { place < places_of given.now.graph.now }
-    requires places { visits.now.places ≡ places_of given.now.graph.now }
-    requires moving { slice_index_or visits.now.still place false ≡ false }
-    requires table { IfSome table.old
-        (IsHeightTable given.now.graph.now given.now.pats.now visits.now.still) }
-    ensures table { IfSome table.new
-        (IsHeightTable given.now.graph.now given.now.pats.now visits.now.still) }
-    ensures heights { (marks : _) → IfSome table.old (HasHeightsOf marks) →
-        IfSome table.new (HasHeightsOf marks) }
+    requires { MaySetRows given.now visits.now table.old place }
+    ensures { SetsRows given.now visits.now table.old table.new }
 {
     let Some(table) = table else {
         return;
     };
-    if !visits.has_still_parts(given.graph, place) {
+    if !visits.has_still_parts(given.task.graph, place) {
         return;
     }
-    table.set_rows(given.graph, place);
+    table.set_rows(given.task.graph, place);
 }
 
 // Gives a class the height of its mark.

@@ -1,6 +1,6 @@
 // Which classes are visited again.
 ghost use Rattle.std.specs.Prelude.{◌≡◌, ◌<◌, ◌*◌, ◌/◌, ℕ, true, false, IfOk, IfSome, Some, None, length, replicate, slice_get, slice_index_or};
-ghost use Rattle.lw_label.specs.Orders.{ArePartsStill, AreVisitsAfter, IsClassAmong, IsOrder, IsPlaceAmong, IsPlaceAt, IsReady, IsVisitOf, places_of};
+ghost use Rattle.lw_label.specs.Orders.{ArePartsStill, AreVisitsAfter, IsClassAmong, IsOrder, IsPlaceAmong, IsPlaceAt, IsReady, IsStillIn, IsVisitOf, places_of};
 
 use crate::order::order_of;
 use lw_graph::Graph;
@@ -192,9 +192,7 @@ impl Visits {
         ensures at { IfSome result (IsPlaceAt self.old number) }
         ensures moving { IfSome result (λ place.
             slice_index_or self.old.still place false ≡ false) }
-        ensures whole { whole ≡ true → result ≡ None →
-            IfSome (slice_get self.old.order number) (λ place.
-            slice_index_or self.old.still place false ≡ true) }
+        ensures whole { whole ≡ true → result ≡ None → IsStillIn self.old number }
     {
         if self.still[self.order[number] as usize] {
             return None;
