@@ -5,7 +5,7 @@ use Rattle.lw_laws.specs.Forms.{Form, conjunction, has_clash}
 use Rattle.lw_laws.specs.Listings.{AreDistinct}
 use Rattle.lw_form.specs.declared.conjunction.Step.{Step}
 use Rattle.lw_form.specs.declared.conjunction.Step.TheVariants.{Done, Again}
-use Rattle.lw_form.specs.Limits.{IsWidth, most_operands}
+use Rattle.lw_form.specs.Limits.{most_operands}
 use Rattle.lw_form.specs.Tables.{Table, made, forms_at, AreBelow, IsMadeAs, AreMadeAs}
 
 abbrev pub without_number : ℕ → List ℕ → List ℕ
@@ -31,20 +31,13 @@ pub record AreClean (fs : List Form) : Type 0 where
   pub distinct : AreDistinct fs
   pub clashless : has_clash fs ≡ false
 
--- the And of these forms can be made, of so many operands at a time
-pub record CanBeJoined (width : ℕ) (table : Table) (forms : List ℕ) : Type 0 where
-  pub is_width : IsWidth width
-  pub below : AreBelow (length (made table)) forms
-
--- and these are what is kept of some forms, with whether they clash
-pub record CanBeCombined (width : ℕ) (table : Table) (numbers : List ℕ) (clashing : Bool) : Type 0 where
-  pub is_width : IsWidth width
+-- these are what is kept of some forms, with whether they clash
+pub record CanBeCombined (table : Table) (numbers : List ℕ) (clashing : Bool) : Type 0 where
   pub kept : (forms : List ℕ) × AreBelow (length (made table)) forms × (numbers ≡ kept_numbers forms)
   pub clash : clashing ≡ numbers_clash numbers
 
--- and these are one form or more that differ and don't clash
-pub record CanBeGrouped (width : ℕ) (table : Table) (forms : List ℕ) : Type 0 where
-  pub is_width : IsWidth width
+-- these are one form or more that differ and don't clash
+pub record CanBeGrouped (table : Table) (forms : List ℕ) : Type 0 where
   pub some : 1 ≤ length forms
   pub below : AreBelow (length (made table)) forms
   pub clean : AreClean (forms_at (made table) forms)

@@ -9,7 +9,7 @@ use Rattle.lw_form.specs.declared.factoring.Literal.{Literal}
 use Rattle.lw_form.specs.declared.factoring.Task.{Task}
 use Rattle.lw_form.specs.declared.factoring.Task.TheVariants.{Factor, Join}
 use Rattle.lw_form.specs.declared.factoring.Work.{Work}
-use Rattle.lw_form.specs.Limits.{IsWidth}
+use Rattle.lw_form.specs.declared.maker.Fanins.{Fanins}
 use Rattle.lw_form.specs.Products.{HaveColumns}
 use Rattle.lw_form.specs.Tables.{Table, made, AreBelow, HasMore, forms_at}
 
@@ -74,14 +74,13 @@ weights [] = 0
 weights (t ∷ tasks) = weight t + weights tasks
 
 -- the task is done: the tasks lead to the same forms, and less is left to do
-pub record DoesTask (width : ℕ) (fanins : List ℕ) (old new : Table) (before after : Work) (task : Task) : Type 0 where
-  pub working : (fs goal : List Form) → IsWorking width fs fanins old (before.tasks.items ++ task ∷ []) before.done.items goal → IsWorking width fs fanins new after.tasks.items after.done.items goal
+pub record DoesTask (of : Fanins) (old new : Table) (before after : Work) (task : Task) : Type 0 where
+  pub working : (fs goal : List Form) → IsWorking of.maker.now.width fs of.forms.now old (before.tasks.items ++ task ∷ []) before.done.items goal → IsWorking of.maker.now.width fs of.forms.now new after.tasks.items after.done.items goal
   pub less : weights after.tasks.items < weights before.tasks.items + weight task
   pub more : HasMore (made old) (made new)
 
 -- two forms are there, which can be joined under a literal
-pub record CanJoin (width : ℕ) (table : Table) (l : ℕ) (done : List ℕ) : Type 0 where
-  pub is_width : IsWidth width
+pub record CanJoin (table : Table) (l : ℕ) (done : List ℕ) : Type 0 where
   pub two : 2 ≤ length done
   pub literal : l / 2 < length (made table)
   pub below : AreBelow (length (made table)) done

@@ -9,8 +9,8 @@ use Rattle.lw_laws.specs.Occurring.{add_signals}
 use Rattle.lw_laws.specs.Signals.{Signal, sum_of_products, factored}
 use Rattle.lw_laws.specs.SignalValues.{form_of}
 use Rattle.lw_form.specs.declared.fault.FormFault.{FormFault}
+use Rattle.lw_form.specs.declared.maker.Fanins.{Fanins}
 use Rattle.lw_form.specs.declared.occurring.Occurring.{Occurring}
-use Rattle.lw_form.specs.Limits.{IsWidth}
 use Rattle.lw_form.specs.Listed.{bases_of, IsListed, IsTooLong}
 use Rattle.lw_form.specs.Tables.{Table, made, AreBelow, HasMore, IsMadeAs, forms_at}
 
@@ -35,9 +35,9 @@ abbrev pub AreNodes : ℕ → List Node → Type 0
 AreNodes count nodes = (j : ℕ) (node : Node) → slice_get nodes j ≡ Some node → All (λ (net : NetId). net.0 < count + j) node.fanins × All (λ (row : List ℕ). length row ≡ length node.fanins) node.rows
 
 -- these are the sum of products and the factored form of some rows
-pub record AreBothForms (width : ℕ) (old new : Table) (fanins : List ℕ) (rows : List (List (Option Bool))) (s f : ℕ) : Type 0 where
-  pub sop : IsMadeAs old new s (sum_of_products width (forms_at (made old) fanins) rows)
-  pub fac : IsMadeAs old new f (factored width (forms_at (made old) fanins) rows)
+pub record AreBothForms (of : Fanins) (old new : Table) (rows : List (List (Option Bool))) (s f : ℕ) : Type 0 where
+  pub sop : IsMadeAs old new s (sum_of_products of.maker.now.width (forms_at (made old) of.forms.now) rows)
+  pub fac : IsMadeAs old new f (factored of.maker.now.width (forms_at (made old) of.forms.now) rows)
 
 -- these are the signals of the nets so far
 abbrev pub HasSignals : Occurring → List Signal → Type 0
@@ -50,15 +50,13 @@ pub record CanAddNet (all : Occurring) (s f : ℕ) : Type 0 where
   pub fac : f / 2 < length (made all.table)
 
 -- the net of a node can be added
-pub record CanAddNode (width : ℕ) (all : Occurring) (node : Node) : Type 0 where
-  pub is_width : IsWidth width
+pub record CanAddNode (all : Occurring) (node : Node) : Type 0 where
   pub listed : (signals : List Signal) × HasSignals all signals
   pub fanins : All (λ (net : NetId). net.0 < length all.sops.items) node.fanins
   pub columns : All (λ (row : List ℕ). length row ≡ length node.fanins) node.rows
 
 -- and so can those of some nodes
-pub record CanAddNodes (width : ℕ) (all : Occurring) (ns : List Node) : Type 0 where
-  pub is_width : IsWidth width
+pub record CanAddNodes (all : Occurring) (ns : List Node) : Type 0 where
   pub listed : (signals : List Signal) × HasSignals all signals
   pub nodes : AreNodes (length all.sops.items) ns
 

@@ -1,6 +1,6 @@
 -- Literals over numbers of forms, and what holds of rows.
 use Rattle.std.specs.Prelude.{ℕ, ◌≡◌, Bool, true, false, Option, Some, None, List, [], ◌∷◌, length, bit_xor}
-use Rattle.lw_form.specs.Limits.{IsWidth}
+use Rattle.lw_form.specs.declared.maker.Fanins.{Fanins}
 use Rattle.lw_form.specs.Tables.{Table, made, AreBelow}
 
 abbrev pub signed_number : Bool → ℕ → ℕ
@@ -19,7 +19,6 @@ HaveColumns columns [] = Unit {0}
 HaveColumns columns (row ∷ rows) = (length row ≡ columns) × HaveColumns columns rows
 
 -- forms can be made of these rows, which have a sign for each fan-in
-pub record AreRowsOver (width : ℕ) (table : Table) (fanins : List ℕ) (rows : List (List (Option Bool))) : Type 0 where
-  pub is_width : IsWidth width
-  pub below : AreBelow (length (made table)) fanins
-  pub columns : HaveColumns (length fanins) rows
+pub record AreRowsOver (of : Fanins) (table : Table) (rows : List (List (Option Bool))) : Type 0 where
+  pub below : AreBelow (length (made table)) of.forms.now
+  pub columns : HaveColumns (length of.forms.now) rows

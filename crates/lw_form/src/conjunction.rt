@@ -2,11 +2,12 @@
 ghost use Rattle.std.specs.Prelude.{◌≡◌, ◌==◌, ◌≤◌, ℕ, map, length, bit_xor, List, IfOk};
 ghost use Rattle.std.specs.List.{list_any};
 ghost use Rattle.lw_laws.specs.Forms.{conjunction as and_of_forms, disjunction as or_of_forms, runs};
-ghost use Rattle.lw_form.specs.Conjunctions.{kept_numbers, numbers_clash, IsStep, CanBeCombined, CanBeGrouped, CanBeJoined, CanBeOneAnd};
+ghost use Rattle.lw_form.specs.Conjunctions.{kept_numbers, numbers_clash, IsStep, CanBeCombined, CanBeGrouped, CanBeOneAnd};
 ghost use Rattle.lw_form.specs.Limits.{most_operands};
 ghost use Rattle.lw_form.specs.Tables.{made, forms_at, AreBelow, IsMadeAs, AreMadeAs};
 
 use crate::FormIds;
+use crate::maker::Maker;
 use crate::table::FormTable;
 use indexmap::IndexSet;
 use lw_pool::FormId;
@@ -103,116 +104,6 @@ pub(crate) fn operands(alloc: Global, forms: &[u32]) -> FormIds
     ids
 }
 
-// The And of one form or more that differ and don't clash.
-fn joined(alloc: Global, table: &mut FormTable, forms: &[u32]) -> Result<u32, AllocError>
-    requires { CanBeOneAnd table.old forms.now }
-    ensures { IfOk result (λ form. (width : ℕ) → 2 ≤ width → length forms.now ≤ width →
-        IsMadeAs table.old table.new form
-        (and_of_forms width (forms_at (made table.old) forms.now))) }
-{
-    if forms.len() == 1 {
-        return Ok(forms[0]);
-    }
-    let place = table.add(operands(alloc, forms))?;
-    let _count = table.len();
-    Ok(2 * place)
-}
-
-// The Ands of the runs of forms that differ and don't clash.
-fn grouped(
-    alloc: Global,
-    table: &mut FormTable,
-    width: usize,
-    forms: &[u32],
-) -> Result<Vec<u32>, AllocError>
-    requires { CanBeGrouped width table.old forms.now }
-    ensures { IfOk result (λ groups. AreMadeAs table.old table.new groups.items
-        (map (and_of_forms width) (runs width (forms_at (made table.old) forms.now)))) }
-{
-    let mut groups = Vec::new(alloc);
-    let mut rest = forms;
-    'runs: while rest.len() > width {
-        groups.push(joined(alloc, table, &rest[..width])?)?;
-        rest = &rest[width..];
-    }
-    groups.push(joined(alloc, table, rest)?)?;
-    Ok(groups)
-}
-
-// The And of what is kept of some forms, or fewer forms with the same And.
-fn combined(
-    alloc: Global,
-    table: &mut FormTable,
-    width: usize,
-    kept: &[u32],
-    clash: bool,
-) -> Result<Step, AllocError>
-    requires { CanBeCombined width table.old kept.now clash }
-    ensures { IfOk result (λ step. (forms : List ℕ) → AreBelow (length (made table.old)) forms →
-        kept.now ≡ kept_numbers forms → IsStep width table.old table.new forms step) }
-{
-    let _count = table.len();
-    if clash {
-        return Ok(Step::Done(FALSE));
-    }
-    if kept.is_empty() {
-        return Ok(Step::Done(TRUE));
-    }
-    if kept.len() <= width {
-        let form = joined(alloc, table, kept)?;
-        return Ok(Step::Done(form));
-    }
-    let groups = grouped(alloc, table, width, kept)?;
-    Ok(Step::Again(groups))
-}
-
-// The And of some forms, or fewer forms with the same And.
-fn shortened(
-    alloc: Global,
-    table: &mut FormTable,
-    width: usize,
-    forms: &[u32],
-) -> Result<Step, AllocError>
-    requires { CanBeJoined width table.old forms.now }
-    ensures { IfOk result (λ step. IsStep width table.old table.new forms.now step) }
-{
-    if forms.len() <= FEW {
-        let kept = few_kept(alloc, forms)?;
-        let clash = few_clash(&kept);
-        let step = combined(alloc, table, width, &kept, clash);
-        drop(kept);
-        return step;
-    }
-    let kept = kept(alloc, forms)?;
-    let clash = clashes(&kept);
-    let step = combined(alloc, table, width, kept.as_slice(), clash);
-    drop(kept);
-    step
-}
-
-// The And of some forms.
-pub(crate) fn conjunction(
-    alloc: Global,
-    table: &mut FormTable,
-    width: usize,
-    forms: &[u32],
-) -> Result<u32, AllocError>
-    requires { CanBeJoined width table.old forms.now }
-    ensures { IfOk result (λ form. IsMadeAs table.old table.new form
-        (and_of_forms width (forms_at (made table.old) forms.now))) }
-{
-    let mut left = match shortened(alloc, table, width, forms)? {
-        Step::Done(form) => return Ok(form),
-        Step::Again(groups) => groups,
-    };
-    'steps: loop {
-        match shortened(alloc, table, width, &left)? {
-            Step::Done(form) => return Ok(form),
-            Step::Again(groups) => left = groups,
-        }
-    }
-}
-
 // The complements of some forms.
 fn complements(alloc: Global, forms: &[u32]) -> Result<SmallVec<u32, 8>, AllocError>
     ensures { IfOk result (λ others. others.items ≡ map (λ f. bit_xor f 1) forms.now) }
@@ -220,23 +111,118 @@ fn complements(alloc: Global, forms: &[u32]) -> Result<SmallVec<u32, 8>, AllocEr
     forms.iter().map(|form| *form ^ 1).collect(alloc)
 }
 
-// The Or of some forms.
-pub(crate) fn disjunction(
-    alloc: Global,
-    table: &mut FormTable,
-    width: usize,
-    forms: &[u32],
-) -> Result<u32, AllocError>
-    requires { CanBeJoined width table.old forms.now }
-    ensures { IfOk result (λ form. IsMadeAs table.old table.new form
-        (or_of_forms width (forms_at (made table.old) forms.now))) }
-{
-    let _count = table.len();
-    if forms.len() == 1 {
-        return Ok(forms[0]);
+impl Maker {
+    // The And of one form or more that differ and don't clash.
+    fn joined(&self, table: &mut FormTable, forms: &[u32]) -> Result<u32, AllocError>
+        requires { CanBeOneAnd table.old forms.now }
+        ensures { IfOk result (λ form. (width : ℕ) → 2 ≤ width → length forms.now ≤ width →
+            IsMadeAs table.old table.new form
+            (and_of_forms width (forms_at (made table.old) forms.now))) }
+    {
+        if forms.len() == 1 {
+            return Ok(forms[0]);
+        }
+        let place = table.add(operands(self.alloc, forms))?;
+        let _count = table.len();
+        Ok(2 * place)
     }
-    let none = complements(alloc, forms)?;
-    let all = conjunction(alloc, table, width, &none)?;
-    let _more = table.len();
-    Ok(all ^ 1)
+
+    // The Ands of the runs of forms that differ and don't clash.
+    fn grouped(&self, table: &mut FormTable, forms: &[u32]) -> Result<Vec<u32>, AllocError>
+        requires { CanBeGrouped table.old forms.now }
+        ensures { IfOk result (λ groups. AreMadeAs table.old table.new groups.items
+            (map (and_of_forms self.now.width)
+            (runs self.now.width (forms_at (made table.old) forms.now)))) }
+    {
+        let mut groups = Vec::new(self.alloc);
+        let mut rest = forms;
+        'runs: while rest.len() > self.width {
+            groups.push(self.joined(table, &rest[..self.width])?)?;
+            rest = &rest[self.width..];
+        }
+        groups.push(self.joined(table, rest)?)?;
+        Ok(groups)
+    }
+
+    // The And of what is kept of some forms, or fewer forms with the same And.
+    fn combined(&self, table: &mut FormTable, kept: &[u32], clash: bool) -> Result<Step, AllocError>
+        requires { CanBeCombined table.old kept.now clash }
+        ensures { IfOk result (λ step. (forms : List ℕ) → AreBelow (length (made table.old)) forms →
+            kept.now ≡ kept_numbers forms →
+            IsStep self.now.width table.old table.new forms step) }
+    {
+        let _count = table.len();
+        if clash {
+            return Ok(Step::Done(FALSE));
+        }
+        if kept.is_empty() {
+            return Ok(Step::Done(TRUE));
+        }
+        if kept.len() <= self.width {
+            return Ok(Step::Done(self.joined(table, kept)?));
+        }
+        Ok(Step::Again(self.grouped(table, kept)?))
+    }
+
+    // The And of some forms, or fewer forms with the same And.
+    fn shortened(&self, table: &mut FormTable, forms: &[u32]) -> Result<Step, AllocError>
+        requires { AreBelow (length (made table.old)) forms.now }
+        ensures { IfOk result (λ step.
+            IsStep self.now.width table.old table.new forms.now step) }
+    {
+        if forms.len() <= FEW {
+            let kept = few_kept(self.alloc, forms)?;
+            let clash = few_clash(&kept);
+            let step = self.combined(table, &kept, clash);
+            drop(kept);
+            return step;
+        }
+        let kept = kept(self.alloc, forms)?;
+        let clash = clashes(&kept);
+        let step = self.combined(table, kept.as_slice(), clash);
+        drop(kept);
+        step
+    }
+
+    /// The And of some forms.
+    pub(crate) fn conjunction(
+        &self,
+        table: &mut FormTable,
+        forms: &[u32],
+    ) -> Result<u32, AllocError>
+        requires { AreBelow (length (made table.old)) forms.now }
+        ensures { IfOk result (λ form. IsMadeAs table.old table.new form
+            (and_of_forms self.now.width (forms_at (made table.old) forms.now))) }
+    {
+        let mut left = match self.shortened(table, forms)? {
+            Step::Done(form) => return Ok(form),
+            Step::Again(groups) => groups,
+        };
+        'steps: loop {
+            match self.shortened(table, &left)? {
+                Step::Done(form) => return Ok(form),
+                Step::Again(groups) => left = groups,
+            }
+        }
+    }
+
+    /// The Or of some forms.
+    pub(crate) fn disjunction(
+        &self,
+        table: &mut FormTable,
+        forms: &[u32],
+    ) -> Result<u32, AllocError>
+        requires { AreBelow (length (made table.old)) forms.now }
+        ensures { IfOk result (λ form. IsMadeAs table.old table.new form
+            (or_of_forms self.now.width (forms_at (made table.old) forms.now))) }
+    {
+        let _count = table.len();
+        if forms.len() == 1 {
+            return Ok(forms[0]);
+        }
+        let none = complements(self.alloc, forms)?;
+        let all = self.conjunction(table, &none)?;
+        let _more = table.len();
+        Ok(all ^ 1)
+    }
 }

@@ -3,12 +3,11 @@ ghost use Rattle.std.specs.Prelude.{◌≡◌, ◌<◌, ◌≤◌, ◌++◌, [],
 ghost use Rattle.lw_laws.specs.Forms.{Form};
 ghost use Rattle.lw_laws.specs.Signals.{factored as factored_form, count_having, has, cleared, most_common, shared_literal};
 ghost use Rattle.lw_form.specs.Factoring.{plain_literal, plain_choice, CanJoin, DoesTask, IsWorking, Joins};
-ghost use Rattle.lw_form.specs.Limits.{IsWidth};
 ghost use Rattle.lw_form.specs.Products.{AreRowsOver};
 ghost use Rattle.lw_form.specs.Tables.{made, forms_at, IsMadeAs};
 
-use crate::conjunction::{conjunction, disjunction};
-use crate::products::{signed, sum_of_products};
+use crate::maker::{Fanins, Maker};
+use crate::products::signed;
 use crate::row::Row;
 use crate::table::FormTable;
 use std::alloc::{AllocError, Global};
@@ -154,33 +153,6 @@ fn push_cut(tasks: &mut Vec<Task>, literal: u32, cut: Cut) -> Result<(), AllocEr
     Ok(())
 }
 
-// Begins to factor some rows: sums them up where no literal is shared, and else cuts them.
-fn begin(
-    alloc: Global,
-    table: &mut FormTable,
-    width: usize,
-    fanins: &[u32],
-    rows: Vec<Row>,
-    work: &mut Work,
-) -> Result<(), AllocError>
-    requires { AreRowsOver width table.old fanins.now rows.items }
-    ensures { OnOk result
-        (DoesTask width fanins.now table.old table.new work.old work.new (Task.Factor rows)) }
-{
-    let _count = table.len();
-    let literal = match shared(&rows, fanins.len()) {
-        Some(literal) => literal,
-        None => {
-            let form = sum_of_products(alloc, table, width, fanins, &rows)?;
-            work.done.push(form)?;
-            return Ok(());
-        }
-    };
-    let form = signed(fanins[literal.column], literal.sign);
-    let cut = cut_by(alloc, rows, literal)?;
-    push_cut(&mut work.tasks, form, cut)
-}
-
 // The form made last.
 fn last(done: &mut Vec<u32>) -> u32
     requires { 1 ≤ length done.old.items }
@@ -192,67 +164,74 @@ fn last(done: &mut Vec<u32>) -> u32
     }
 }
 
-// Joins the two forms made last: the Or of the last, and of the And of the literal and the one
-// before.
-fn join(
-    alloc: Global,
-    table: &mut FormTable,
-    width: usize,
-    literal: u32,
-    work: &mut Work,
-) -> Result<(), AllocError>
-    requires { CanJoin width table.old literal work.old.done.items }
-    ensures { OnOk result (Joins width table.old table.new work.old work.new literal) }
-{
-    let others = last(&mut work.done);
-    let having = last(&mut work.done);
-    let both = conjunction(alloc, table, width, &[literal, having])?;
-    let form = disjunction(alloc, table, width, &[both, others])?;
-    work.done.push(form)?;
-    Ok(())
-}
-
-// Does one task.
-fn advance(
-    alloc: Global,
-    table: &mut FormTable,
-    width: usize,
-    fanins: &[u32],
-    task: Task,
-    work: &mut Work,
-) -> Result<(), AllocError>
-    requires width { IsWidth width }
-    requires works { (fs : List Form) × (form : Form) ×
-        IsWorking width fs fanins.now table.old
-        (work.old.tasks.items ++ task ∷ []) work.old.done.items (form ∷ []) }
-    ensures { OnOk result
-        (DoesTask width fanins.now table.old table.new work.old work.new task) }
-{
-    match task {
-        Task::Factor(rows) => begin(alloc, table, width, fanins, rows, work),
-        Task::Join(literal) => join(alloc, table, width, literal, work),
+impl Maker {
+    // Joins the two forms made last: the Or of the last, and of the And of the literal and the one
+    // before.
+    fn join(&self, table: &mut FormTable, literal: u32, work: &mut Work) -> Result<(), AllocError>
+        requires { CanJoin table.old literal work.old.done.items }
+        ensures { OnOk result
+            (Joins self.now.width table.old table.new work.old work.new literal) }
+    {
+        let others = last(&mut work.done);
+        let having = last(&mut work.done);
+        let both = self.conjunction(table, &[literal, having])?;
+        let form = self.disjunction(table, &[both, others])?;
+        work.done.push(form)?;
+        Ok(())
     }
 }
 
-// The factored form of some rows.
-pub(crate) fn factored(
-    alloc: Global,
-    table: &mut FormTable,
-    width: usize,
-    fanins: &[u32],
-    rows: Vec<Row>,
-) -> Result<u32, AllocError>
-    requires { AreRowsOver width table.old fanins.now rows.items }
-    ensures { IfOk result (λ form. IsMadeAs table.old table.new form
-        (factored_form width (forms_at (made table.old) fanins.now) rows.items)) }
-{
-    let mut work = Work {
-        tasks: Vec::new(alloc),
-        done: Vec::new(alloc),
-    };
-    work.tasks.push(Task::Factor(rows))?;
-    'tasks: while let Some(task) = work.tasks.pop() {
-        advance(alloc, table, width, fanins, task, &mut work)?;
+impl<'a> Fanins<'a> {
+    // Begins to factor some rows: sums them up where no literal is shared, and else cuts them.
+    fn begin(
+        &self,
+        table: &mut FormTable,
+        rows: Vec<Row>,
+        work: &mut Work,
+    ) -> Result<(), AllocError>
+        requires { AreRowsOver self.now table.old rows.items }
+        ensures { OnOk result
+            (DoesTask self.now table.old table.new work.old work.new (Task.Factor rows)) }
+    {
+        let _count = table.len();
+        let Some(literal) = shared(&rows, self.forms.len()) else {
+            let form = self.sum_of_products(table, &rows)?;
+            work.done.push(form)?;
+            return Ok(());
+        };
+        let form = signed(self.forms[literal.column], literal.sign);
+        let cut = cut_by(self.maker.alloc, rows, literal)?;
+        push_cut(&mut work.tasks, form, cut)
     }
-    Ok(last(&mut work.done))
+
+    // Does one task.
+    fn advance(&self, table: &mut FormTable, task: Task, work: &mut Work) -> Result<(), AllocError>
+        requires { (fs : List Form) × (form : Form) ×
+            IsWorking self.now.maker.now.width fs self.now.forms.now table.old
+            (work.old.tasks.items ++ task ∷ []) work.old.done.items (form ∷ []) }
+        ensures { OnOk result (DoesTask self.now table.old table.new work.old work.new task) }
+    {
+        match task {
+            Task::Factor(rows) => self.begin(table, rows, work),
+            Task::Join(literal) => self.maker.join(table, literal, work),
+        }
+    }
+
+    /// The factored form of some rows.
+    pub(crate) fn factored(&self, table: &mut FormTable, rows: Vec<Row>) -> Result<u32, AllocError>
+        requires { AreRowsOver self.now table.old rows.items }
+        ensures { IfOk result (λ form. IsMadeAs table.old table.new form
+            (factored_form self.now.maker.now.width
+            (forms_at (made table.old) self.now.forms.now) rows.items)) }
+    {
+        let mut work = Work {
+            tasks: Vec::new(self.maker.alloc),
+            done: Vec::new(self.maker.alloc),
+        };
+        work.tasks.push(Task::Factor(rows))?;
+        'tasks: while let Some(task) = work.tasks.pop() {
+            self.advance(table, task, &mut work)?;
+        }
+        Ok(last(&mut work.done))
+    }
 }

@@ -9,6 +9,7 @@ mod form_list;
 mod ids;
 mod laws;
 mod listing;
+mod maker;
 mod occurring;
 mod products;
 mod renumbering;

@@ -7,16 +7,17 @@ ghost use Rattle.lw_laws.specs.Forms.Form.{true_form};
 ghost use Rattle.lw_laws.specs.Mapped.{forms_of};
 ghost use Rattle.lw_laws.specs.Occurring.{add_signals, appended, occurring_forms};
 ghost use Rattle.lw_laws.specs.Signals.{Signal, signal_of_node, signals_after, input_signals, signals_of};
-ghost use Rattle.lw_form.specs.Limits.{most_operands, IsWidth};
+ghost use Rattle.lw_form.specs.Limits.{most_operands};
 ghost use Rattle.lw_form.specs.Listed.{base_at, HasListed, IsTooLong};
 ghost use Rattle.lw_form.specs.Nets.{signal_at, AddsSignals, AreBothForms, CanAddNet, CanAddNode, CanAddNodes, HasNoNets, HasSignals, IsSignalFault};
 ghost use Rattle.lw_form.specs.Products.{AreRowsOver};
 ghost use Rattle.lw_form.specs.Tables.{made};
 ghost use Rattle.lw_pool.specs.Numbers.{net_number};
 
-use crate::factoring::{factored, have_shared};
+use crate::factoring::have_shared;
 use crate::listing::{Listing, Step};
-use crate::products::{product, signed, sum_of_products};
+use crate::maker::{Fanins, Maker};
+use crate::products::signed;
 use crate::renumbering::{numbered_bases, renumbered_all};
 use crate::row::Row;
 use crate::sampling::samples;
@@ -69,30 +70,26 @@ fn rows_of(alloc: Global, cubes: &[Cube]) -> Result<Vec<Row>, AllocError>
     Ok(rows)
 }
 
-// The two forms of some rows: the sum of products, and the factored form.
-fn both_forms(
-    alloc: Global,
-    table: &mut FormTable,
-    width: usize,
-    fanins: &[u32],
-    cubes: &[Cube],
-) -> Result<(u32, u32), AllocError>
-    requires { AreRowsOver width table.old fanins.now (map (map asked) cubes.now) }
-    ensures { IfOk result (λ forms. AreBothForms width table.old table.new fanins.now
-        (map (map asked) cubes.now) forms.0 forms.1) }
-{
-    if cubes.len() == 1 {
-        let form = product(alloc, table, width, fanins, cubes[0].as_slice())?;
-        let _count = table.len();
-        return Ok((form, form));
+impl<'a> Fanins<'a> {
+    // The two forms of some rows: the sum of products, and the factored form.
+    fn both_forms(&self, table: &mut FormTable, cubes: &[Cube]) -> Result<(u32, u32), AllocError>
+        requires { AreRowsOver self.now table.old (map (map asked) cubes.now) }
+        ensures { IfOk result (λ forms. AreBothForms self.now table.old table.new
+            (map (map asked) cubes.now) forms.0 forms.1) }
+    {
+        if cubes.len() == 1 {
+            let form = self.product(table, cubes[0].as_slice())?;
+            let _count = table.len();
+            return Ok((form, form));
+        }
+        let rows = rows_of(self.maker.alloc, cubes)?;
+        let sop = self.sum_of_products(table, &rows)?;
+        if !have_shared(&rows, self.forms.len()) {
+            return Ok((sop, sop));
+        }
+        let fac = self.factored(table, rows)?;
+        Ok((sop, fac))
     }
-    let rows = rows_of(alloc, cubes)?;
-    let sop = sum_of_products(alloc, table, width, fanins, &rows)?;
-    if !have_shared(&rows, fanins.len()) {
-        return Ok((sop, sop));
-    }
-    let fac = factored(alloc, table, width, fanins, rows)?;
-    Ok((sop, fac))
 }
 
 // The list of true alone, with room for so many base forms.
@@ -135,17 +132,18 @@ impl Occurring {
     }
 
     // Adds a node's net, whose forms are made of those of its fan-ins.
-    fn add_node(&mut self, alloc: Global, width: usize, node: &Node) -> Result<(), FormFault>
-        requires { CanAddNode width self.old node.now }
-        ensures adds { OnOk result (AddsSignals self.old self.new
-            (λ signals. signals ++ signal_of_node width signals (plain_node node.now) ∷ [])) }
-        ensures fault { IfErr result (IsSignalFault self.old
-            (λ signals. signals ++ signal_of_node width signals (plain_node node.now) ∷ [])) }
+    fn add_node(&mut self, maker: &Maker, node: &Node) -> Result<(), FormFault>
+        requires { CanAddNode self.old node.now }
+        ensures adds { OnOk result (AddsSignals self.old self.new (λ signals.
+            signals ++ signal_of_node maker.now.width signals (plain_node node.now) ∷ [])) }
+        ensures fault { IfErr result (IsSignalFault self.old (λ signals.
+            signals ++ signal_of_node maker.now.width signals (plain_node node.now) ∷ [])) }
     {
-        let fanins = fanins_of(alloc, &self.sops, node.fanins.as_slice())?;
-        let (sop, fac) = both_forms(alloc, &mut self.table, width, &fanins, node.rows.as_slice())?;
+        let forms = &fanins_of(maker.alloc, &self.sops, node.fanins.as_slice())?;
+        let fanins = Fanins { maker, forms };
+        let (sop, fac) = fanins.both_forms(&mut self.table, node.rows.as_slice())?;
         let _count = self.table.len();
-        self.add_net(alloc, signed(sop, node.on), signed(fac, node.on))
+        self.add_net(maker.alloc, signed(sop, node.on), signed(fac, node.on))
     }
 
     // Lists true alone, with room for so many nets.
@@ -191,25 +189,27 @@ impl Occurring {
     }
 
     // Adds the nodes' nets.
-    fn add_nodes(&mut self, alloc: Global, width: usize, nodes: &[Node]) -> Result<(), FormFault>
-        requires { CanAddNodes width self.old nodes.now }
+    fn add_nodes(&mut self, maker: &Maker, nodes: &[Node]) -> Result<(), FormFault>
+        requires { CanAddNodes self.old nodes.now }
         ensures listed { OnOk result ((signals : List Signal) → HasSignals self.old signals →
-            HasSignals self.new (signals_after width signals (map plain_node nodes.now))) }
+            HasSignals self.new (signals_after maker.now.width signals (map plain_node nodes.now))) }
         ensures fault { IfErr result (IsSignalFault self.old
-            (λ signals. signals_after width signals (map plain_node nodes.now))) }
+            (λ signals. signals_after maker.now.width signals (map plain_node nodes.now))) }
     {
         for node in nodes {
-            self.add_node(alloc, width, node)?;
+            self.add_node(maker, node)?;
         }
         Ok(())
     }
 
     // The forms of the nets of a network, and the list of what occurs in them.
-    pub(crate) fn of_network(alloc: Global, net: &Network, width: usize) -> Result<Self, FormFault>
-        requires { IsWidth width }
-        ensures listed { IfOk result (λ all. HasSignals all (signals_of width (plain net.now))) }
-        ensures fault { IfErr result (IsTooLong (occurring_forms width (plain net.now))) }
+    pub(crate) fn of_network(maker: &Maker, net: &Network) -> Result<Self, FormFault>
+        ensures listed { IfOk result (λ all.
+            HasSignals all (signals_of maker.now.width (plain net.now))) }
+        ensures fault { IfErr result (IsTooLong
+            (occurring_forms maker.now.width (plain net.now))) }
     {
+        let alloc = maker.alloc;
         let inputs = net.inputs();
         let mut all = Occurring::start(alloc, inputs, net.nets() as usize)?;
         match all.add_inputs(alloc, inputs) {
@@ -219,7 +219,7 @@ impl Occurring {
                 return Err(fault);
             }
         }
-        match all.add_nodes(alloc, width, net.nodes()) {
+        match all.add_nodes(maker, net.nodes()) {
             Ok(()) => {}
             Err(fault) => {
                 drop(all);
@@ -231,17 +231,11 @@ impl Occurring {
 }
 
 // The list of what occurs in a network, over the numbers of forms in the list.
-fn finished(
-    alloc: Global,
-    net: &Network,
-    width: usize,
-    all: &Occurring,
-) -> Result<Forms, AllocError>
-    requires width { IsWidth width }
-    requires listed { HasSignals all.now (signals_of width (plain net.now)) }
-    ensures { IfOk result (λ forms. forms ≡ forms_of width (plain net.now)) }
+fn finished(maker: &Maker, net: &Network, all: &Occurring) -> Result<Forms, AllocError>
+    requires { HasSignals all.now (signals_of maker.now.width (plain net.now)) }
+    ensures { IfOk result (λ forms. forms ≡ forms_of maker.now.width (plain net.now)) }
 {
-    let _width = width;
+    let alloc = maker.alloc;
     let _count = all.table.len();
     let inputs = net.inputs();
     let sops = renumbered_all(alloc, &all.listing, &all.sops)?;
@@ -268,8 +262,10 @@ pub fn forms(alloc: Global, net: &Network, width: u8) -> Result<Forms, FormFault
     ensures listed { IfOk result (λ forms. forms ≡ forms_of width (plain net.now)) }
     ensures fault { IfErr result (IsTooLong (occurring_forms width (plain net.now))) }
 {
-    let all = Occurring::of_network(alloc, net, width as usize)?;
-    let forms = finished(alloc, net, width as usize, &all);
+    let width = width as usize;
+    let maker = Maker { alloc, width };
+    let all = Occurring::of_network(&maker, net)?;
+    let forms = finished(&maker, net, &all);
     drop(all);
     Ok(forms?)
 }

@@ -3,11 +3,10 @@ ghost use Rattle.std.specs.Prelude.{◌≡◌, map, length, IfOk};
 ghost use Rattle.lw_laws.specs.Forms.{conjunction as and_of_forms};
 ghost use Rattle.lw_laws.specs.Signals.{sum_of_products as sum_of_forms, literals as literals_of};
 ghost use Rattle.lw_net.specs.Signs.{asked};
-ghost use Rattle.lw_form.specs.Conjunctions.{CanBeJoined};
 ghost use Rattle.lw_form.specs.Products.{signed_number, literal_numbers, AreRowsOver};
-ghost use Rattle.lw_form.specs.Tables.{made, forms_at, IsMadeAs, AreMadeAs};
+ghost use Rattle.lw_form.specs.Tables.{made, forms_at, AreBelow, IsMadeAs, AreMadeAs};
 
-use crate::conjunction::{conjunction, disjunction};
+use crate::maker::Fanins;
 use crate::row::{Row, ask};
 use crate::table::FormTable;
 use smallvec::SmallVec;
@@ -36,57 +35,46 @@ fn literals(alloc: Global, fanins: &[u32], signs: &[u8]) -> Result<SmallVec<u32,
     Ok(literals)
 }
 
-// The And of a row's literals.
-pub(crate) fn product(
-    alloc: Global,
-    table: &mut FormTable,
-    width: usize,
-    fanins: &[u32],
-    signs: &[u8],
-) -> Result<u32, AllocError>
-    requires fanins { CanBeJoined width table.old fanins.now }
-    requires columns { length signs.now ≡ length fanins.now }
-    ensures { IfOk result (λ form. IsMadeAs table.old table.new form
-        (and_of_forms width (literals_of (forms_at (made table.old) fanins.now)
-        (map asked signs.now)))) }
-{
-    let _count = table.len();
-    let literals = literals(alloc, fanins, signs)?;
-    conjunction(alloc, table, width, &literals)
-}
-
-// The Ands of the rows' literals.
-fn cubes(
-    alloc: Global,
-    table: &mut FormTable,
-    width: usize,
-    fanins: &[u32],
-    rows: &[Row],
-) -> Result<SmallVec<u32, 8>, AllocError>
-    requires { AreRowsOver width table.old fanins.now rows.now }
-    ensures { IfOk result (λ cubes. AreMadeAs table.old table.new cubes.items
-        (map (λ row. and_of_forms width (literals_of (forms_at (made table.old) fanins.now) row))
-        rows.now)) }
-{
-    let mut cubes = SmallVec::new(alloc);
-    for row in rows {
-        cubes.push(product(alloc, table, width, fanins, row.as_slice())?)?;
+impl<'a> Fanins<'a> {
+    /// The And of a row's literals.
+    pub(crate) fn product(&self, table: &mut FormTable, signs: &[u8]) -> Result<u32, AllocError>
+        requires fanins { AreBelow (length (made table.old)) self.now.forms.now }
+        requires columns { length signs.now ≡ length self.now.forms.now }
+        ensures { IfOk result (λ form. IsMadeAs table.old table.new form
+            (and_of_forms self.now.maker.now.width (literals_of
+            (forms_at (made table.old) self.now.forms.now) (map asked signs.now)))) }
+    {
+        let _count = table.len();
+        let literals = literals(self.maker.alloc, self.forms, signs)?;
+        self.maker.conjunction(table, &literals)
     }
-    Ok(cubes)
-}
 
-// The Or of the Ands of the rows' literals.
-pub(crate) fn sum_of_products(
-    alloc: Global,
-    table: &mut FormTable,
-    width: usize,
-    fanins: &[u32],
-    rows: &[Row],
-) -> Result<u32, AllocError>
-    requires { AreRowsOver width table.old fanins.now rows.now }
-    ensures { IfOk result (λ form. IsMadeAs table.old table.new form
-        (sum_of_forms width (forms_at (made table.old) fanins.now) rows.now)) }
-{
-    let cubes = cubes(alloc, table, width, fanins, rows)?;
-    disjunction(alloc, table, width, &cubes)
+    // The Ands of the rows' literals.
+    fn cubes(&self, table: &mut FormTable, rows: &[Row]) -> Result<SmallVec<u32, 8>, AllocError>
+        requires { AreRowsOver self.now table.old rows.now }
+        ensures { IfOk result (λ cubes. AreMadeAs table.old table.new cubes.items
+            (map (λ row. and_of_forms self.now.maker.now.width (literals_of
+            (forms_at (made table.old) self.now.forms.now) row)) rows.now)) }
+    {
+        let mut cubes = SmallVec::new(self.maker.alloc);
+        for row in rows {
+            cubes.push(self.product(table, row.as_slice())?)?;
+        }
+        Ok(cubes)
+    }
+
+    /// The Or of the Ands of the rows' literals.
+    pub(crate) fn sum_of_products(
+        &self,
+        table: &mut FormTable,
+        rows: &[Row],
+    ) -> Result<u32, AllocError>
+        requires { AreRowsOver self.now table.old rows.now }
+        ensures { IfOk result (λ form. IsMadeAs table.old table.new form
+            (sum_of_forms self.now.maker.now.width
+            (forms_at (made table.old) self.now.forms.now) rows.now)) }
+    {
+        let cubes = self.cubes(table, rows)?;
+        self.maker.disjunction(table, &cubes)
+    }
 }
