@@ -1,5 +1,5 @@
 -- The list of base forms as places in a table, and the steps by which a form is added to it.
-use Rattle.std.specs.Prelude.{ℕ, ◌+◌, ◌/◌, ◌<◌, ◌≤◌, ◌≡◌, ◌≢◌, List, [], ◌∷◌, ◌++◌, map, length, Some, slice_get, slice_index_or}
+use Rattle.std.specs.Prelude.{ℕ, ◌+◌, ◌/◌, ◌<◌, ◌≤◌, ◌≡◌, ◌≢◌, List, [], ◌∷◌, ◌++◌, map, length, Some, slice_get, slice_index_or, Result, OnOk, IfErr}
 use Rattle.lw_laws.specs.Forms.{Form, FormList}
 use Rattle.lw_laws.specs.Forms.Form.{var_form, true_form, not_form, and_form}
 use Rattle.lw_laws.specs.Forms.FormList.{no_forms, more_forms}
@@ -133,6 +133,20 @@ pub record ListsTo (old new : Table) (listing : Listing) (goal : List Form) : Ty
   pub more : HasMore (made old) (made new)
   pub listed : IsListed (made new) listing.listed.items listing.places.items
   pub bases : bases_of (made new) listing.listed.items ≡ goal
+
+-- Where that goes well, this list is reached, while more forms were made; else it is too long, or there is no memory.
+pub record Lists (result : Result (Unit {0}) FormFault) (old new : Table) (listing : Listing) (goal : List Form) : Type 0 where
+  pub listed : OnOk result (ListsTo old new listing goal)
+  pub fault : IfErr result (IsTooLong goal)
+
+-- the steps lead to some list
+abbrev pub CanTake : Table → Listing → List Step → Type 0
+CanTake table listing steps = (goal : List Form) × IsAdding table listing.listed.items listing.places.items steps goal
+
+-- Where that goes well, the step is taken; else there is a fault of the step.
+pub record Steps (result : Result (Unit {0}) FormFault) (old new : Table) (before after : Listing) (steps left : List Step) (step : Step) : Type 0 where
+  pub taken : OnOk result (TakesStep old new before after steps left step)
+  pub fault : IfErr result (IsStepFault old before steps step)
 
 -- the steps for the operands of an And come first
 pub record PutsOperands (ids : List ℕ) (before after : List Step) : Type 0 where

@@ -54,12 +54,13 @@ fn count(rows: &[Row], literal: Literal) -> usize
     count
 }
 
-// The literal, where it stands in more rows.
-fn better(rows: &[Row], choice: Choice, literal: Literal) -> Choice
+// The literal of this column and sign, where it stands in more rows.
+fn better(rows: &[Row], choice: Choice, column: usize, sign: bool) -> Choice
     ensures { (ls : List _) → most_common rows.now ls result.rows (plain_choice result.literal)
-        ≡ most_common rows.now (plain_literal literal ∷ ls) choice.rows
+        ≡ most_common rows.now (record { column = column; sign = sign } ∷ ls) choice.rows
         (plain_choice choice.literal) }
 {
+    let literal = Literal { column, sign };
     let count = count(rows, literal);
     if count > choice.rows {
         Choice {
@@ -80,15 +81,8 @@ fn shared(rows: &[Row], columns: usize) -> Option<Literal>
         rows: 1,
     };
     for column in 0..columns {
-        choice = better(rows, choice, Literal { column, sign: true });
-        choice = better(
-            rows,
-            choice,
-            Literal {
-                column,
-                sign: false,
-            },
-        );
+        choice = better(rows, choice, column, true);
+        choice = better(rows, choice, column, false);
     }
     choice.literal
 }

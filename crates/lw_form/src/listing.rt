@@ -1,9 +1,8 @@
 // The list of occurring base forms, as places in a table.
-ghost use Rattle.std.specs.Prelude.{◌≡◌, ◌/◌, ◌^◌, ◌<◌, ◌++◌, [], ◌∷◌, ℕ, List, length, IfOk, IfErr, OnOk};
-ghost use Rattle.lw_laws.specs.Forms.{Form};
+ghost use Rattle.std.specs.Prelude.{◌≡◌, ◌/◌, ◌^◌, ◌<◌, ◌++◌, [], ◌∷◌, ℕ, length, IfOk, OnOk};
 ghost use Rattle.lw_laws.specs.Occurring.{appended, append_part, append_parts, sublists, add_form};
 ghost use Rattle.lw_laws.specs.SignalValues.{form_of};
-ghost use Rattle.lw_form.specs.Listed.{base_at, bases_of, place_of, operands_of, HasListed, IsAdding, IsEmptyListing, IsListed, IsNewlyListed, IsStepFault, IsTooLong, ListsTo, PutsAnd, PutsOperands, TakesStep};
+ghost use Rattle.lw_form.specs.Listed.{base_at, bases_of, place_of, operands_of, CanTake, IsEmptyListing, IsListed, IsNewlyListed, Lists, PutsAnd, PutsOperands, Steps};
 ghost use Rattle.lw_form.specs.Limits.{most_bases};
 ghost use Rattle.lw_form.specs.Tables.{made, forms_at, AreBelow};
 
@@ -82,12 +81,9 @@ impl Listing {
     pub(crate) fn list(&mut self, table: &FormTable, b: u32) -> Result<(), FormFault>
         requires listed { IsListed (made table.now) self.old.listed.items self.old.places.items }
         requires within { b < length (made table.now) }
-        ensures listed { OnOk result (HasListed (made table.now) self.new
+        ensures { Lists result table.now table.now self.new
             (appended (base_at (made table.now) b)
-            (bases_of (made table.now) self.old.listed.items))) }
-        ensures fault { IfErr result (IsTooLong
-            (appended (base_at (made table.now) b)
-            (bases_of (made table.now) self.old.listed.items))) }
+            (bases_of (made table.now) self.old.listed.items)) }
     {
         let _count = table.len();
         if self.place(b) != NO_PLACE {
@@ -104,12 +100,9 @@ impl Listing {
     fn list_part(&mut self, table: &mut FormTable, ids: FormIds) -> Result<(), FormFault>
         requires listed { IsListed (made table.old) self.old.listed.items self.old.places.items }
         requires below { AreBelow (length (made table.old)) ids }
-        ensures listed { OnOk result (ListsTo table.old table.new self.new
+        ensures { Lists result table.old table.new self.new
             (append_part (forms_at (made table.old) ids)
-            (bases_of (made table.old) self.old.listed.items))) }
-        ensures fault { IfErr result (IsTooLong
-            (append_part (forms_at (made table.old) ids)
-            (bases_of (made table.old) self.old.listed.items))) }
+            (bases_of (made table.old) self.old.listed.items)) }
     {
         if ids.len() < 2 {
             return Ok(());
@@ -122,12 +115,9 @@ impl Listing {
     fn list_parts(&mut self, table: &mut FormTable, ids: &FormIds) -> Result<(), FormFault>
         requires listed { IsListed (made table.old) self.old.listed.items self.old.places.items }
         requires below { AreBelow (length (made table.old)) ids.now }
-        ensures listed { OnOk result (ListsTo table.old table.new self.new
+        ensures { Lists result table.old table.new self.new
             (append_parts (sublists (forms_at (made table.old) ids.now))
-            (bases_of (made table.old) self.old.listed.items))) }
-        ensures fault { IfErr result (IsTooLong
-            (append_parts (sublists (forms_at (made table.old) ids.now))
-            (bases_of (made table.old) self.old.listed.items))) }
+            (bases_of (made table.old) self.old.listed.items)) }
     {
         for mask in 0..mask_end(ids) {
             self.list_part(table, ids.picked(mask))?;
@@ -139,12 +129,9 @@ impl Listing {
     fn list_and(&mut self, alloc: Global, table: &mut FormTable, b: u32) -> Result<(), FormFault>
         requires listed { IsListed (made table.old) self.old.listed.items self.old.places.items }
         requires within { b < length (made table.old) }
-        ensures listed { OnOk result (ListsTo table.old table.new self.new
+        ensures { Lists result table.old table.new self.new
             (append_parts (sublists (operands_of (base_at (made table.old) b)))
-            (bases_of (made table.old) self.old.listed.items))) }
-        ensures fault { IfErr result (IsTooLong
-            (append_parts (sublists (operands_of (base_at (made table.old) b)))
-            (bases_of (made table.old) self.old.listed.items))) }
+            (bases_of (made table.old) self.old.listed.items)) }
     {
         let ids = match table.operands(b) {
             Some(ids) => ids,
@@ -165,26 +152,20 @@ impl Listing {
         form: u32,
         steps: &mut Vec<Step>,
     ) -> Result<(), FormFault>
-        requires { (goal : List Form) ×
-            IsAdding table.now self.old.listed.items self.old.places.items
-            (steps.old.items ++ Step.Add form ∷ []) goal }
-        ensures step { OnOk result (TakesStep table.now table.now self.old self.new
-            steps.old.items steps.new.items (Step.Add form)) }
-        ensures fault { IfErr result
-            (IsStepFault table.now self.old steps.old.items (Step.Add form)) }
+        requires { CanTake table.now self.old (steps.old.items ++ Step.Add form ∷ []) }
+        ensures { Steps result table.now table.now self.old self.new
+            steps.old.items steps.new.items (Step.Add form) }
     {
         let _count = table.len();
         let b = form / 2;
         if self.place(b) != NO_PLACE {
             return Ok(());
         }
-        match table.operands(b) {
-            None => self.list(table, b),
-            Some(ids) => {
-                push_and(steps, b, ids.as_slice())?;
-                Ok(())
-            }
-        }
+        let Some(ids) = table.operands(b) else {
+            return self.list(table, b);
+        };
+        push_and(steps, b, ids.as_slice())?;
+        Ok(())
     }
 
     // Does one step.
@@ -195,12 +176,9 @@ impl Listing {
         step: Step,
         steps: &mut Vec<Step>,
     ) -> Result<(), FormFault>
-        requires { (goal : List Form) ×
-            IsAdding table.old self.old.listed.items self.old.places.items
-            (steps.old.items ++ step ∷ []) goal }
-        ensures step { OnOk result (TakesStep table.old table.new self.old self.new
-            steps.old.items steps.new.items step) }
-        ensures fault { IfErr result (IsStepFault table.old self.old steps.old.items step) }
+        requires { CanTake table.old self.old (steps.old.items ++ step ∷ []) }
+        ensures { Steps result table.old table.new self.old self.new
+            steps.old.items steps.new.items step }
     {
         match step {
             Step::Add(form) => self.begin(table, form, steps),
@@ -218,12 +196,9 @@ impl Listing {
     ) -> Result<(), FormFault>
         requires listed { IsListed (made table.old) self.old.listed.items self.old.places.items }
         requires within { form / 2 < length (made table.old) }
-        ensures listed { OnOk result (ListsTo table.old table.new self.new
+        ensures { Lists result table.old table.new self.new
             (add_form (form_of (made table.old) form)
-            (bases_of (made table.old) self.old.listed.items))) }
-        ensures fault { IfErr result (IsTooLong
-            (add_form (form_of (made table.old) form)
-            (bases_of (made table.old) self.old.listed.items))) }
+            (bases_of (made table.old) self.old.listed.items)) }
     {
         let _count = table.len();
         if self.place(form / 2) != NO_PLACE {

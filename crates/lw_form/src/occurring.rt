@@ -209,22 +209,15 @@ impl Occurring {
         ensures fault { IfErr result (IsTooLong
             (occurring_forms maker.now.width (plain net.now))) }
     {
-        let alloc = maker.alloc;
         let inputs = net.inputs();
-        let mut all = Occurring::start(alloc, inputs, net.nets() as usize)?;
-        match all.add_inputs(alloc, inputs) {
-            Ok(()) => {}
-            Err(fault) => {
-                drop(all);
-                return Err(fault);
-            }
+        let mut all = Occurring::start(maker.alloc, inputs, net.nets() as usize)?;
+        if let Err(fault) = all.add_inputs(maker.alloc, inputs) {
+            drop(all);
+            return Err(fault);
         }
-        match all.add_nodes(maker, net.nodes()) {
-            Ok(()) => {}
-            Err(fault) => {
-                drop(all);
-                return Err(fault);
-            }
+        if let Err(fault) = all.add_nodes(maker, net.nodes()) {
+            drop(all);
+            return Err(fault);
         }
         Ok(all)
     }
