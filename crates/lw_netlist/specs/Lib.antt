@@ -7,3 +7,4 @@ pub mod Ordering
 pub mod Placing
 pub mod Plain
 pub mod Spelled
+pub mod Starting

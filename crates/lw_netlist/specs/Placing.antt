@@ -2,15 +2,19 @@
 use Rattle.std.specs.Prelude.{ℕ, ◌+◌, ◌<◌, ◌≤◌, ◌≡◌, ◌++◌, All, List, [], Contains, length, map, slice_index_or}
 use Rattle.std.specs.List.{IsDistinct}
 use Rattle.std.specs.Str.{bytes_eq}
+use Rattle.lw_dag.specs.Graphs.{most_signals}
 use Rattle.lw_pool.specs.declared.id.CellId.{CellId}
+use Rattle.lw_pool.specs.declared.id.NetId.{NetId}
 use Rattle.lw_netlist.specs.declared.closing.Links.{Links}
 use Rattle.lw_netlist.specs.declared.graph.Graph.{Graph}
 use Rattle.lw_netlist.specs.declared.draft.DraftGate.{DraftGate}
 use Rattle.lw_netlist.specs.declared.draft.GateDraft.{GateDraft}
-use Rattle.lw_netlist.specs.Closing.{netlist_in, out_of}
+use Rattle.lw_netlist.specs.declared.gate.Gate.{Gate}
+use Rattle.lw_netlist.specs.declared.gate.Port.{Port}
+use Rattle.lw_netlist.specs.Closing.{closed_gate, netlist_in, out_of, port_at}
 use Rattle.lw_netlist.specs.Netlists.{IsNetlist, most_nets}
 use Rattle.lw_netlist.specs.Numbered.{start_at}
-use Rattle.lw_netlist.specs.Ordering.{IsGraphOf, net_by, start_in}
+use Rattle.lw_netlist.specs.Ordering.{IsGraphOf, TellNets, net_by, start_in}
 
 abbrev pub cell_of : DraftGate → CellId
 cell_of gate = gate.cell
@@ -62,3 +66,28 @@ pub record IsPlaced (draft : GateDraft) (g : Graph) (starts places : List ℕ) :
   pub started : (name : List ℕ) → Contains g.signals name → Contains (names_at draft places) (start_in g.signals starts name)
   pub outputs : All (Contains g.signals) draft.outputs
   pub kept : IsNetlist (netlist_in draft (gates_at draft.gates places) (net_by g.signals starts (names_at draft places)))
+
+-- These are places of gates, each once, among so many signals.
+pub record ArePlaces (inputs signals : ℕ) (places : List ℕ) : Type 0 where
+  pub few : signals ≤ most_signals
+  pub first : inputs + length places ≤ signals
+  pub within : All (λ p. inputs + p < signals) places
+  pub differ : (j k : ℕ) → j < k → k < length places → slice_index_or places j 0 ≡ slice_index_or places k 0 → ⊥
+
+-- These are the nets of all signals, and the gates at some places with nets in place of names.
+pub record AreGatesBy (g : Graph) (starts places : List ℕ) (nets : List NetId) (gates : List Gate) : Type 0 where
+  pub count : length nets ≡ length g.signals
+  pub nets_are : (turned : List ℕ) × (AreTurned g.inputs places turned × (nets ≡ map (λ s. record { 0 = start_at turned s }) starts))
+  pub gates_are : (draft : GateDraft) (net : List ℕ → ℕ) → IsMadeOf draft g → TellNets g.signals nets net → gates ≡ map (closed_gate net) (gates_at draft.gates places)
+
+-- The inputs, the gates at some places and the outputs have names and nets.
+pub record CanBeNamed (g : Graph) (places : List ℕ) (nets : List NetId) : Type 0 where
+  pub places_within : All (λ p. g.inputs + p < length g.signals) places
+  pub count : length nets ≡ length g.signals
+  pub known : All (Contains g.signals) g.outputs
+
+-- These are the model, the names of inputs and of gates at some places, and the outputs with their nets.
+pub record IsNamed (g : Graph) (places : List ℕ) (nets : List NetId) (model : List ℕ) (names : List (List ℕ)) (outputs : List Port) : Type 0 where
+  pub model_is : model ≡ g.model
+  pub names_are : names ≡ g.first ++ map (signal_at g.inputs g.signals) places
+  pub outputs_are : (net : List ℕ → ℕ) → TellNets g.signals nets net → outputs ≡ map (port_at net) g.outputs

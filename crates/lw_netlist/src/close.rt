@@ -34,13 +34,9 @@ impl Netlist {
             drop(graph);
             return Err(NetlistFault::Memory);
         };
-        let Ok(netlist) = placed(alloc, graph, &found.starts, &places) else {
-            drop(found);
-            drop(places);
-            return Err(NetlistFault::Memory);
-        };
+        let netlist = placed(alloc, graph, &found.starts, &places);
         drop(found);
         drop(places);
-        Ok(netlist)
+        Ok(netlist?)
     }
 }

@@ -1,8 +1,9 @@
 // How deep names are, and where their nets start.
-ghost use Rattle.std.specs.Prelude.{◌≡◌, ◌+◌, ◌<◌, ◌≤◌, length, replicate, slice_set, IfOk, All};
+ghost use Rattle.std.specs.Prelude.{◌≡◌, ◌+◌, ◌<◌, ◌≤◌, length, replicate, IfOk, All};
 ghost use Rattle.std.specs.List.{range_with_len};
-ghost use Rattle.lw_dag.specs.Graphs.{AreHeights, IsGraph, IsOrdered, most_signals};
+ghost use Rattle.lw_dag.specs.Graphs.{IsGraph, most_signals};
 ghost use Rattle.lw_netlist.specs.Numbered.{AreSettled, deepest, own_start, step_of};
+ghost use Rattle.lw_netlist.specs.Starting.{AreLevelsOf, CanPlace, PlacesNode};
 
 use lw_dag::Levels;
 use lw_pool::Numbers;
@@ -48,17 +49,8 @@ fn start_of(gates: usize, j: usize, own: u32, needs: &[u32], starts: &[u32]) -> 
 
 // Gives a node its depth and its start, where what it hangs on has them.
 fn place(found: &mut Starts, inputs: usize, gates: usize, j: usize, needs: &[u32])
-    requires own { inputs + j < length found.old.depths.items }
-    requires few { length found.old.depths.items ≤ most_signals }
-    requires low { deepest found.old.depths.items needs.now ≤ most_signals }
-    requires signals { All (λ s. s < length found.old.depths.items) needs.now }
-    requires starts_each { length found.old.starts.items ≡ length found.old.depths.items }
-    ensures depths { found.new.depths.items
-        ≡ slice_set found.old.depths.items (inputs + j)
-        (step_of gates j + deepest found.old.depths.items needs.now) }
-    ensures starts { found.new.starts.items
-        ≡ slice_set found.old.starts.items (inputs + j)
-        (own_start gates j found.old.starts.items (inputs + j) needs.now) }
+    requires { CanPlace (inputs + j) needs.now found.old }
+    ensures { PlacesNode gates j (inputs + j) needs.now found.old found.new }
 {
     let own = inputs + j;
     let depth = step(gates, j) + deepest_of(needs, &found.depths);
@@ -98,9 +90,7 @@ pub(crate) fn find_starts(
 ) -> Result<Starts, AllocError>
     requires graph { IsGraph inputs graph.now }
     requires few { inputs + length graph.now ≤ most_signals }
-    requires heights { AreHeights inputs graph.now levels.now.heights.items }
-    requires low { All (λ h. h ≤ 1 + length graph.now) levels.now.heights.items }
-    requires ordered { IsOrdered inputs graph.now levels.now.heights.items levels.now.order.items }
+    requires levels { AreLevelsOf inputs graph.now levels.now }
     ensures { IfOk result (λ l. AreSettled inputs gates graph.now levels.now.heights.items
         levels.now.order.items l.depths.items l.starts.items) }
 {

@@ -2,13 +2,12 @@
 ghost use Rattle.std.specs.Prelude.{◌≡◌, ◌+◌, ◌≤◌, ◌<◌, ◌++◌, ℕ, List, length, map, slice_index_or, All, Contains, IfOk};
 ghost use Rattle.std.specs.List.{range_with_len};
 ghost use Rattle.std.specs.List.Sorted.{IsNonDecreasingBy, IsPermutation};
-ghost use Rattle.lw_dag.specs.Graphs.{most_signals};
 ghost use Rattle.lw_dag.specs.Ordering.{AreKeys, by_key};
 ghost use Rattle.lw_netlist.specs.declared.draft.GateDraft.{GateDraft};
-ghost use Rattle.lw_netlist.specs.Closing.{closed_gate, netlist_in, port_at};
+ghost use Rattle.lw_netlist.specs.Closing.{closed_gate, netlist_in};
 ghost use Rattle.lw_netlist.specs.Numbered.{net_at, start_at};
 ghost use Rattle.lw_netlist.specs.Ordering.{TellNets, net_by};
-ghost use Rattle.lw_netlist.specs.Placing.{AreTurned, IsMadeOf, IsPlaced, gate_at, gates_at, names_at, signal_at};
+ghost use Rattle.lw_netlist.specs.Placing.{AreGatesBy, ArePlaces, AreTurned, CanBeNamed, IsMadeOf, IsNamed, IsPlaced, gate_at, gates_at, names_at, signal_at};
 
 use crate::closing::ports;
 use crate::graph::Graph;
@@ -63,11 +62,7 @@ fn turned(
     signals: usize,
     places: &[u32],
 ) -> Result<Vec<u32>, AllocError>
-    requires few { signals ≤ most_signals }
-    requires first { inputs + length places.now ≤ signals }
-    requires within { All (λ p. inputs + p < signals) places.now }
-    requires differ { (j k : ℕ) → j < k → k < length places.now →
-        slice_index_or places.now j 0 ≡ slice_index_or places.now k 0 → ⊥ }
+    requires { ArePlaces inputs signals places.now }
     ensures turned { IfOk result (λ turned. AreTurned inputs places.now turned.items) }
     ensures one_each { IfOk result (λ turned. length turned.items ≡ signals) }
 {
@@ -147,13 +142,8 @@ fn gates_by(
     places: &[u32],
 ) -> Result<(Vec<NetId>, Vec<Gate>), AllocError>
     requires { (draft : GateDraft) × IsPlaced draft graph.now starts.now places.now }
-    ensures count { IfOk result (λ made. length made.0.items ≡ length graph.now.signals) }
-    ensures nets { IfOk result (λ made. (turned : List ℕ) ×
-        (AreTurned graph.now.inputs places.now turned ×
-        (made.0.items ≡ map (λ s. record { 0 = start_at turned s }) starts.now))) }
-    ensures gates { IfOk result (λ made. (draft : GateDraft) (net : List ℕ → ℕ) →
-        IsMadeOf draft graph.now → TellNets graph.now.signals made.0.items net →
-        made.1.items ≡ map (closed_gate net) (gates_at draft.gates places.now)) }
+    ensures { IfOk result (λ made.
+        AreGatesBy graph.now starts.now places.now made.0.items made.1.items) }
 {
     let turned = turned(alloc, graph.inputs, graph.signals.len(), places)?;
     let nets = nets_by(alloc, starts, &turned)?;
@@ -168,14 +158,8 @@ fn named(
     places: &[u32],
     nets: &[NetId],
 ) -> Result<(Name, Names, PortList), AllocError>
-    requires places { All (λ p. graph.inputs + p < length graph.signals) places.now }
-    requires count { length nets.now ≡ length graph.signals }
-    requires known { All (Contains graph.signals) graph.outputs }
-    ensures model { IfOk result (λ named. named.0 ≡ graph.model) }
-    ensures names { IfOk result (λ named. named.1
-        ≡ graph.first ++ map (signal_at graph.inputs graph.signals) places.now) }
-    ensures outputs { IfOk result (λ named. (net : List ℕ → ℕ) →
-        TellNets graph.signals nets.now net → named.2 ≡ map (port_at net) graph.outputs) }
+    requires { CanBeNamed graph places.now nets.now }
+    ensures { IfOk result (λ named. IsNamed graph places.now nets.now named.0 named.1 named.2) }
 {
     let (inputs, signals) = (graph.inputs, graph.signals);
     let _ = signals.len();

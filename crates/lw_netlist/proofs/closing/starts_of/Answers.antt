@@ -45,15 +45,6 @@ returns c = λ draft made.
 pub first_on_cycle-requires-clause-heights : goal.first_on_cycle-requires-clause-heights
 first_on_cycle-requires-clause-heights c = rw (c.deref-2.ensures.value, c.deref-3.ensures.value) (rw c.deref.ensures.value at c.in_ok-levels.ensures.heights)
 
-pub find_starts-requires-clause-heights : goal.find_starts-requires-clause-heights
-find_starts-requires-clause-heights c = rw c.deref-4.ensures.value (rw c.deref.ensures.value at c.in_ok-levels.ensures.heights)
-
-pub find_starts-requires-clause-low : goal.find_starts-requires-clause-low
-find_starts-requires-clause-low c = rw c.deref-4.ensures.value (rw c.deref.ensures.value at c.in_ok-levels.ensures.low)
-
-pub find_starts-requires-clause-ordered : goal.find_starts-requires-clause-ordered
-find_starts-requires-clause-ordered c = rw c.deref-4.ensures.value (rw c.deref.ensures.value at c.in_ok-levels.ensures.ordered)
-
 pub returns-in_err-levels : goal.returns-in_err-levels
 returns-in_err-levels c = λ draft made. let p = err_from_is_err_and c.from_residual.result c.from_residual.ensures.1 in rw (p.1, p.2) tt
 
@@ -83,3 +74,10 @@ find_starts-requires-clause-few c =
     let graph = c.args.graph.now in
     let made = c.requires.1 in
     omega (arith, ap length c.deref-4.ensures.value, rows_many c.requires.0 graph made, keys_many c.requires.0 graph made, ap length made.graph.names, made.graph.few, made.inputs)
+
+pub find_starts-requires-clause-levels : goal.find_starts-requires-clause-levels
+find_starts-requires-clause-levels c = record {
+  heights = rw c.deref-4.ensures.value (rw c.deref.ensures.value at c.in_ok-levels.ensures.heights);
+  low = rw c.deref-4.ensures.value (rw c.deref.ensures.value at c.in_ok-levels.ensures.low);
+  ordered = rw c.deref-4.ensures.value (rw c.deref.ensures.value at c.in_ok-levels.ensures.ordered);
+}

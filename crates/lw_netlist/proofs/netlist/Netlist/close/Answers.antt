@@ -18,8 +18,8 @@ places_by-requires c =
     let sliced = slice_is draft depths c.deref.result.now graph.inputs c.len.result made.inputs many c.deref.ensures.value in
     slice_least draft graph made depths starts right slice sliced
 
-pub placed-requires : goal.placed-requires
-placed-requires c =
+pub placed-netlist-requires : goal.placed-netlist-requires
+placed-netlist-requires c =
     let draft = c.args.draft in
     let graph = c.in_ok-graph.graph in
     let made = c.in_ok-graph.ensures in
@@ -53,7 +53,7 @@ returns-clause-closed c =
     let moved = c.in-Ok.ensures.permutation in
     let rising = c.in-Ok.ensures.rising in
     is_closed draft graph made depths starts right slice sliced c.args.lib.now c.requires all c.in-Ok.places.items ranged moved rising
-    c.in-Ok-placed.netlist ((rw (c.deref-2.ensures.value, c.deref-3.ensures.value) at c.in-Ok-placed.ensures) draft (is_placed draft graph made depths starts right slice sliced c.args.lib.now c.requires all c.in-Ok.places.items ranged moved rising))
+    c.in_ok-netlist.field-0 ((rw (c.deref-2.ensures.value, c.deref-3.ensures.value) at c.in_ok-netlist.ensures) draft (is_placed draft graph made depths starts right slice sliced c.args.lib.now c.requires all c.in-Ok.places.items ranged moved rising))
     c.in-Ok.ensures.order
 
 pub returns-clause-over : goal.returns-clause-over
@@ -73,4 +73,4 @@ returns-clause-over c =
     let moved = c.in-Ok.ensures.permutation in
     let rising = c.in-Ok.ensures.rising in
     is_over draft graph made depths starts right slice sliced c.args.lib.now c.requires all c.in-Ok.places.items ranged moved rising
-    c.in-Ok-placed.netlist ((rw (c.deref-2.ensures.value, c.deref-3.ensures.value) at c.in-Ok-placed.ensures) draft (is_placed draft graph made depths starts right slice sliced c.args.lib.now c.requires all c.in-Ok.places.items ranged moved rising))
+    c.in_ok-netlist.field-0 ((rw (c.deref-2.ensures.value, c.deref-3.ensures.value) at c.in_ok-netlist.ensures) draft (is_placed draft graph made depths starts right slice sliced c.args.lib.now c.requires all c.in-Ok.places.items ranged moved rising))
