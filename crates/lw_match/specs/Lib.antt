@@ -16,5 +16,6 @@ pub mod Queries
 pub mod Searching
 pub mod Seeking
 pub mod Shapes
+pub mod Steps
 pub mod Times
 pub mod Values
