@@ -15,6 +15,8 @@ use Rattle.lw_match.specs.declared.parts.Kind.{Kind}
 use Rattle.lw_match.specs.declared.parts.Kind.TheVariants.{Any, Leaf, One, Joined}
 use Rattle.lw_match.specs.declared.parts.Side.{Side}
 use Rattle.lw_match.specs.declared.parts.Part.{Part}
+use Rattle.lw_match.specs.declared.shapes.Parts.{Parts}
+use Rattle.lw_match.specs.Parts.{AreCollected, AreMore}
 use Rattle.lw_match.specs.contracts.parts.KindPartialEq.TheImpl.{eq-value as kind_eq}
 use Rattle.lw_match.specs.contracts.parts.SidePartialEq.TheImpl.{eq-value as side_eq}
 use Rattle.lw_match.specs.contracts.parts.PartPartialEq.TheImpl.{eq-value as part_eq}
@@ -252,3 +254,8 @@ all_shaped_more room keys new gaps pats all n p sides h are more listed shapes =
   count = let c = h.count in omega (arith, length-append all (sides ∷ []));
   shapes = all_more keys new gaps pats all p sides h.shapes more (subst (λ i. slice_get pats i ≡ Some p) (sym h.count) listed) (subst (λ i. HaveShapes new (gaps_of gaps i) (nodes_of p.tree) sides) (sym h.count) shapes);
 }
+
+-- the parts that are there
+pub same_parts : (parts : Parts) → AreCollected parts → AreMore parts parts
+same_parts parts are =
+    record { room = refl; parts = are; more = ([], sym (append-nil parts.all.keys)) }

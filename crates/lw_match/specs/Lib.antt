@@ -7,9 +7,11 @@ pub mod Intervals
 pub mod Jobs
 pub mod Least
 pub mod Lowering
+pub mod Making
 pub mod Matching
 pub mod Needs
 pub mod Numbers
+pub mod Parts
 pub mod Picks
 pub mod Places
 pub mod Queries

@@ -1,14 +1,12 @@
 // What a table of bounds is made of.
-ghost use Rattle.std.specs.Prelude.{◌≡◌, ◌<◌, ◌≤◌, ◌*◌, ◌^◌, length, map, IfOk};
-ghost use Rattle.lw_match.specs.Bounds.{AreApart, AreBare, AreZero};
-ghost use Rattle.lw_match.specs.Numbers.{AreStarts, most_numbers};
-ghost use Rattle.lw_match.specs.Places.{AreGrouped, AreRootsListed};
-ghost use Rattle.lw_match.specs.Shapes.{AllHaveShapes, AreParts, HaveRootShapes};
+ghost use Rattle.std.specs.Prelude.{◌<◌, ◌≤◌, ◌^◌, length, IfOk};
+ghost use Rattle.lw_match.specs.Making.{AreFew, AreFreshRows, AreSidesOf};
+ghost use Rattle.lw_match.specs.Places.{AreRootsListed};
 ghost use Rattle.lw_pattern.specs.Listed.{most_patterns};
 
 use crate::parts::{Group, Part, Root, Side};
 use crate::places::{groups_of, roots_in};
-use crate::shapes::{all_sides, root_sides};
+use crate::shapes::{Parts, all_sides, root_sides};
 use crate::starts::starts_of;
 use indexmap::IndexSet;
 use lw_graph::Graph;
@@ -49,18 +47,12 @@ pub(crate) fn sides_by(
     pats: &Patterns,
 ) -> Result<Sides, AllocError>
     requires room { room < 2 ^ 32 }
-    ensures parts { IfOk result (λ s. AreParts room s.parts.keys) }
-    ensures count { IfOk result (λ s. length (map (λ sides. sides.items) s.all.items)
-        ≡ length pats.now) }
-    ensures shapes { IfOk result (λ s. AllHaveShapes s.parts.keys gaps.now pats.now
-        (map (λ sides. sides.items) s.all.items)) }
-    ensures root_count { IfOk result (λ s. length s.roots.items ≡ length pats.now) }
-    ensures roots { IfOk result (λ s. HaveRootShapes s.parts.keys gaps.now pats.now
-        s.roots.items) }
+    ensures { IfOk result (AreSidesOf room gaps.now pats.now) }
 {
-    let mut parts = IndexSet::new(alloc);
-    let all = all_sides(alloc, &mut parts, room, gaps, pats)?;
+    let mut parts = Parts::new(alloc, room);
+    let all = all_sides(alloc, &mut parts, gaps, pats)?;
     let roots = root_sides(alloc, pats, &all)?;
+    let parts = parts.all;
     Ok(Sides { parts, all, roots })
 }
 
@@ -78,15 +70,8 @@ pub(crate) fn lists_by(alloc: Global, roots: &[Side]) -> Result<RootLists, Alloc
 
 /// A row of zeros for each class that has pairs, with a number for each part.
 pub(crate) fn rows_by(alloc: Global, graph: &Graph, parts: &[Part]) -> Result<Rows, AllocError>
-    requires size { length parts.now * length graph.now.pairs ≤ most_numbers }
-    requires few { length parts.now ≤ most_numbers }
-    ensures starts { IfOk result (λ rows.
-        AreStarts (length parts.now) rows.starts.items (length rows.numbers.items)) }
-    ensures bare { IfOk result (λ rows. AreBare rows.starts.items graph.now) }
-    ensures apart { IfOk result (λ rows. AreApart (length parts.now) rows.starts.items) }
-    ensures zero { IfOk result (λ rows. AreZero rows.numbers.items) }
-    ensures grouped { IfOk result (λ rows. AreGrouped parts.now rows.groups.items) }
-    ensures least { IfOk result (λ rows. length rows.least.items ≡ length parts.now) }
+    requires { AreFew graph.now parts.now }
+    ensures { IfOk result (AreFreshRows graph.now parts.now) }
 {
     let groups = groups_of(alloc, parts)?;
     let least = vec![in alloc; 0; parts.len()]?;
