@@ -15,8 +15,10 @@ pub mod Parts
 pub mod Picks
 pub mod Places
 pub mod Queries
+pub mod Renewing
 pub mod Searching
 pub mod Seeking
+pub mod Settling
 pub mod Shapes
 pub mod Steps
 pub mod Times

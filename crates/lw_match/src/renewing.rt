@@ -1,8 +1,9 @@
 // Numbers of the parts at a class, as its pairs give them.
 ghost use Rattle.std.specs.Prelude.{◌≡◌, ◌+◌, ◌<◌, ◌≤◌, ◌||◌, ◌⊎◌, ℕ, length, slice_index};
 ghost use Rattle.std.specs.List.{slice_range};
-ghost use Rattle.lw_match.specs.Bounds.{total, reading_of, IsRowRenewed};
+ghost use Rattle.lw_match.specs.Bounds.{total};
 ghost use Rattle.lw_match.specs.Lowering.{IsRenewal};
+ghost use Rattle.lw_match.specs.Renewing.{IsRenewedBy};
 
 use crate::Mark;
 use crate::lowering::{Plan, lower_by_all};
@@ -48,10 +49,7 @@ pub(crate) fn renew_parts(
     numbers: &mut [u64],
 ) -> bool
     requires { IsRenewal renewal plan least.old numbers.old }
-    ensures { IsRowRenewed renewal.entry.graph.now
-        (reading_of renewal.entry.graph.now renewal.entry.marks.now plan.entry.parts.now
-        renewal.entry.starts.now numbers.old) plan.entry.parts.now numbers.new
-        renewal.entry.class.0 result }
+    ensures { IsRenewedBy renewal.entry plan.entry numbers.old numbers.new result }
 {
     let pairs = renewal.graph.nands(renewal.class);
     if pairs.is_empty() {

@@ -1,7 +1,8 @@
 // Tables of marks that do not change any more.
-ghost use Rattle.std.specs.Prelude.{◌≡◌, ◌<◌, ℕ, IfOk, IsTrue, IsFalse, length};
-ghost use Rattle.lw_match.specs.Bounds.{BoundsFit, AreSettledAt, AreBounds, IsTableAfter, IsTableWithTimes, bounds_weight};
+ghost use Rattle.std.specs.Prelude.{◌≡◌, ◌<◌, IfOk, length};
+ghost use Rattle.lw_match.specs.Bounds.{BoundsFit, AreBounds};
 ghost use Rattle.lw_match.specs.Least.{AreOfCells};
+ghost use Rattle.lw_match.specs.Settling.{IsTableOf, IsClassRenewed, IsRoundDone, AreRoundsDone};
 
 use crate::renewing::either;
 use crate::times::Times;
@@ -11,76 +12,58 @@ use lw_pattern::Patterns;
 use lw_pool::ClassId;
 use std::alloc::{AllocError, Global};
 
+/// What the numbers of a table follow from.
+#[derive(Clone, Copy)]
+pub struct Basis<'a> {
+    pub graph: &'a Graph,
+    pub pats: &'a Patterns,
+    pub marks: &'a [Option<Mark>],
+}
+
+/// A table of bounds, and when its numbers fell.
+#[derive(Drop)]
+pub(crate) struct Table {
+    pub bounds: Bounds,
+    pub times: Times,
+}
+
 // Lets the numbers of a class fall, if that is due or the round is a whole one, and says whether one
 // fell.
-fn renew_class(
-    bounds: &mut Bounds,
-    times: &mut Times,
-    graph: &Graph,
-    pats: &Patterns,
-    marks: &[Option<Mark>],
-    class: ClassId,
-    whole: bool,
-) -> bool
-    requires class { class.0 < length graph.now.pairs }
-    requires timed { IsTableWithTimes bounds.old times.old pats.now graph.now marks.now }
-    ensures timed { IsTableWithTimes bounds.new times.new pats.now graph.now marks.now }
-    ensures after { IsTableAfter bounds.old bounds.new result }
-    ensures settled { IsTrue whole → IsFalse result →
-        AreSettledAt bounds.old graph.now marks.now class.0 }
+fn renew_class(basis: Basis, table: &mut Table, class: ClassId, whole: bool) -> bool
+    requires class { class.0 < length basis.graph.now.pairs }
+    requires timed { IsTableOf basis table.old }
+    ensures { IsClassRenewed basis.entry class.0 whole table.old table.new result }
 {
-    let _ = pats.len();
-    if !whole && !times.is_due(graph, class) {
+    let _ = basis.pats.len();
+    if !whole && !table.times.is_due(basis.graph, class) {
         return false;
     }
-    let fell = bounds.renew(graph, marks, class);
-    times.note(class, fell);
+    let fell = table.bounds.renew(basis.graph, basis.marks, class);
+    table.times.note(class, fell);
     fell
 }
 
 // Lets the numbers fall class by class, and says whether one fell. A whole round passes over none.
-fn renew_round(
-    bounds: &mut Bounds,
-    times: &mut Times,
-    graph: &Graph,
-    pats: &Patterns,
-    marks: &[Option<Mark>],
-    whole: bool,
-) -> bool
-    requires timed { IsTableWithTimes bounds.old times.old pats.now graph.now marks.now }
-    ensures timed { IsTableWithTimes bounds.new times.new pats.now graph.now marks.now }
-    ensures after { IsTableAfter bounds.old bounds.new result }
-    ensures settled { IsTrue whole → IsFalse result → (c : ℕ) → c < length graph.now.pairs →
-        AreSettledAt bounds.new graph.now marks.now c }
+fn renew_round(basis: Basis, table: &mut Table, whole: bool) -> bool
+    requires timed { IsTableOf basis table.old }
+    ensures { IsRoundDone basis.entry whole table.old table.new result }
 {
     let mut fell = false;
-    for number in 0..graph.classes() {
+    for number in 0..basis.graph.classes() {
         let class = ClassId(number);
-        fell = either(
-            renew_class(bounds, times, graph, pats, marks, class, whole),
-            fell,
-        );
+        fell = either(renew_class(basis, table, class, whole), fell);
     }
     fell
 }
 
 // Goes through the classes that are due until no number falls, and then through all. Says whether
 // one fell in the last round.
-fn renew_rounds(
-    bounds: &mut Bounds,
-    times: &mut Times,
-    graph: &Graph,
-    pats: &Patterns,
-    marks: &[Option<Mark>],
-) -> bool
-    requires timed { IsTableWithTimes bounds.old times.old pats.now graph.now marks.now }
-    ensures timed { IsTableWithTimes bounds.new times.new pats.now graph.now marks.now }
-    ensures falls { IsTrue result → bounds_weight bounds.new < bounds_weight bounds.old }
-    ensures settled { IsFalse result → (c : ℕ) → c < length graph.now.pairs →
-        AreSettledAt bounds.new graph.now marks.now c }
+fn renew_rounds(basis: Basis, table: &mut Table) -> bool
+    requires timed { IsTableOf basis table.old }
+    ensures { AreRoundsDone basis.entry table.old table.new result }
 {
-    while renew_round(bounds, times, graph, pats, marks, false) {}
-    renew_round(bounds, times, graph, pats, marks, true)
+    while renew_round(basis, table, false) {}
+    renew_round(basis, table, true)
 }
 
 impl Bounds {
@@ -98,10 +81,12 @@ impl Bounds {
         ensures bounds { IfOk result (λ b. AreBounds b graph.now marks.now) }
     {
         let _ = graph.classes();
-        let mut times = Times::new(alloc, graph)?;
+        let times = Times::new(alloc, graph)?;
         let mut bounds = Bounds::new(alloc, graph, pats, cost)?;
         bounds.forget_all();
-        while renew_rounds(&mut bounds, &mut times, graph, pats, marks) {}
-        Ok(bounds)
+        let basis = Basis { graph, pats, marks };
+        let mut table = Table { bounds, times };
+        while renew_rounds(basis, &mut table) {}
+        Ok(table.bounds)
     }
 }

@@ -12,11 +12,11 @@ renew_class-requires-clause-timed c = record {
 pub loop-number-preserved : goal.loop-number-preserved
 loop-number-preserved c =
     let l = c.loop-number in
-    let pats = c.args.pats.now in
-    let graph = c.args.graph.now in
-    let marks = c.args.marks.now in
-    let old = c.args.bounds.now in
-    let new = c.renew_class.new.bounds in
+    let pats = c.args.basis.pats.now in
+    let graph = c.args.basis.graph.now in
+    let marks = c.args.basis.marks.now in
+    let old = c.args.table.now.bounds in
+    let new = c.renew_class.new.table.bounds in
     let one = c.renew_class.ensures in
-    let more = passed_more pats graph marks c.args.whole old l.bounds new l.number c.renew_class.result l.fell l.invariant.1 (λ _. one.timed.fit) one.after.falls one.after.same one.settled in
+    let more = passed_more pats graph marks c.args.whole old l.table.bounds new l.number c.renew_class.result l.fell l.invariant.1 (λ _. one.timed.fit) one.after.falls one.after.same one.settled in
     (one.timed.times_are ∙ sym c.requires.timed.times_are, subst (λ b. ArePassed pats graph marks c.args.whole old new (l.number + 1) b) (sym c.either-fell.ensures) more)

@@ -4,4 +4,4 @@ use Rattle.lw_match.proofs.settling.renew_round.Given as goal
 
 abbrev pub invariant-loop-number : goal.invariant-loop-number
 invariant-loop-number l =
-    (l.times ≡ l.initial.times) × ArePassed l.pats l.graph l.marks l.whole l.initial.bounds l.bounds l.number l.fell
+    (l.table.times ≡ l.initial.table.times) × ArePassed l.basis.pats.now l.basis.graph.now l.basis.marks.now l.whole l.initial.table.bounds l.table.bounds l.number l.fell

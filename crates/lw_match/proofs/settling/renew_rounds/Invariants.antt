@@ -4,7 +4,7 @@ use Rattle.lw_match.proofs.settling.renew_rounds.Given as goal
 
 abbrev pub invariant-loop : goal.invariant-loop
 invariant-loop l =
-    (l.times ≡ l.initial.times) × BoundsFit l.bounds l.pats l.graph × (bounds_weight l.bounds ≤ bounds_weight l.initial.bounds)
+    (l.table.times ≡ l.initial.table.times) × BoundsFit l.table.bounds l.basis.pats.now l.basis.graph.now × (bounds_weight l.table.bounds ≤ bounds_weight l.initial.table.bounds)
 
 abbrev pub decreases-loop : goal.decreases-loop
-decreases-loop l = bounds_weight l.bounds
+decreases-loop l = bounds_weight l.table.bounds
