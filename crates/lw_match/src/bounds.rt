@@ -6,12 +6,10 @@ use crate::bare::bare_patterns;
 use crate::cuts::Cuts;
 use crate::gaps::{all_guesses, no_gaps};
 use crate::lowering::Plan;
-use crate::making::{lists_by, rows_by, sides_by};
+use crate::making::{RootLists, Rows, Sides, lists_by, rows_by, sides_by};
 use crate::numbers::{NO_ROW, Numbers, start_of};
-use crate::parts::{Group, Part, Root, Side};
 use crate::renewing::{Renewal, put_row, renew_parts};
 use crate::{Cost, Mark};
-use indexmap::IndexSet;
 use lw_graph::Graph;
 use lw_pattern::Patterns;
 use lw_pool::{ClassId, PatId};
@@ -35,22 +33,10 @@ fn room_for(classes: u32) -> u32
 /// pins without marks alone, the number is `u64::MAX`; a class without pairs has no numbers.
 #[derive(Drop)]
 pub struct Bounds {
-    parts: IndexSet<Part>,
     gaps: Vec<[u64; 16]>,
-    sides: Vec<Vec<Side>>,
-    roots: Vec<Side>,
-    // the roots in lists by where their numbers stand: with those of pins and constants, in the row
-    // of the class, and in that of its complement
-    leaf_roots: Vec<Root>,
-    row_roots: Vec<Root>,
-    other_roots: Vec<Root>,
-    // where the row of each class starts in the numbers
-    starts: Vec<u32>,
-    numbers: Vec<u64>,
-    // how the numbers of the parts follow from those of their sides
-    groups: Vec<Group>,
-    // room to work in: what the pairs of a class give
-    least: Vec<u64>,
+    sides: Sides,
+    roots: RootLists,
+    rows: Rows,
     // the patterns without NANDs
     bare: Vec<PatId>,
 }
@@ -62,9 +48,9 @@ impl Model for Bounds {
 
     ghost Value = { BoundsState };
 
-    ghost view = { λ b. record { parts = b.parts.keys; gaps = b.gaps.items; sides = map (λ side. side.items) b.sides.items; roots = b.roots.items; starts = b.starts.items; numbers = b.numbers.items } };
+    ghost view = { λ b. record { parts = b.sides.parts.keys; gaps = b.gaps.items; sides = map (λ side. side.items) b.sides.all.items; roots = b.sides.roots.items; starts = b.rows.starts.items; numbers = b.rows.numbers.items } };
 
-    ghost invariant = { λ b. HasRoom b.parts.keys b.groups.items b.least.items b.roots.items b.leaf_roots.items b.row_roots.items b.other_roots.items };
+    ghost invariant = { λ b. HasRoom b.sides.parts.keys b.rows.groups.items b.rows.least.items b.sides.roots.items b.roots.leaf.items b.roots.row.items b.roots.other.items };
 }
 
 impl Bounds {
@@ -116,20 +102,13 @@ impl Bounds {
         let _ = pats.len();
         let bare = bare_patterns(alloc, pats)?;
         let sides = sides_by(alloc, room, &gaps, pats)?;
-        let lists = lists_by(alloc, &sides.roots)?;
+        let roots = lists_by(alloc, &sides.roots)?;
         let rows = rows_by(alloc, graph, sides.parts.as_slice())?;
         Ok(Bounds {
-            parts: sides.parts,
             gaps,
-            sides: sides.all,
-            roots: sides.roots,
-            leaf_roots: lists.leaf,
-            row_roots: lists.row,
-            other_roots: lists.other,
-            starts: rows.starts,
-            numbers: rows.numbers,
-            groups: rows.groups,
-            least: rows.least,
+            sides,
+            roots,
+            rows,
             bare,
         })
     }
@@ -155,14 +134,14 @@ impl Bounds {
         let renewal = Renewal {
             graph,
             marks,
-            starts: &self.starts,
+            starts: &self.rows.starts,
             class,
         };
         let plan = Plan {
-            parts: self.parts.as_slice(),
-            groups: &self.groups,
+            parts: self.sides.parts.as_slice(),
+            groups: &self.rows.groups,
         };
-        renew_parts(renewal, plan, &mut self.least, &mut self.numbers)
+        renew_parts(renewal, plan, &mut self.rows.least, &mut self.rows.numbers)
     }
 
     /// Puts the numbers of a class back to `u64::MAX`, from where they can fall.
@@ -174,10 +153,10 @@ impl Bounds {
         ensures never { (n : ℕ) → n < length self.old.parts →
             number_from self.new.numbers n (start_of self.old.starts class.0) ≡ never }
     {
-        let start = start_of(&self.starts, class);
+        let start = start_of(&self.rows.starts, class);
         if start != NO_ROW {
-            self.least.fill(u64::MAX);
-            put_row(&mut self.numbers, start as usize, &self.least);
+            self.rows.least.fill(u64::MAX);
+            put_row(&mut self.rows.numbers, start as usize, &self.rows.least);
         }
     }
 
@@ -188,7 +167,7 @@ impl Bounds {
         ensures never { (k : ℕ) → k < length self.new.numbers →
             slice_index self.new.numbers k ≡ never }
     {
-        self.numbers.fill(u64::MAX);
+        self.rows.numbers.fill(u64::MAX);
     }
 
     /// The patterns without NANDs.
@@ -212,14 +191,14 @@ impl Bounds {
             result.other_roots.now }
     {
         Cuts {
-            sides: &self.sides,
-            roots: &self.roots,
-            leaf_roots: &self.leaf_roots,
-            row_roots: &self.row_roots,
-            other_roots: &self.other_roots,
-            width: self.parts.len(),
-            starts: &self.starts,
-            numbers: &self.numbers,
+            sides: &self.sides.all,
+            roots: &self.sides.roots,
+            leaf_roots: &self.roots.leaf,
+            row_roots: &self.roots.row,
+            other_roots: &self.roots.other,
+            width: self.sides.parts.len(),
+            starts: &self.rows.starts,
+            numbers: &self.rows.numbers,
             gaps: &self.gaps,
             height_sides: &[],
             heights: Numbers::none(),

@@ -21,7 +21,8 @@ pub(crate) struct Sides {
     pub roots: Vec<Side>,
 }
 
-/// The roots of patterns, in lists by where their numbers stand.
+/// The roots of patterns, in lists by where their numbers stand: with those of pins and constants,
+/// in the row of the class, and in that of its complement.
 #[derive(Drop)]
 pub(crate) struct RootLists {
     pub leaf: Vec<Root>,
@@ -29,7 +30,8 @@ pub(crate) struct RootLists {
     pub other: Vec<Root>,
 }
 
-/// The rows of classes, what their numbers follow from, and room for one row.
+/// Where the row of each class starts in the numbers, how the numbers of the parts follow from those
+/// of their sides, and room for what the pairs of a class give.
 #[derive(Drop)]
 pub(crate) struct Rows {
     pub starts: Vec<u32>,

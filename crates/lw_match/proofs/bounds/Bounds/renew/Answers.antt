@@ -11,7 +11,7 @@ pub renew_parts-requires : goal.renew_parts-requires
 renew_parts-requires c =
     let graph = c.args.graph.now in
     let inside = subst (λ (b : BoundsState). AreRows b.parts b.starts b.numbers graph) (sym c.self.view_is) c.requires.rows in
-    let numbers = subst₂ (λ starts numbers. AreRows c.self.inside.parts.keys starts numbers graph) (sym c.deref.ensures.value) (sym c.deref_mut-2.ensures.value) inside in
+    let numbers = subst₂ (λ starts numbers. AreRows c.self.inside.sides.parts.keys starts numbers graph) (sym c.deref.ensures.value) (sym c.deref_mut-2.ensures.value) inside in
     record {
       graph = c.classes.ensures.kept;
       class = c.requires.class;
@@ -23,7 +23,7 @@ renew_parts-requires c =
 
 pub invariant_of-self : goal.invariant_of-self
 invariant_of-self c =
-    let least = c.self.inside.least in
+    let least = c.self.inside.rows.least in
     let new = c.renew_parts.new.least in
     record {
       grouped = c.self.invariant.grouped;
@@ -35,9 +35,9 @@ invariant_of-self c =
 abbrev seen : (c : goal.After-self-2-1) → BoundsState
 seen c =
     let b = c.self.inside in
-    record { parts = b.parts.keys; gaps = b.gaps.items; sides = map (λ side. side.items) b.sides.items; roots = b.roots.items; starts = b.starts.items; numbers = b.numbers.items }
+    record { parts = b.sides.parts.keys; gaps = b.gaps.items; sides = map (λ side. side.items) b.sides.all.items; roots = b.sides.roots.items; starts = b.rows.starts.items; numbers = b.rows.numbers.items }
 
-facts : (c : goal.After-self-2-1) → IsRenewed c.args.graph.now c.args.marks.now c.args.class.0 c.renew_parts.result (seen c) (with_items c.self.inside.numbers c.renew_parts.new.numbers).items c.args.self.now
+facts : (c : goal.After-self-2-1) → IsRenewed c.args.graph.now c.args.marks.now c.args.class.0 c.renew_parts.result (seen c) (with_items c.self.inside.rows.numbers c.renew_parts.new.numbers).items c.args.self.now
 facts c =
     let b = c.self.inside in
     let graph = c.args.graph.now in
@@ -45,14 +45,14 @@ facts c =
     let new = c.renew_parts.new.numbers in
     let class = c.args.class.0 in
     let fell = c.renew_parts.result in
-    let kept = with_items_is b.numbers new (omega (arith, c.renew_parts.auto.numbers, c.deref_mut-2.ensures.len)) in
+    let kept = with_items_is b.rows.numbers new (omega (arith, c.renew_parts.auto.numbers, c.deref_mut-2.ensures.len)) in
     let rows = subst₂ (λ starts numbers. IsRowRenewed graph (reading_of graph marks c.as_slice.result.now starts numbers) c.as_slice.result.now new class fell) c.deref.ensures.value c.deref_mut-2.ensures.value c.renew_parts.ensures in
-    let row = subst (λ parts. IsRowRenewed graph (reading_of graph marks parts b.starts.items b.numbers.items) parts new class fell) c.as_slice.ensures.keys rows in
-    renewed graph marks class fell (seen c) (with_items b.numbers new).items new c.args.self.now c.self.view_is kept row
+    let row = subst (λ parts. IsRowRenewed graph (reading_of graph marks parts b.rows.starts.items b.rows.numbers.items) parts new class fell) c.as_slice.ensures.keys rows in
+    renewed graph marks class fell (seen c) (with_items b.rows.numbers new).items new c.args.self.now c.self.view_is kept row
 
 pub returns-clause-fits : goal.returns-clause-fits
 returns-clause-fits c = λ pats fits.
-    let numbers = c.self.inside.numbers in
+    let numbers = c.self.inside.rows.numbers in
     let new = c.renew_parts.new.numbers in
     let kept = with_items_is numbers new (omega (arith, c.renew_parts.auto.numbers, c.deref_mut-2.ensures.len)) in
     let size : length new ≡ length numbers.items = c.renew_parts.auto.numbers ∙ ap length c.deref_mut-2.ensures.value in
