@@ -30,13 +30,15 @@ pub(crate) struct RootLists {
     pub other: Vec<Root>,
 }
 
-/// Where the row of each class starts in the numbers, how the numbers of the parts follow from those
-/// of their sides, and room for what the pairs of a class give.
+/// The rows of classes, with a number for each part.
 #[derive(Drop)]
 pub(crate) struct Rows {
+    /// Where the row of each class starts in the numbers.
     pub starts: Vec<u32>,
     pub numbers: Vec<u64>,
+    /// How the numbers of the parts follow from those of their sides.
     pub groups: Vec<Group>,
+    /// Room to work in: what the pairs of a class give.
     pub least: Vec<u64>,
 }
 

@@ -3,7 +3,8 @@ ghost use Rattle.std.specs.Prelude.{◌≡◌, ◌+◌, ◌<◌, ◌≤◌, ◌|
 ghost use Rattle.std.specs.List.{slice_range};
 ghost use Rattle.lw_match.specs.Bounds.{total};
 ghost use Rattle.lw_match.specs.Lowering.{IsRenewal};
-ghost use Rattle.lw_match.specs.Renewing.{IsRenewedBy};
+ghost use Rattle.lw_match.specs.Numbers.{reading};
+ghost use Rattle.lw_match.specs.Renewing.{IsRenewedBy, reading_by};
 
 use crate::Mark;
 use crate::lowering::{Plan, lower_by_all};
@@ -40,6 +41,19 @@ pub(crate) fn put_row(numbers: &mut [u64], start: usize, row: &[u64])
     numbers[start..start + row.len()].copy_from_slice(row);
 }
 
+// What the numbers of sides are read from.
+fn numbers_by<'a>(renewal: Renewal<'a>, plan: Plan, numbers: &'a [u64]) -> Numbers<'a>
+    ensures { reading result ≡ reading_by renewal.entry plan.entry numbers.entry.now }
+{
+    Numbers {
+        one: renewal.graph.one(),
+        marks: renewal.marks,
+        width: plan.parts.len(),
+        starts: renewal.starts,
+        numbers,
+    }
+}
+
 // Lets the numbers of all parts at a class fall to what the pairs give, and says whether one fell.
 // The other list of numbers is room to work in.
 pub(crate) fn renew_parts(
@@ -55,13 +69,7 @@ pub(crate) fn renew_parts(
     if pairs.is_empty() {
         return false;
     }
-    let at = Numbers {
-        one: renewal.graph.one(),
-        marks: renewal.marks,
-        width: plan.parts.len(),
-        starts: renewal.starts,
-        numbers,
-    };
+    let at = numbers_by(renewal, plan, numbers);
     let start = start_of(renewal.starts, renewal.class) as usize;
     least.copy_from_slice(&at.numbers[start..start + at.width]);
     let fell = lower_by_all(at, plan, pairs, least);

@@ -1,4 +1,4 @@
-use Rattle.std.proofs.Common.{ℕ, ◌+◌, ◌<◌, ◌≤◌, ◌≡◌, ◌⊎◌, length, Some, slice_get, slice_index, refl, sym, subst, ◌∙◌, arith, true≢false, eqb-true}
+use Rattle.std.proofs.Common.{ℕ, ◌+◌, ◌<◌, ◌≤◌, ◌≡◌, ◌⊎◌, length, Some, slice_get, slice_index, refl, sym, ap, subst, ◌∙◌, arith, true≢false, eqb-true}
 use Rattle.std.specs.List.{slice_range}
 use Rattle.lw_graph.specs.declared.pair.Pair.{Pair}
 use Rattle.lw_match.specs.declared.parts.Part.{Part}
@@ -30,11 +30,12 @@ returns-else-fell c =
     let lower = c.lower_by_all-fell in
     let least = lower.new.least in
     let pairs = c.nands-pairs.result.now in
-    let with_one : ℕ → Reading = λ o. record { one = o; marks = r.marks.now; width = length parts; starts = starts; numbers = numbers } in
-    let below = subst (λ (o : ℕ). (i : ℕ) (q : Pair) (n : ℕ) (p : Part) → slice_get pairs i ≡ Some q → slice_get parts n ≡ Some p → slice_index least n ≤ pair_number (with_one o) p q.x.0 q.y.0) c.one.ensures.class lower.ensures.lowered in
+    let at = c.numbers_by-at.ensures in
+    let below = subst (λ (r : Reading). (i : ℕ) (q : Pair) (n : ℕ) (p : Part) → slice_get pairs i ≡ Some q → slice_get parts n ≡ Some p → slice_index least n ≤ pair_number r p q.x.0 q.y.0) at lower.ensures.lowered in
+    let row : c.copy_from_slice.new.self ≡ slice_range numbers c.start_of-start.result (c.start_of-start.result + length parts) = c.copy_from_slice.ensures.after ∙ ap (λ (r : Reading). slice_range r.numbers c.start_of-start.result (c.start_of-start.result + r.width)) at in
     let has : start_of starts r.class.0 ≡ no_row → ⊥ = row_there r.graph.now starts r.class.0 pairs c.nands-pairs.ensures.pairs c.requires.rows.bare (not_empty pairs c.is_empty.result c.if-is_empty.false c.is_empty.ensures) in
     let size : length least ≡ length parts = lower.auto.least ∙ (c.copy_from_slice.ensures.len ∙ c.requires.least) in
-    let same = row_same numbers least c.start_of-start.result (length parts) size (lower.ensures.lessened.same c.if-fell.false ∙ c.copy_from_slice.ensures.after) in
+    let same = row_same numbers least c.start_of-start.result (length parts) size (lower.ensures.lessened.same c.if-fell.false ∙ row) in
     record {
       size = refl;
       falls = λ e. absurd (true≢false (sym e ∙ c.if-fell.false));
@@ -53,15 +54,16 @@ returns-then-fell c =
     let least = lower.new.least in
     let pairs = c.nands-pairs.result.now in
     let put = c.put_row in
-    let with_one : ℕ → Reading = λ o. record { one = o; marks = r.marks.now; width = length parts; starts = starts; numbers = numbers } in
-    let below = subst (λ (o : ℕ). (i : ℕ) (q : Pair) (n : ℕ) (p : Part) → slice_get pairs i ≡ Some q → slice_get parts n ≡ Some p → slice_index least n ≤ pair_number (with_one o) p q.x.0 q.y.0) c.one.ensures.class lower.ensures.lowered in
+    let at = c.numbers_by-at.ensures in
+    let below = subst (λ (r : Reading). (i : ℕ) (q : Pair) (n : ℕ) (p : Part) → slice_get pairs i ≡ Some q → slice_get parts n ≡ Some p → slice_index least n ≤ pair_number r p q.x.0 q.y.0) at lower.ensures.lowered in
+    let row : c.copy_from_slice.new.self ≡ slice_range numbers c.start_of-start.result (c.start_of-start.result + length parts) = c.copy_from_slice.ensures.after ∙ ap (λ (r : Reading). slice_range r.numbers c.start_of-start.result (c.start_of-start.result + r.width)) at in
     let has : start_of starts r.class.0 ≡ no_row → ⊥ = row_there r.graph.now starts r.class.0 pairs c.nands-pairs.ensures.pairs c.requires.rows.bare (not_empty pairs c.is_empty.result c.if-is_empty.false c.is_empty.ensures) in
     let size : length least ≡ length parts = lower.auto.least ∙ (c.copy_from_slice.ensures.len ∙ c.requires.least) in
     let start = c.start_of-start.result in
     let there : start ≡ start_of starts r.class.0 = c.start_of-start.ensures in
     let inside : (k : ℕ) → k < length least → slice_index put.new.numbers (start_of starts r.class.0 + k) ≤ slice_index least k = subst (λ (s : ℕ). (k : ℕ) → k < length least → slice_index put.new.numbers (s + k) ≤ slice_index least k) there (λ k lt. let e = put.ensures.row k lt in omega (arith, e)) in
     let outside = subst (λ (w : ℕ). (k : ℕ) → (k < start_of starts r.class.0) ⊎ (start_of starts r.class.0 + w ≤ k) → slice_index put.new.numbers k ≡ slice_index numbers k) size (subst (λ (s : ℕ). (k : ℕ) → (k < s) ⊎ (s + length least ≤ k) → slice_index put.new.numbers k ≡ slice_index numbers k) there put.ensures.others) in
-    let less : total least < total (slice_range numbers start (start + length parts)) = subst (λ (ys : _). total least < total ys) c.copy_from_slice.ensures.after (lower.ensures.lessened.falls c.if-fell.true) in
+    let less : total least < total (slice_range numbers start (start + length parts)) = subst (λ (ys : _). total least < total ys) row (lower.ensures.lessened.falls c.if-fell.true) in
     record {
       size = put.auto.numbers;
       falls = λ e. put.ensures.less (subst (λ (w : ℕ). total least < total (slice_range numbers start (start + w))) (sym size) less);
