@@ -1,4 +1,4 @@
-use Rattle.std.proofs.Common.{◌≡◌, ◌<◌, refl, ap, arith}
+use Rattle.std.proofs.Common.{refl, ap, arith}
 use Rattle.lw_match.specs.Bounds.{bounds_weight}
 use Rattle.lw_match.proofs.settling.renew_rounds.Goals as goal
 
