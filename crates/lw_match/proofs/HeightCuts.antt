@@ -1,5 +1,5 @@
 -- What a table of heights cuts.
-use Rattle.std.proofs.Common.{ℕ, ◌≤◌, ◌≡◌, ◌%◌, zero, suc, List, [], ◌∷◌, length, Option, Some, None, IfSome, option_map, slice_get, slice_index, slice_index_or, sym, ap, subst, ◌∙◌, arith}
+use Rattle.std.proofs.Common.{ℕ, ◌≤◌, ◌≡◌, ◌%◌, zero, suc, List, [], ◌∷◌, length, Option, Some, None, IfSome, option_map, slice_get, slice_index, slice_index_or, refl, sym, ap, subst, ◌∙◌, arith}
 use Rattle.std.proofs.lemmas.List.{length-map}
 use Rattle.lw_laws.specs.Graphs.{Graph}
 use Rattle.lw_laws.specs.Covers.{Pattern}
@@ -68,3 +68,8 @@ module _ (cuts : CutsState) (pats : List Pattern) (g : Graph) (marks : List (Opt
         let le = are.bounds (gaps_of h.bounds.now.gaps i) (tree_at (nodes_of p.tree) place) side (are.fit.sides i p e place side at) c ps (greatest_height ms) stands (subst (λ ks. AreMarkedWithin ks (gaps_of h.bounds.now.gaps i) ps (greatest_height ms)) (sym are.heights) within) in
         omega arith;
   }
+
+-- the gaps are as they were
+pub gaps_with : (cuts : CutsState) (g : Graph) (heights : Option HeightBounds) → (cuts_with cuts g heights).gaps ≡ cuts.gaps
+gaps_with cuts g None = refl
+gaps_with cuts g (Some h) = refl

@@ -35,6 +35,7 @@ pub mod Rooting
 pub mod Settled
 pub mod Rowing
 pub mod SideRows
+pub mod Sites
 pub mod Soughts
 pub mod Starting
 pub mod Steps

@@ -21,9 +21,9 @@ use Rattle.lw_match.specs.Shapes.{plain}
 use Rattle.lw_match.specs.Least.{Priced, IsPricedAt, IsPricedBy, IsPricedAtMost, IsMarkBefore, plain_best}
 use Rattle.lw_match.specs.Places.{list_of, list_at, root_of, AreListed, IsFar}
 use Rattle.lw_match.specs.Cutting.{cuts_state, root_side, IsCertifiedBy, AreSureCuts, IsFloor, IsTopOf}
-use Rattle.lw_match.specs.Queries.{IsQuery}
+use Rattle.lw_match.specs.Queries.{IsQuery, IsPricedIn}
 use Rattle.lw_match.specs.Searching.{Improves, HasAtMost, always}
-use Rattle.lw_match.specs.Picks.{IsLastBefore, AreLastBefore, IsPick, IsPricedIn, IsBelow, IsInList, IsByRoot, those}
+use Rattle.lw_match.specs.Picks.{IsLastBefore, AreLastBefore, IsPick, IsBelow, IsInList, IsByRoot, those}
 use Rattle.lw_match.proofs.Improving.{above_kept, improves_cut}
 use Rattle.lw_match.proofs.RootLists.{by_lists, far}
 
@@ -109,34 +109,34 @@ module _ (P : Priced → Type 0) where
       by_cost b p (yes lt) = i.all b lt p
       by_cost b p (no ge) = above_kept old new b (start, is, inl (omega arith)) i.kept
 
-module _ {C : _} (cost : Cost) (q : Query C) where
+module _ {C : Type 0} (costs : C → Cost) (q : Query C) where
   -- the match is by the pattern of one of the first n roots
   abbrev pub IsAmong : ℕ → ℕ → List Root → ℕ → Priced → Type 0
   IsAmong top list roots n b =
       IsInList q top list b × ((k : ℕ) × (k < n) × (slice_get roots k ≡ Some (root_of b.found.pattern (root_side (cuts_state q.cuts) b.found.pattern))))
 
-  pub among_start : (top list : ℕ) (roots : List Root) (best : Option Best) → Improves (those (IsAmong top list roots 0)) (IsPricedIn cost q) best best
+  pub among_start : (top list : ℕ) (roots : List Root) (best : Option Best) → Improves (those (IsAmong top list roots 0)) (IsPricedIn costs q) best best
   among_start top list roots best =
-      improves_cut (those (IsAmong top list roots 0)) (IsPricedIn cost q) best (λ b (here, (k, lt, at)) p. absurd (omega arith))
+      improves_cut (those (IsAmong top list roots 0)) (IsPricedIn costs q) best (λ b (here, (k, lt, at)) p. absurd (omega arith))
 
-  pub among_next : (top list : ℕ) (roots : List Root) (n : ℕ) (root : Root) (old mid new : Option Best) → slice_get roots n ≡ Some root → Improves (those (IsAmong top list roots n)) (IsPricedIn cost q) old mid → Improves (those (IsByRoot q top list root)) (IsPricedIn cost q) mid new → Improves (those (IsAmong top list roots (n + 1))) (IsPricedIn cost q) old new
+  pub among_next : (top list : ℕ) (roots : List Root) (n : ℕ) (root : Root) (old mid new : Option Best) → slice_get roots n ≡ Some root → Improves (those (IsAmong top list roots n)) (IsPricedIn costs q) old mid → Improves (those (IsByRoot q top (list_at q.view list) root)) (IsPricedIn costs q) mid new → Improves (those (IsAmong top list roots (n + 1))) (IsPricedIn costs q) old new
   among_next top list roots n root old mid new there i j =
-      improves_either (IsPricedIn cost q) (IsAmong top list roots n) (IsByRoot q top list root) (IsAmong top list roots (n + 1)) old mid new (λ b (here, (k, lt, at)). by_place b here k at (eq-or-lt_of_le {n = k} {m = n} (omega arith))) i j
+      improves_either (IsPricedIn costs q) (IsAmong top list roots n) (IsByRoot q top (list_at q.view list) root) (IsAmong top list roots (n + 1)) old mid new (λ b (here, (k, lt, at)). by_place b here k at (eq-or-lt_of_le {n = k} {m = n} (omega arith))) i j
     where
-      by_place : (b : Priced) → IsInList q top list b → (k : ℕ) → slice_get roots k ≡ Some (root_of b.found.pattern (root_side (cuts_state q.cuts) b.found.pattern)) → (k ≡ n) ⊎ (k < n) → IsAmong top list roots n b ⊎ IsByRoot q top list root b
+      by_place : (b : Priced) → IsInList q top list b → (k : ℕ) → slice_get roots k ≡ Some (root_of b.found.pattern (root_side (cuts_state q.cuts) b.found.pattern)) → (k ≡ n) ⊎ (k < n) → IsAmong top list roots n b ⊎ IsByRoot q top (list_at q.view list) root b
       by_place b here k at (inl same) =
           let r = root_of b.found.pattern (root_side (cuts_state q.cuts) b.found.pattern) in
           let mine : slice_get roots n ≡ Some r = subst (λ (j : ℕ). slice_get roots j ≡ Some r) same at in
-          inr (here, same_Some root r (sym there ∙ mine))
+          inr (here.0, ap (list_at q.view) here.1, same_Some root r (sym there ∙ mine))
       by_place b here k at (inr less) = inl (here, (k, less, at))
 
   -- each root is in one of the lists
-  pub improves_lists : (top : ℕ) (old first second new : Option Best) → Improves (those (IsInList q top 0)) (IsPricedIn cost q) old first → Improves (those (IsInList q top 1)) (IsPricedIn cost q) first second → Improves (those (IsInList q top 2)) (IsPricedIn cost q) second new → Improves (those (IsBelow top)) (IsPricedIn cost q) old new
+  pub improves_lists : (top : ℕ) (old first second new : Option Best) → Improves (those (IsInList q top 0)) (IsPricedIn costs q) old first → Improves (those (IsInList q top 1)) (IsPricedIn costs q) first second → Improves (those (IsInList q top 2)) (IsPricedIn costs q) second new → Improves (those (IsBelow top)) (IsPricedIn costs q) old new
   improves_lists top old first second new i j k =
       improves_either P Two (IsInList q top 2) (IsBelow top) old second new late (improves_either P (IsInList q top 0) (IsInList q top 1) Two old first second (λ b e. e) i j) k
     where
       P : Priced → Type 0
-      P = IsPricedIn cost q
+      P = IsPricedIn costs q
 
       Two : Priced → Type 0
       Two b = IsInList q top 0 b ⊎ IsInList q top 1 b
@@ -147,20 +147,20 @@ module _ {C : _} (cost : Cost) (q : Query C) where
           (λ is. inl (inr (low, is)))
           (λ is. inr (low, is))
 
-  module _ (p : Pick) (pick : IsPick cost q p) where
-    pattern_within : (b : Priced) → IsPricedIn cost q b → b.found.pattern < length q.pats.now
+  module _ (p : Pick) (pick : IsPick costs q p) where
+    pattern_within : (b : Priced) → IsPricedIn costs q b → b.found.pattern < length q.pats.now
     pattern_within b at =
         slice_get_within q.pats.now b.found.pattern at.pattern at.matches.listed
 
-    rooted : (b : Priced) → IsPricedIn cost q b → b.found.pattern < length q.cuts.roots.now
+    rooted : (b : Priced) → IsPricedIn costs q b → b.found.pattern < length q.cuts.roots.now
     rooted b at =
         let lt = pattern_within b at in let le = pick.rooted in omega (arith, lt, le)
 
-    pub among_all : (list : ℕ) (roots : List Root) (n : ℕ) (old new : Option Best) → AreListed q.cuts.roots.now list roots (length q.cuts.roots.now) → length roots ≤ n → Improves (those (IsAmong p.top list roots n)) (IsPricedIn cost q) old new → Improves (those (IsInList q p.top list)) (IsPricedIn cost q) old new
+    pub among_all : (list : ℕ) (roots : List Root) (n : ℕ) (old new : Option Best) → AreListed q.cuts.roots.now list roots (length q.cuts.roots.now) → length roots ≤ n → Improves (those (IsAmong p.top list roots n)) (IsPricedIn costs q) old new → Improves (those (IsInList q p.top list)) (IsPricedIn costs q) old new
     among_all list roots n old new listed whole i =
-        improves_fewer (IsPricedIn cost q) (IsAmong p.top list roots n) (IsInList q p.top list) old new (λ b at here. (here, place b at here.1)) i
+        improves_fewer (IsPricedIn costs q) (IsAmong p.top list roots n) (IsInList q p.top list) old new (λ b at here. (here, place b at here.1)) i
       where
-        place : (b : Priced) → IsPricedIn cost q b → list_of (root_side (cuts_state q.cuts) b.found.pattern) ≡ list → (k : ℕ) × (k < n) × (slice_get roots k ≡ Some (root_of b.found.pattern (root_side (cuts_state q.cuts) b.found.pattern)))
+        place : (b : Priced) → IsPricedIn costs q b → list_of (root_side (cuts_state q.cuts) b.found.pattern) ≡ list → (k : ℕ) × (k < n) × (slice_get roots k ≡ Some (root_of b.found.pattern (root_side (cuts_state q.cuts) b.found.pattern)))
         place b at in_list =
             let j = b.found.pattern in
             let s = root_side (cuts_state q.cuts) j in
@@ -170,42 +170,42 @@ module _ {C : _} (cost : Cost) (q : Query C) where
             (k, omega (arith, lt, whole), there)
 
     -- no pattern of the library has the root
-    pub past_root : (list : ℕ) (root : Root) (best : Option Best) → length q.pats.now ≤ root.pattern → Improves (those (IsByRoot q p.top list root)) (IsPricedIn cost q) best best
-    past_root list root best past =
-        improves_cut (those (IsByRoot q p.top list root)) (IsPricedIn cost q) best (λ b (here, is) at. absurd (none b is at))
+    pub past_root : (numbers : List ℕ) (root : Root) (best : Option Best) → length q.pats.now ≤ root.pattern → Improves (those (IsByRoot q p.top numbers root)) (IsPricedIn costs q) best best
+    past_root numbers root best past =
+        improves_cut (those (IsByRoot q p.top numbers root)) (IsPricedIn costs q) best (λ b (low, there, is) at. absurd (none b is at))
       where
-        none : (b : Priced) → root ≡ root_of b.found.pattern (root_side (cuts_state q.cuts) b.found.pattern) → IsPricedIn cost q b → ⊥
+        none : (b : Priced) → root ≡ root_of b.found.pattern (root_side (cuts_state q.cuts) b.found.pattern) → IsPricedIn costs q b → ⊥
         none b is at =
             let same : root.pattern ≡ b.found.pattern = ap (λ (r : Root). r.pattern) is in
             let lt = pattern_within b at in
             omega (arith, same, lt, past)
 
     -- the best is ahead of the pattern
-    pub ahead_root : (list : ℕ) (root : Root) (best : Option Best) → ((b : Priced) → IsLastBefore (plain_mark p.bound) b.mark → b.found.pattern ≡ root.pattern → HasAtMost best b) → Improves (those (IsByRoot q p.top list root)) (IsPricedIn cost q) best best
-    ahead_root list root best ahead =
-        improves_cut (those (IsByRoot q p.top list root)) (IsPricedIn cost q) best (λ b (here, is) at. ahead b (pick.last.last b at) (sym (ap (λ (r : Root). r.pattern) is)))
+    pub ahead_root : (numbers : List ℕ) (root : Root) (best : Option Best) → ((b : Priced) → IsLastBefore (plain_mark p.bound) b.mark → b.found.pattern ≡ root.pattern → HasAtMost best b) → Improves (those (IsByRoot q p.top numbers root)) (IsPricedIn costs q) best best
+    ahead_root numbers root best ahead =
+        improves_cut (those (IsByRoot q p.top numbers root)) (IsPricedIn costs q) best (λ b (low, there, is) at. ahead b (pick.last.last b at) (sym (ap (λ (r : Root). r.pattern) is)))
 
     -- the pattern was searched
-    pub searched_root : (list : ℕ) (root : Root) (scope : Scope) (old new : Option Best) → scope.limit ≡ p.top → scope.hunts ≡ false → scope.by_marks ≡ false → Improves (AreSureCuts (cuts_state q.cuts) q.graph.now cost q.pats.now q.marks.now root.pattern scope) (IsPricedBy q.graph.now cost q.pats.now (marks_in q.marks.now) q.class.0 root.pattern) old new → Improves (those (IsByRoot q p.top list root)) (IsPricedIn cost q) old new
-    searched_root list root scope old new limit not_hunts not_marks i = record {
+    pub searched_root : (numbers : List ℕ) (root : Root) (scope : Scope) (old new : Option Best) → scope.limit ≡ p.top → scope.hunts ≡ false → scope.by_marks ≡ false → Improves (AreSureCuts (cuts_state q.cuts) q.graph.now (costs q.cost.now) q.pats.now q.marks.now root.pattern scope) (IsPricedBy q.graph.now (costs q.cost.now) q.pats.now (marks_in q.marks.now) q.class.0 root.pattern) old new → Improves (those (IsByRoot q p.top numbers root)) (IsPricedIn costs q) old new
+    searched_root numbers root scope old new limit not_hunts not_marks i = record {
       from = from i.from;
       kept = i.kept;
-      all = λ b (here, is) at. i.all b sure (at, sym (ap (λ (r : Root). r.pattern) is));
+      all = λ b (low, there, is) at. i.all b sure (at, sym (ap (λ (r : Root). r.pattern) is));
     }
       where
-        sure : {b : Priced} → AreSureCuts (cuts_state q.cuts) q.graph.now cost q.pats.now q.marks.now root.pattern scope b new
+        sure : {b : Priced} → AreSureCuts (cuts_state q.cuts) q.graph.now (costs q.cost.now) q.pats.now q.marks.now root.pattern scope b new
         sure = record {
           bounds = pick.bounds;
-          sure = inr (subst (λ (n : ℕ). IsCertifiedBy cost q.pats.now (cuts_state q.cuts).gaps root.pattern n) (sym limit) (pick.sure root.pattern));
+          sure = inr (subst (λ (n : ℕ). IsCertifiedBy (costs q.cost.now) q.pats.now (cuts_state q.cuts).gaps root.pattern n) (sym limit) (pick.sure root.pattern));
           hunting = λ e. cc;
           ahead = λ e. cc;
         }
 
-        from : ((new ≡ old) ⊎ ((b : Best) × (new ≡ Some b) × IsPricedBy q.graph.now cost q.pats.now (marks_in q.marks.now) q.class.0 root.pattern (plain_best b))) → (new ≡ old) ⊎ ((b : Best) × (new ≡ Some b) × IsPricedIn cost q (plain_best b))
+        from : ((new ≡ old) ⊎ ((b : Best) × (new ≡ Some b) × IsPricedBy q.graph.now (costs q.cost.now) q.pats.now (marks_in q.marks.now) q.class.0 root.pattern (plain_best b))) → (new ≡ old) ⊎ ((b : Best) × (new ≡ Some b) × IsPricedIn costs q (plain_best b))
         from (inl e) = inl e
         from (inr (b, e, by)) = inr (b, e, by.0)
 
-    module _ (cap : ℕ) (is_cost : IsCost cost) (in_range : AreInRange cost.cap q.marks.now) (is : IsQuery cap cost q) where
+    module _ (cap : ℕ) (is_cost : IsCost (costs q.cost.now)) (in_range : AreInRange (costs q.cost.now).cap q.marks.now) (is : IsQuery cap costs q) where
       is_top : (top : ℕ) → IsTopOf (Some (record { cost = top; height = 0 })) top
       is_top top k high some le (inl lt) = omega arith
       is_top top k high some le (inr (e, lt)) = omega arith
@@ -218,20 +218,20 @@ module _ {C : _} (cost : Cost) (q : Query C) where
         is_top = is_top p.top;
       }
 
-      nowhere : (list : ℕ) (numbers : List ℕ) (b : Priced) → numbers ≡ list_at q.view list → IsInList q p.top list b → IsPricedIn cost q b → (root : Root) → root ≡ root_of b.found.pattern (root_side (cuts_state q.cuts) b.found.pattern) → IsFar numbers root.place root.shift p.top → ⊥
-      nowhere list numbers b numbers_is (low, in_list) at root root_is f =
-          far cost q cap is_cost in_range is list numbers root b.found.pattern target numbers_is (pattern_within b at) (rooted b at) in_list root_is f pick.bounds (inr (pick.sure b.found.pattern)) b (at, refl) (inl low)
+      nowhere : (numbers : List ℕ) (b : Priced) (root : Root) → IsByRoot q p.top numbers root b → IsPricedIn costs q b → IsFar numbers root.place root.shift p.top → ⊥
+      nowhere numbers b root (low, there, root_is) at f =
+          far costs q cap is_cost in_range is numbers root b.found.pattern target (record { within = pattern_within b at; known = rooted b at; in_list = there; is = root_is }) f pick.bounds (inr (pick.sure b.found.pattern)) b (at, refl) (inl low)
 
       -- the number of the root is not below the top
-      pub far_root : (list : ℕ) (numbers : List ℕ) (root : Root) (best : Option Best) → numbers ≡ list_at q.view list → IsFar numbers root.place root.shift p.top → Improves (those (IsByRoot q p.top list root)) (IsPricedIn cost q) best best
-      far_root list numbers root best numbers_is f =
-          improves_cut (those (IsByRoot q p.top list root)) (IsPricedIn cost q) best (λ b (here, root_is) at. absurd (nowhere list numbers b numbers_is here at root root_is f))
+      pub far_root : (numbers : List ℕ) (root : Root) (best : Option Best) → IsFar numbers root.place root.shift p.top → Improves (those (IsByRoot q p.top numbers root)) (IsPricedIn costs q) best best
+      far_root numbers root best f =
+          improves_cut (those (IsByRoot q p.top numbers root)) (IsPricedIn costs q) best (λ b here at. absurd (nowhere numbers b root here at f))
 
       -- no number of the list is
-      pub far_list : (list : ℕ) (numbers : List ℕ) (best : Option Best) → numbers ≡ list_at q.view list → ((place shift : ℕ) → IsFar numbers place shift p.top) → Improves (those (IsInList q p.top list)) (IsPricedIn cost q) best best
+      pub far_list : (list : ℕ) (numbers : List ℕ) (best : Option Best) → numbers ≡ list_at q.view list → ((place shift : ℕ) → IsFar numbers place shift p.top) → Improves (those (IsInList q p.top list)) (IsPricedIn costs q) best best
       far_list list numbers best numbers_is f =
-          improves_cut (those (IsInList q p.top list)) (IsPricedIn cost q) best (λ b here at. absurd (by_root b here at (root_of b.found.pattern (root_side (cuts_state q.cuts) b.found.pattern)) refl))
+          improves_cut (those (IsInList q p.top list)) (IsPricedIn costs q) best (λ b here at. absurd (by_root b here at (root_of b.found.pattern (root_side (cuts_state q.cuts) b.found.pattern)) refl))
         where
-          by_root : (b : Priced) → IsInList q p.top list b → IsPricedIn cost q b → (root : Root) → root ≡ root_of b.found.pattern (root_side (cuts_state q.cuts) b.found.pattern) → ⊥
+          by_root : (b : Priced) → IsInList q p.top list b → IsPricedIn costs q b → (root : Root) → root ≡ root_of b.found.pattern (root_side (cuts_state q.cuts) b.found.pattern) → ⊥
           by_root b here at root root_is =
-              nowhere list numbers b numbers_is here at root root_is (f root.place root.shift)
+              nowhere numbers b root (here.0, ap (list_at q.view) here.1 ∙ sym numbers_is, root_is) at (f root.place root.shift)

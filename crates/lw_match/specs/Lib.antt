@@ -10,6 +10,7 @@ pub mod Lowering
 pub mod Making
 pub mod Matching
 pub mod Needs
+pub mod NoCuts
 pub mod Numbers
 pub mod Parts
 pub mod Picks
@@ -21,5 +22,6 @@ pub mod Seeking
 pub mod Settling
 pub mod Shapes
 pub mod Steps
+pub mod Sites
 pub mod Times
 pub mod Values

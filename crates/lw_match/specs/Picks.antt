@@ -11,8 +11,9 @@ use Rattle.lw_match.specs.declared.query.Query.{Query}
 use Rattle.lw_match.specs.Values.{plain_mark, marks_in}
 use Rattle.lw_match.specs.Least.{Priced, IsPricedAt, IsMarkBefore}
 use Rattle.lw_match.specs.Cutting.{cuts_state, root_side, AreCertified}
-use Rattle.lw_match.specs.Places.{list_of, root_of}
-use Rattle.lw_match.specs.Queries.{AreTrue}
+use Rattle.lw_match.specs.Places.{list_at, list_of, root_of}
+use Rattle.lw_match.specs.Queries.{AreTrue, IsPricedIn, IsQuery}
+use Rattle.lw_match.specs.Searching.{Improves}
 
 -- a mark that is not before the bound when it is one higher
 abbrev pub IsLastBefore : Mark → Mark → Type 0
@@ -24,12 +25,22 @@ pub record AreLastBefore (g : Graph) (cost : Cost) (pats : List Pattern) (marks 
   pub capped : bound.cost ≤ cost.cap
   pub last : (b : Priced) → IsPricedAt g cost pats marks c b → IsLastBefore bound b.mark
 
+-- so it is for a query
+abbrev pub AreLastIn : {C : Type 0} → (C → Cost) → Query C → Mark → Type 0
+AreLastIn costs q bound =
+    AreLastBefore q.graph.now (costs q.cost.now) q.pats.now (marks_in q.marks.now) q.class.0 bound
+
 -- The numbers are bounds, and each pattern has a root. The gaps are certified at the top, and the matches are last before the bound.
-pub record IsPick {C : _} (cost : Cost) (q : Query C) (p : Pick) : Type 0 where
+pub record IsPick {C : Type 0} (costs : C → Cost) (q : Query C) (p : Pick) : Type 0 where
   pub bounds : AreTrue q
   pub rooted : length q.pats.now ≤ length q.cuts.roots.now
-  pub sure : AreCertified cost q.pats.now (cuts_state q.cuts).gaps p.top
-  pub last : AreLastBefore q.graph.now cost q.pats.now (marks_in q.marks.now) q.class.0 (plain_mark p.bound)
+  pub sure : AreCertified (costs q.cost.now) q.pats.now (cuts_state q.cuts).gaps p.top
+  pub last : AreLastIn costs q (plain_mark p.bound)
+
+-- such a choice, by a query
+pub record IsPickAt {C : Type 0} (cap : ℕ) (costs : C → Cost) (q : Query C) (p : Pick) : Type 0 where
+  pub query : IsQuery cap costs q
+  pub pick : IsPick costs q p
 
 -- whatever the best is
 abbrev pub those : (Priced → Type 0) → Priced → Option Best → Type 0
@@ -39,15 +50,15 @@ abbrev pub IsBelow : ℕ → Priced → Type 0
 IsBelow top b = b.mark.cost < top
 
 -- the match is by a pattern whose root has its number in the list, and costs less than the top
-abbrev pub IsInList : {C : _} → Query C → ℕ → ℕ → Priced → Type 0
+abbrev pub IsInList : {C : Type 0} → Query C → ℕ → ℕ → Priced → Type 0
 IsInList q top list b =
     IsBelow top b × (list_of (root_side (cuts_state q.cuts) b.found.pattern) ≡ list)
 
--- and the root is this one
-abbrev pub IsByRoot : {C : _} → Query C → ℕ → ℕ → Root → Priced → Type 0
-IsByRoot q top list root b =
-    IsInList q top list b × (root ≡ root_of b.found.pattern (root_side (cuts_state q.cuts) b.found.pattern))
+-- it is by the pattern of this root, which has its number in these, and costs less than the top
+abbrev pub IsByRoot : {C : Type 0} → Query C → ℕ → List ℕ → Root → Priced → Type 0
+IsByRoot q top numbers root b =
+    IsBelow top b × (list_at q.view (list_of (root_side (cuts_state q.cuts) b.found.pattern)) ≡ numbers) × (root ≡ root_of b.found.pattern (root_side (cuts_state q.cuts) b.found.pattern))
 
--- a match at the class, whose pins have marks
-abbrev pub IsPricedIn : {C : _} → Cost → Query C → Priced → Type 0
-IsPricedIn cost q b = IsPricedAt q.graph.now cost q.pats.now (marks_in q.marks.now) q.class.0 b
+-- the best becomes the least of what it was and these matches
+abbrev pub PicksOf : {C : Type 0} → (C → Cost) → Query C → (Priced → Type 0) → Option Best → Option Best → Type 0
+PicksOf costs q P old new = Improves (those P) (IsPricedIn costs q) old new

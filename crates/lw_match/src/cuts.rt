@@ -1,6 +1,7 @@
 ghost use Rattle.std.specs.Prelude.{◌≡◌, map, [], slice_index_or};
 ghost use Rattle.lw_match.specs.Numbers.{reading};
 ghost use Rattle.lw_match.specs.Cutting.{cuts_state, cuts_reading};
+ghost use Rattle.lw_match.specs.NoCuts.{AreNoCuts};
 
 use crate::Mark;
 use crate::numbers::Numbers;
@@ -26,6 +27,27 @@ pub struct Cuts<'a> {
     pub gaps: &'a [[u64; 16]],
     pub height_sides: &'a [Vec<Side>],
     pub heights: Numbers<'a>,
+}
+
+impl<'a> Cuts<'a> {
+    /// Those by which no search is cut.
+    pub(crate) fn none() -> Cuts<'a>
+        ensures { AreNoCuts result }
+    {
+        Cuts {
+            sides: &[],
+            roots: &[],
+            leaf_roots: &[],
+            row_roots: &[],
+            other_roots: &[],
+            width: 0,
+            starts: &[],
+            numbers: &[],
+            gaps: &[],
+            height_sides: &[],
+            heights: Numbers::none(),
+        }
+    }
 }
 
 /// What the numbers of sides are read from.

@@ -34,6 +34,7 @@ mod search;
 mod seeking;
 mod settling;
 mod shapes;
+mod site;
 mod starts;
 mod sweeping;
 mod target;

@@ -1,20 +1,38 @@
 use Rattle.std.proofs.Common.{sym, subst, arith}
-use Rattle.lw_match.specs.Cutting.{CutsState, CutsFit, AreCutsOf}
+use Rattle.lw_match.specs.Cutting.{CutsState, CutsFit, AreCutsOf, AreKnown}
+use Rattle.lw_match.specs.Sites.{AreKnownAt, IsSite}
 use Rattle.lw_match.proofs.CutsOfBounds.{bounds_cut, bounds_cut_well}
+use Rattle.lw_match.proofs.Sites.{outcome_of}
 use Rattle.lw_match.proofs.bettering.better_within.Goals as goal
 
-pub better_by_cuts-requires-clause-site : goal.better_by_cuts-requires-clause-site
-better_by_cuts-requires-clause-site g c = record {
+pub better_at-requires-clause-site : goal.better_at-requires-clause-site
+better_at-requires-clause-site g c = subst (IsSite g.C.Cost.CAP g.C.Cost.costs) (sym c.new-site.ensures) (record {
   class = c.requires.class;
   one_each = c.requires.one_each;
   in_range = c.requires.in_range;
   of_cells = c.requires.of_cells;
-  cuts_fit = subst (λ (cuts : CutsState). CutsFit cuts c.args.graph.now) (sym c.cuts-cuts.ensures.state) (bounds_cut c.args.bounds.now c.args.pats.now c.args.graph.now c.requires.fit);
-  listed = c.cuts-cuts.ensures.roots;
+  cuts_fit = subst (λ (cuts : CutsState). CutsFit cuts c.args.graph.now) (sym c.cuts.ensures.state) (bounds_cut c.args.bounds.now c.args.pats.now c.args.graph.now c.requires.fit);
+  listed = c.cuts.ensures.roots;
   floor_is = record { capped = omega arith; below = λ b i. omega arith };
-}
+})
+
+pub better_at-requires-clause-known : goal.better_at-requires-clause-known
+better_at-requires-clause-known g c =
+    let known = subst (λ (cuts : CutsState). AreKnown (g.C.Cost.costs c.args.cost.now) c.args.pats.now cuts.gaps c.args.tops.now) (sym c.cuts.ensures.state) c.requires.known in
+    subst (λ s. AreKnownAt g.C.Cost.costs s c.args.tops.now) (sym c.new-site.ensures) known
+
+pub returns-clause-known : goal.returns-clause-known
+returns-clause-known g c =
+    let known = subst (λ s. AreKnownAt g.C.Cost.costs s c.better_at.new.tops) c.new-site.ensures c.better_at.ensures.known in
+    subst (λ (cuts : CutsState). AreKnown (g.C.Cost.costs c.args.cost.now) c.args.pats.now cuts.gaps c.better_at.new.tops) c.cuts.ensures.state known
+
+pub returns-clause-sound : goal.returns-clause-sound
+returns-clause-sound g c =
+    (outcome_of g.C.Cost.costs c.new-site.result _ c.any.result _ c.better_at.result c.new-site.ensures c.any.ensures c.better_at.ensures.outcome).sound
+
+pub returns-clause-none : goal.returns-clause-none
+returns-clause-none g c = c.better_at.ensures.outcome.none
 
 pub returns-clause-least : goal.returns-clause-least
-returns-clause-least g c =
-    λ t bounds.
-    c.better_by_cuts.ensures.outcome.least t (subst (λ (cuts : CutsState). AreCutsOf cuts c.args.pats.now c.args.graph.now c.args.marks.now) (sym c.cuts-cuts.ensures.state) (bounds_cut_well c.args.bounds.now c.args.pats.now c.args.graph.now c.args.marks.now c.requires.fit bounds))
+returns-clause-least g c = λ t bounds.
+    (outcome_of g.C.Cost.costs c.new-site.result _ c.any.result _ c.better_at.result c.new-site.ensures c.any.ensures c.better_at.ensures.outcome).least t (subst (λ (cuts : CutsState). AreCutsOf cuts c.args.pats.now c.args.graph.now c.args.marks.now) (sym c.cuts.ensures.state) (bounds_cut_well c.args.bounds.now c.args.pats.now c.args.graph.now c.args.marks.now c.requires.fit bounds))

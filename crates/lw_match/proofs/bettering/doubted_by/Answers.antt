@@ -1,9 +1,17 @@
-use Rattle.std.proofs.Common.{refl, subst, inl, inr}
+use Rattle.std.proofs.Common.{subst, inl, inr}
 use Rattle.lw_match.specs.Values.{marks_in}
 use Rattle.lw_match.specs.Cutting.{IsNoneBy, bound_after}
+use Rattle.lw_match.specs.Queries.{FindsWithin}
 use Rattle.lw_match.proofs.bettering.doubted_by.Goals as goal
+
+pub returns-clause-sound : goal.returns-clause-sound
+returns-clause-sound g c =
+    subst (λ bound. FindsWithin g.C.Cost.costs c.args.query.now bound c.hunted_by.result) c.unlimited.ensures.bound_is c.hunted_by.ensures.sound
 
 pub returns-clause-none : goal.returns-clause-none
 returns-clause-none g c = λ e bounds.
     let q = c.args.query.now in
-    inr (subst (λ found. IsNoneBy q.graph.now (g.C.Cost.costs q.cost.now) q.pats.now (marks_in q.marks.now) q.class.0 c.args.pat.0 (bound_after found c.args.target.bound)) e (c.hunted_by.ensures.none (inl e) bounds (inl refl)))
+    let costs = g.C.Cost.costs q.cost.now in
+    let target = c.unlimited.result in
+    let none = subst (λ found. IsNoneBy q.graph.now costs q.pats.now (marks_in q.marks.now) q.class.0 c.args.pat.0 (bound_after found target.bound)) e (c.hunted_by.ensures.none (inl e) bounds (inl c.unlimited.ensures.top)) in
+    inr (subst (λ bound. IsNoneBy q.graph.now costs q.pats.now (marks_in q.marks.now) q.class.0 c.args.pat.0 bound) c.unlimited.ensures.bound_is none)

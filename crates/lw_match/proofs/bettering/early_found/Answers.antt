@@ -9,5 +9,5 @@ returns-clause-outcome g c =
     record {
       sound = search rules;
       none = λ e. cc;
-      least = λ t bounds. subst (λ left. FindsLeast (g.C.Cost.costs q.cost.now) q left None) (sym (ap (λ (m : Bool). bound_past m (Some c.in_ok-best.best) c.args.bound) c.if-by_marks.false)) (c.is_cheapest-is_least.ensures.none t bounds);
+      least = λ t bounds. subst (λ left. FindsLeast g.C.Cost.costs q left None) (sym (ap (λ (m : Bool). bound_past m (Some c.in_ok-best.best) c.args.want.bound) c.if-want.false)) (c.is_cheapest-is_least.ensures.none t bounds);
     }

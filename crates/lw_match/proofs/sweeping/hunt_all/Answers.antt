@@ -4,7 +4,7 @@ use Rattle.lw_match.proofs.sweeping.hunt_all.Goals as goal
 
 pub loop-number-init : goal.loop-number-init
 loop-number-init g c = record {
-  goes_on = stays_on (g.C.Cost.costs c.args.query.now.cost.now) c.args.query.now c.args.hunt.now;
+  goes_on = stays_on g.C.Cost.costs c.args.query.now c.args.hunt.now c.args.hunt.now.unbound;
   none = λ e i lt. absurd (omega arith);
 }
 
@@ -13,8 +13,8 @@ loop-number-preserved g c =
     let q = c.args.query.now in
     let l = c.loop-number in
     record {
-      goes_on = hunts_on (g.C.Cost.costs q.cost.now) q c.args.hunt.now l.hunt c.hunt_by.new.hunt l.invariant.goes_on c.hunt_by.ensures.goes_on;
-      none = none_next (g.C.Cost.costs q.cost.now) q l.number l.hunt c.hunt_by.new.hunt c.hunt_by.ensures.goes_on c.hunt_by.ensures.none l.invariant.none;
+      goes_on = hunts_on g.C.Cost.costs q c.args.hunt.now l.hunt c.hunt_by.new.hunt l.invariant.goes_on c.hunt_by.ensures.goes_on;
+      none = none_next g.C.Cost.costs q l.number l.hunt c.hunt_by.new.hunt c.hunt_by.ensures.goes_on c.hunt_by.ensures.none l.invariant.none;
     }
 
 pub returns-clause-none : goal.returns-clause-none

@@ -4,6 +4,6 @@ use Rattle.lw_match.proofs.sweeping.hunt_all.Given as goal
 
 abbrev pub invariant-loop-number : goal.invariant-loop-number
 invariant-loop-number g l = record {
-  goes_on : GoesOn (g.C.Cost.costs l.query.cost.now) l.query l.initial.hunt l.hunt;
-  none : HasNoneBelow (g.C.Cost.costs l.query.cost.now) l.query l.number l.hunt;
+  goes_on : GoesOn g.C.Cost.costs l.query l.initial.hunt l.hunt;
+  none : HasNoneBelow g.C.Cost.costs l.query l.number l.hunt;
 }

@@ -7,7 +7,7 @@ use Rattle.lw_match.proofs.sweeping.hunt_near.Goals as goal
 pub returns-clause-none : goal.returns-clause-none
 returns-clause-none g c = λ e i within.
     let q = c.args.query.now in
-    let costs = g.C.Cost.costs q.cost.now in
+    let costs = g.C.Cost.costs in
     let first = c.hunt_list.new.hunt in
     let second = c.hunt_list-2.new.hunt in
     let third = c.hunt_list-3.new.hunt in
@@ -23,7 +23,7 @@ returns-clause-none g c = λ e i within.
 pub returns-clause-goes_on : goal.returns-clause-goes_on
 returns-clause-goes_on g c =
     let q = c.args.query.now in
-    let costs = g.C.Cost.costs q.cost.now in
+    let costs = g.C.Cost.costs in
     let first = c.hunt_list.new.hunt in
     let second = c.hunt_list-2.new.hunt in
     let third = c.hunt_list-3.new.hunt in

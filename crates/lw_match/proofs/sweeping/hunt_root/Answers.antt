@@ -1,16 +1,15 @@
 use Rattle.std.proofs.Common.{ℕ, sym, ap, subst}
 use Rattle.lw_match.specs.declared.parts.Root.{Root}
 use Rattle.lw_match.specs.Values.{AreInRange}
-use Rattle.lw_match.specs.Queries.{HasNoneIfSure}
+use Rattle.lw_match.specs.Hunts.{HasNoneLeft}
 use Rattle.lw_match.proofs.RootLists.{far}
 use Rattle.lw_match.proofs.sweeping.hunt_root.Goals as goal
 
 pub returns-then-is_near-clause-none : goal.returns-then-is_near-clause-none
-returns-then-is_near-clause-none g c = λ e i within known in_list is.
-    let hunt = c.hunt_by.new.hunt in
-    subst (λ (n : ℕ). HasNoneIfSure (g.C.Cost.costs c.args.query.now.cost.now) c.args.query.now n hunt.target.bound hunt.target.top) (ap (λ (r : Root). r.pattern) is) (c.hunt_by.ensures.none e)
+returns-then-is_near-clause-none g c = λ e i here.
+    subst (λ (n : ℕ). HasNoneLeft g.C.Cost.costs c.args.query.now c.hunt_by.new.hunt n) (ap (λ (r : Root). r.pattern) here.is) (c.hunt_by.ensures.none e)
 
 pub returns-else-is_near-clause-none : goal.returns-else-is_near-clause-none
-returns-else-is_near-clause-none g c = λ e i within known in_list is.
+returns-else-is_near-clause-none g c = λ e i here.
     let q = c.args.query.now in
-    far (g.C.Cost.costs q.cost.now) q _ (g.met.C.Cost.laws q.cost.now) (subst (λ n. AreInRange n q.marks.now) (sym (g.met.C.Cost.cap q.cost.now)) c.requires.query.in_range) c.requires.query c.args.list c.args.numbers.now c.args.root i c.args.hunt.now.target c.requires.numbers within known in_list is (c.is_near.ensures c.if-is_near.false)
+    far g.C.Cost.costs q _ (g.met.C.Cost.laws q.cost.now) (subst (λ n. AreInRange n q.marks.now) (sym (g.met.C.Cost.cap q.cost.now)) c.requires.in_range) c.requires c.args.numbers.now c.args.root i c.args.hunt.now.target here (c.is_near.ensures c.if-is_near.false)

@@ -1,0 +1,88 @@
+ghost use Rattle.std.specs.Prelude.{◌≡◌};
+ghost use Rattle.lw_match.specs.Places.{leaves_of};
+ghost use Rattle.lw_match.specs.Queries.{IsQuery};
+ghost use Rattle.lw_match.specs.Sites.{site_of, site_reading, IsSite};
+
+use crate::cuts::{Cuts, numbers_of};
+use crate::query::Query;
+use crate::rows::{leaves_at, view_at};
+use crate::{Cost, Mark};
+use lw_graph::Graph;
+use lw_pattern::Patterns;
+use lw_pool::ClassId;
+
+/// A class at which matches are sought, what they are priced with, what the search is cut by, and
+/// what no match there costs less than. A query is made of it.
+#[derive(Drop)]
+pub struct Site<'a, C> {
+    pub graph: &'a Graph,
+    pub pats: &'a Patterns,
+    pub marks: &'a [Option<Mark>],
+    pub cost: &'a C,
+    pub class: ClassId,
+    pub cuts: Cuts<'a>,
+    pub floor: u64,
+}
+
+impl<'a, C: Cost> Site<'a, C> {
+    /// A class with these.
+    pub(crate) fn new(
+        graph: &'a Graph,
+        pats: &'a Patterns,
+        cuts: Cuts<'a>,
+        marks: &'a [Option<Mark>],
+        class: ClassId,
+        cost: &'a C,
+        floor: u64,
+    ) -> Self
+        ensures { result ≡ record {
+          graph = graph.entry;
+          pats = pats.entry;
+          marks = marks.entry;
+          cost = cost.entry;
+          class = class;
+          cuts = cuts.entry;
+          floor = floor;
+        } }
+    {
+        Site {
+            graph,
+            pats,
+            marks,
+            cost,
+            class,
+            cuts,
+            floor,
+        }
+    }
+
+    /// The numbers of pins and constants at the class.
+    pub(crate) fn leaves(&self) -> [u64; 5]
+        requires { IsSite C.CAP C.costs self.now }
+        ensures { result ≡ leaves_of (site_reading self.now) self.now.class.0 }
+    {
+        let _ = self.graph.classes();
+        leaves_at(numbers_of(self.graph, self.marks, self.cuts), self.class)
+    }
+
+    /// What is asked at the class, given those.
+    pub(crate) fn query(self, leaves: &'a [u64]) -> Query<'a, C>
+        requires site { IsSite C.CAP C.costs self }
+        requires leaves { leaves.now ≡ leaves_of (site_reading self) self.class.0 }
+        ensures query { IsQuery C.CAP C.costs result }
+        ensures site { site_of result ≡ self.entry }
+    {
+        let _ = self.graph.classes();
+        let at = numbers_of(self.graph, self.marks, self.cuts);
+        Query {
+            graph: self.graph,
+            pats: self.pats,
+            marks: self.marks,
+            cost: self.cost,
+            class: self.class,
+            cuts: self.cuts,
+            floor: self.floor,
+            view: view_at(at, leaves, self.class),
+        }
+    }
+}
