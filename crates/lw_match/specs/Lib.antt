@@ -17,6 +17,7 @@ pub mod Picks
 pub mod Places
 pub mod Queries
 pub mod Renewing
+pub mod QueryJobs
 pub mod Searching
 pub mod Seeking
 pub mod Settling

@@ -1,13 +1,14 @@
 -- Numbers of parts that fall to what pairs give.
-use Rattle.std.specs.Prelude.{ℕ, ◌<◌, ◌≡◌, Bool, List, length, IsTrue, IsFalse}
+use Rattle.std.specs.Prelude.{ℕ, ◌<◌, ◌≤◌, ◌≡◌, Bool, List, length, Some, IsTrue, IsFalse, slice_get, slice_index}
 use Rattle.lw_graph.specs.Graphs.{IsGraph}
 use Rattle.lw_match.specs.declared.lowering.Plan.{Plan}
 use Rattle.lw_match.specs.declared.parts.Part.{Part}
+use Rattle.lw_match.specs.declared.parts.Rule.{Rule}
 use Rattle.lw_match.specs.declared.renewing.Renewal.{Renewal}
 use Rattle.lw_match.specs.declared.rows.View.{View}
 use Rattle.lw_match.specs.Bounds.{total, AreRows}
 use Rattle.lw_match.specs.Numbers.{IsReading, Reading}
-use Rattle.lw_match.specs.Places.{AreGrouped, AreNoMore, AreNumbers, IsView}
+use Rattle.lw_match.specs.Places.{given, AreGrouped, AreNoMore, AreNumbers, IsView}
 use Rattle.lw_match.specs.Shapes.{AreClosed}
 
 -- none of the numbers rose, and it is said whether one fell
@@ -42,3 +43,8 @@ pub record IsRenewal (to_do : Renewal) (plan : Plan) (room numbers : List ℕ) :
   pub rows : AreRows plan.parts.now to_do.starts.now numbers to_do.graph.now
   pub grouped : AreGrouped plan.parts.now plan.groups.now
   pub least : length room ≡ length plan.parts.now
+
+-- the number of each rule's part is not above what two lists give
+abbrev pub AreAtMostGiven : List Rule → List ℕ → List ℕ → List ℕ → Type 0
+AreAtMostGiven rules xs ys least =
+    (i : ℕ) (q : Rule) → slice_get rules i ≡ Some q → slice_index least q.part ≤ given xs ys q

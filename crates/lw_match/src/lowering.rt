@@ -2,9 +2,8 @@
 ghost use Rattle.std.specs.Prelude.{◌≡◌, ◌<◌, ◌≤◌, ℕ, length, max, min, Some, slice_get, slice_index};
 ghost use Rattle.lw_graph.specs.declared.pair.Pair.{Pair};
 ghost use Rattle.lw_match.specs.Numbers.{reading, pair_number};
-ghost use Rattle.lw_match.specs.Lowering.{AreLessened, AreNumbersOf, AreViews, IsPlanned};
+ghost use Rattle.lw_match.specs.Lowering.{AreAtMostGiven, AreLessened, AreNumbersOf, AreViews, IsPlanned};
 ghost use Rattle.lw_match.specs.declared.parts.Part.{Part};
-ghost use Rattle.lw_match.specs.declared.parts.Rule.{Rule};
 ghost use Rattle.lw_match.specs.Places.{list_at, view_number, given, AreGrouped, AreWithin, IsGroupAmong};
 
 use crate::numbers::Numbers;
@@ -58,8 +57,7 @@ fn lower_number(numbers: &mut [u64], place: usize, least: u64) -> bool
 fn lower(rules: &[Rule], xs: &[u64], ys: &[u64], least: &mut [u64]) -> bool
     requires within { AreWithin xs.now ys.now least.old rules.now }
     ensures lessened { AreLessened least.old least.new result }
-    ensures lowered { (i : ℕ) (q : Rule) → slice_get rules.now i ≡ Some q →
-        slice_index least.new q.part ≤ given xs.now ys.now q }
+    ensures lowered { AreAtMostGiven rules.now xs.now ys.now least.new }
 {
     let mut fell = false;
     for number in 0..rules.len() {
@@ -77,9 +75,8 @@ fn lower_where(plan: Plan, group: &Group, one: View, other: View, least: &mut [u
     requires views { AreViews (length plan.parts.now) one other }
     requires numbers { AreNumbersOf plan.parts.now least.old }
     ensures lessened { AreLessened least.old least.new result }
-    ensures lowered { (i : ℕ) (q : Rule) → slice_get group.now.rules.items i ≡ Some q →
-        slice_index least.new q.part ≤ given (list_at one.entry group.now.left)
-        (list_at other.entry group.now.right) q }
+    ensures lowered { AreAtMostGiven group.now.rules.items (list_at one.entry group.now.left)
+        (list_at other.entry group.now.right) least.new }
 {
     let xs = list_at(one, group.left);
     if xs.is_empty() {
