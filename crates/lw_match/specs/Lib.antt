@@ -15,6 +15,7 @@ pub mod Numbers
 pub mod Parts
 pub mod Picks
 pub mod Places
+pub mod Pruned
 pub mod Queries
 pub mod Renewing
 pub mod QueryJobs
