@@ -2,9 +2,11 @@
 ghost use Rattle.std.specs.Prelude.{◌≡◌, ◌<◌, ◌≤◌, ◌≢◌, IsTrue, ℕ, length};
 ghost use Rattle.lw_match.specs.Least.{AreOfCells};
 ghost use Rattle.lw_match.specs.Numbers.{never};
+ghost use Rattle.lw_match.specs.Queries.{AreCertifiedFor, AreKnownFor, HasPatternsOfCells};
 ghost use Rattle.lw_match.specs.Cutting.{AreCertified, AreKnown, IsLikeLast};
 
 use crate::gaps::{gaps_at, is_certified_by, known_of};
+use crate::query::Query;
 use crate::{Bounds, Cost};
 use lw_pattern::Patterns;
 use lw_pool::PatId;
@@ -97,18 +99,12 @@ impl Tops {
     }
 
     /// Whether the gaps of all patterns are certified at a number, which is remembered.
-    pub(crate) fn are_sure_at<C: Cost>(
-        &mut self,
-        pats: &Patterns,
-        cost: &C,
-        gaps: &[[u64; 16]],
-        top: u64,
-    ) -> bool
-        requires of_cells { AreOfCells (C.costs cost.now).pin_counts pats.now }
-        requires known { AreKnown (C.costs cost.now) pats.now gaps.now self.old }
-        ensures known { AreKnown (C.costs cost.now) pats.now gaps.now self.new }
+    pub(crate) fn are_sure_at<C: Cost>(&mut self, query: &Query<C>, top: u64) -> bool
+        requires of_cells { HasPatternsOfCells C.costs query.now }
+        requires known { AreKnownFor C.costs query.now self.old }
+        ensures known { AreKnownFor C.costs query.now self.new }
         ensures some { IsTrue result → top ≢ never }
-        ensures sure { IsTrue result → AreCertified (C.costs cost.now) pats.now gaps.now top }
+        ensures sure { IsTrue result → AreCertifiedFor C.costs query.now top }
     {
         if top == u64::MAX {
             return false;
@@ -120,7 +116,7 @@ impl Tops {
         if self.tops[place] == top {
             return true;
         }
-        if !are_certified(pats, cost, gaps, top) {
+        if !are_certified(query.pats, query.cost, query.cuts.gaps, top) {
             return false;
         }
         self.tops[place] = top;

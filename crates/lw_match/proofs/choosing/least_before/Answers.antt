@@ -1,46 +1,22 @@
 use Rattle.std.proofs.Common.{◌∙◌, sym, subst}
 use Rattle.lw_match.specs.Values.{marks_in}
-use Rattle.lw_match.specs.Cutting.{CutsState, CutsFit, AreCutsOf, AreKnown}
+use Rattle.lw_match.specs.Cutting.{CutsState, AreCutsOf, AreKnown}
 use Rattle.lw_match.specs.Sites.{AreKnownAt, AreTrueAt, IsSite}
-use Rattle.lw_match.proofs.CutsOfBounds.{bounds_cut, bounds_cut_well}
+use Rattle.lw_match.proofs.CutsOfBounds.{bounds_cut_well}
 use Rattle.lw_match.proofs.Picks.{last_floor}
-use Rattle.lw_match.proofs.Sites.{sure_query, least_at, last_at}
+use Rattle.lw_match.proofs.Sites.{bounds_site, sure_query, least_at, last_at}
 use Rattle.lw_match.proofs.choosing.least_before.Goals as goal
 
 pub leaves-leaves-requires : goal.leaves-leaves-requires
-leaves-leaves-requires g c = subst (IsSite g.C.Cost.CAP g.C.Cost.costs) (sym c.new-site.ensures) (record {
-  class = c.requires.class;
-  one_each = c.requires.one_each;
-  in_range = c.requires.in_range;
-  of_cells = c.requires.of_cells;
-  cuts_fit = subst (λ (cuts : CutsState). CutsFit cuts c.args.graph.now) (sym c.cuts.ensures.state) (bounds_cut c.args.bounds.now c.args.pats.now c.args.graph.now c.requires.fit);
-  listed = c.cuts.ensures.roots;
-  floor_is = last_floor c.args.graph.now (g.C.Cost.costs c.args.cost.now) c.args.pats.now (marks_in c.args.marks.now) c.args.class.0 c.args.bound c.requires.last;
-})
+leaves-leaves-requires g c = subst (IsSite g.C.Cost.CAP g.C.Cost.costs) (sym c.new-site.ensures) (bounds_site g.C.Cost.costs g.C.Cost.CAP _ c.args.bounds.now c.requires.class c.requires.one_each c.requires.in_range c.requires.of_cells c.requires.fit c.cuts.ensures.state c.cuts.ensures.roots (last_floor c.args.graph.now (g.C.Cost.costs c.args.cost.now) c.args.pats.now (marks_in c.args.marks.now) c.args.class.0 c.args.bound c.requires.last))
 
 pub query-requires-clause-site : goal.query-requires-clause-site
-query-requires-clause-site g c = subst (IsSite g.C.Cost.CAP g.C.Cost.costs) (sym c.new-site.ensures) (record {
-  class = c.requires.class;
-  one_each = c.requires.one_each;
-  in_range = c.requires.in_range;
-  of_cells = c.requires.of_cells;
-  cuts_fit = subst (λ (cuts : CutsState). CutsFit cuts c.args.graph.now) (sym c.cuts.ensures.state) (bounds_cut c.args.bounds.now c.args.pats.now c.args.graph.now c.requires.fit);
-  listed = c.cuts.ensures.roots;
-  floor_is = last_floor c.args.graph.now (g.C.Cost.costs c.args.cost.now) c.args.pats.now (marks_in c.args.marks.now) c.args.class.0 c.args.bound c.requires.last;
-})
+query-requires-clause-site g c = subst (IsSite g.C.Cost.CAP g.C.Cost.costs) (sym c.new-site.ensures) (bounds_site g.C.Cost.costs g.C.Cost.CAP _ c.args.bounds.now c.requires.class c.requires.one_each c.requires.in_range c.requires.of_cells c.requires.fit c.cuts.ensures.state c.cuts.ensures.roots (last_floor c.args.graph.now (g.C.Cost.costs c.args.cost.now) c.args.pats.now (marks_in c.args.marks.now) c.args.class.0 c.args.bound c.requires.last))
 
 pub picked-requires-clause-asked : goal.picked-requires-clause-asked
 picked-requires-clause-asked g c =
     let known = subst (λ (cuts : CutsState). AreKnown (g.C.Cost.costs c.args.cost.now) c.args.pats.now cuts.gaps c.args.tops.now) (sym c.cuts.ensures.state) c.requires.known in
-    sure_query g.C.Cost.costs g.C.Cost.CAP c.new-site.result c.query.result c.args.tops.now c.query.ensures.site c.query.ensures.query (subst (IsSite g.C.Cost.CAP g.C.Cost.costs) (sym c.new-site.ensures) (record {
-      class = c.requires.class;
-      one_each = c.requires.one_each;
-      in_range = c.requires.in_range;
-      of_cells = c.requires.of_cells;
-      cuts_fit = subst (λ (cuts : CutsState). CutsFit cuts c.args.graph.now) (sym c.cuts.ensures.state) (bounds_cut c.args.bounds.now c.args.pats.now c.args.graph.now c.requires.fit);
-      listed = c.cuts.ensures.roots;
-      floor_is = last_floor c.args.graph.now (g.C.Cost.costs c.args.cost.now) c.args.pats.now (marks_in c.args.marks.now) c.args.class.0 c.args.bound c.requires.last;
-    })) (subst (λ s. AreKnownAt g.C.Cost.costs s c.args.tops.now) (sym c.new-site.ensures) known)
+    sure_query g.C.Cost.costs g.C.Cost.CAP c.new-site.result c.query.result c.args.tops.now c.query.ensures.site c.query.ensures.query (subst (IsSite g.C.Cost.CAP g.C.Cost.costs) (sym c.new-site.ensures) (bounds_site g.C.Cost.costs g.C.Cost.CAP _ c.args.bounds.now c.requires.class c.requires.one_each c.requires.in_range c.requires.of_cells c.requires.fit c.cuts.ensures.state c.cuts.ensures.roots (last_floor c.args.graph.now (g.C.Cost.costs c.args.cost.now) c.args.pats.now (marks_in c.args.marks.now) c.args.class.0 c.args.bound c.requires.last))) (subst (λ s. AreKnownAt g.C.Cost.costs s c.args.tops.now) (sym c.new-site.ensures) known)
 
 pub picked-requires-clause-bounds : goal.picked-requires-clause-bounds
 picked-requires-clause-bounds g c =

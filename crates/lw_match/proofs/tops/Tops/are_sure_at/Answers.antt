@@ -2,14 +2,14 @@ use Rattle.std.proofs.Common.{◌≡◌, ◌⊎◌, inr, sym, subst, ◌∙◌}
 use Rattle.std.proofs.lemmas.List.{length-set}
 use Rattle.std.proofs.lemmas.List.Elements.{All-set}
 use Rattle.lw_match.specs.Numbers.{never}
-use Rattle.lw_match.specs.Cutting.{AreCertified, AreKnown}
+use Rattle.lw_match.specs.Cutting.{cuts_state, AreCertified, AreKnown}
 use Rattle.lw_match.proofs.tops.Tops.are_sure_at.Goals as goal
 
 pub returns-clause-known : goal.returns-clause-known
 returns-clause-known g c =
-    let costs = g.C.Cost.costs c.args.cost.now in
-    let pats = c.args.pats.now in
-    let gaps = c.args.gaps.now in
+    let costs = g.C.Cost.costs c.args.query.now.cost.now in
+    let pats = c.args.query.now.pats.now in
+    let gaps = (cuts_state c.args.query.now.cuts).gaps in
     let known = subst (AreKnown costs pats gaps) (sym c.self.view_is) c.requires.known in
     record {
       up_to = known.up_to;
