@@ -1,7 +1,6 @@
 // Names that are found by chains of the places of those in one bucket.
-ghost use Rattle.std.specs.Prelude.{◌≡◌, ◌≢◌, ◌<◌, ◌≤◌, ℕ, [], None, Some, length, IfSome, IfNone, slice_index_or};
-ghost use Rattle.lw_netlist.specs.Chains.{AreChains, bucket_in, hash_from, name_at};
-ghost use Rattle.lw_netlist.specs.Closing.{twice_after};
+ghost use Rattle.std.specs.Prelude.{◌≡◌, ◌≢◌, ◌<◌, ◌≤◌, ℕ, length, IfSome, IfNone, slice_index_or};
+ghost use Rattle.lw_netlist.specs.Chains.{AreChains, AreLinked, CanLink, FindsPlace, IsBucket, LinksNames, bucket_in, hash_from, name_at};
 
 use crate::SpelledNames;
 use std::alloc::{AllocError, Global};
@@ -35,15 +34,9 @@ pub(crate) fn place_in(
     bucket: usize,
     name: &[u8],
 ) -> Option<usize>
-    requires chains { AreChains (bucket_in (length heads.now)) (length heads.now) names.now count
-        heads.now next.now }
-    requires few { count ≤ length names.now }
-    requires places { count ≤ length next.now }
-    requires bucket { bucket ≡ bucket_in (length heads.now) name.now }
-    requires low { bucket < length heads.now }
-    ensures within { IfSome result (λ k. k < count) }
-    ensures some { IfSome result (λ k. name_at names.now k ≡ name.now) }
-    ensures none { IfNone result ((k : ℕ) → k < count → name_at names.now k ≢ name.now) }
+    requires linked { AreLinked names.now count heads.now next.now }
+    requires bucket { IsBucket heads.now name.now bucket }
+    ensures { FindsPlace names.now count name.now result }
 {
     let mut left = heads[bucket];
     'places: while left > 0 {
@@ -91,17 +84,8 @@ pub(crate) fn relink(names: &SpelledNames, heads: &mut [u32], next: &mut [u32])
 /// Makes chains for names that differ, or tells the place of the first that stands before it. No
 /// chain was made before.
 pub(crate) fn link(names: &SpelledNames, heads: &mut [u32], next: &mut [u32]) -> Option<usize>
-    requires few { length names.now < 4294967295 }
-    requires some { 0 < length heads.old }
-    requires places { length next.old ≡ length names.now }
-    requires none { (b : ℕ) → b < length heads.old → slice_index_or heads.old b 0 ≡ 0 }
-    ensures heads { length heads.new ≡ length heads.old }
-    ensures next { length next.new ≡ length next.old }
-    ensures chains { IfNone result (AreChains (bucket_in (length heads.new)) (length heads.new)
-        names.now (length names.now) heads.new next.new) }
-    ensures once { IfNone result (twice_after [] names.now ≡ None) }
-    ensures within { IfSome result (λ k. k < length names.now) }
-    ensures twice { IfSome result (λ k. twice_after [] names.now ≡ Some (name_at names.now k)) }
+    requires { CanLink names.now heads.old next.old }
+    ensures { LinksNames names.now heads.old next.old heads.new next.new result }
 {
     for place in 0..names.len() {
         let name = names.get(place);

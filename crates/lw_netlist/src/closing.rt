@@ -1,7 +1,6 @@
 // Drafts that are closed to netlists.
 ghost use Rattle.std.specs.Prelude.{◌≡◌, ◌<◌, ◌++◌, ℕ, List, length, map, All, Contains, IfOk, MatchResult};
-ghost use Rattle.std.specs.List.{IsDistinct, flat_map};
-ghost use Rattle.std.specs.Str.{bytes_eq};
+ghost use Rattle.std.specs.List.{flat_map};
 ghost use Rattle.lw_dag.specs.Names.{number_in};
 ghost use Rattle.lw_netlist.specs.declared.draft.GateDraft.{GateDraft};
 ghost use Rattle.lw_netlist.specs.Closing.{HasFault, links, needs_of, port_at};
@@ -134,12 +133,12 @@ fn place_of(names: &Signals, name: &Name) -> usize
 
 // An output with its net.
 fn port(signals: &Signals, name: Name, nets: &[NetId]) -> Port
-    requires distinct { IsDistinct bytes_eq signals.now }
     requires count { length nets.now ≡ length signals.now }
     requires known { Contains signals.now name }
     ensures { (net : List ℕ → ℕ) → TellNets signals.now nets.now net →
         result ≡ port_at net name }
 {
+    let _ = signals.len();
     let net = nets[place_of(signals, &name)];
     Port { name, net }
 }
@@ -151,7 +150,6 @@ pub(crate) fn ports(
     signals: &Signals,
     nets: &[NetId],
 ) -> Result<Vec<Port>, AllocError>
-    requires distinct { IsDistinct bytes_eq signals.now }
     requires count { length nets.now ≡ length signals.now }
     requires known { All (Contains signals.now) names.items }
     ensures { IfOk result (λ ports. (net : List ℕ → ℕ) → TellNets signals.now nets.now net →

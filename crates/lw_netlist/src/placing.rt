@@ -162,7 +162,6 @@ fn named(
     ensures { IfOk result (λ named. IsNamed graph places.now nets.now named.0 named.1 named.2) }
 {
     let (inputs, signals) = (graph.inputs, graph.signals);
-    let _ = signals.len();
     drop(graph.cells);
     drop(graph.rows);
     let first = graph.first.into_vec();

@@ -6,9 +6,6 @@ use Rattle.lw_netlist.proofs.placing.named.Goals as goal
 pub names_by-requires : goal.names_by-requires
 names_by-requires c = subst (λ l. All (λ p. c.args.graph.inputs + p < length l) c.args.places.now) (sym c.names.ensures) c.requires.places_within
 
-pub ports-requires-clause-distinct : goal.ports-requires-clause-distinct
-ports-requires-clause-distinct c = c.len.ensures.distinct
-
 pub ports-requires-clause-count : goal.ports-requires-clause-count
 ports-requires-clause-count c = c.requires.count
 

@@ -34,14 +34,6 @@ returns-in_err-make_room-clause-added c = IfOk-from_err c.from_residual.result (
 pub returns-in_err-make_room-clause-err : goal.returns-in_err-make_room-clause-err
 returns-in_err-make_room-clause-err c = on_err c.from_residual.result (c.self.inside.names ≡ c.args.self.now) c.self.view_is
 
-pub place_in-place-requires-clause-chains : goal.place_in-place-requires-clause-chains
-place_in-place-requires-clause-chains c =
-    let next = c.make_room.new.next in
-    let numbered = c.in_ok-make_room.ensures.numbered in
-    let all : length next ≡ c.self.inside.next.len = omega (arith, numbered.places, c.self.invariant.places, c.self.inside.next.ok.0) in
-    let same = c.deref-2.ensures.value ∙ take_at next (drop (length next) c.self.inside.next.items) c.self.inside.next.len all in
-    rw (c.deref.ensures.value, same, c.len-count.ensures) numbered.chains
-
 pub invariant_of-self-in-Some : goal.invariant_of-self-in-Some
 invariant_of-self-in-Some c =
     let numbered = c.in_ok-make_room.ensures.numbered in
@@ -116,3 +108,20 @@ returns-clause-fresh c =
     let name = c.args.name.now in
     let miss : is_among names name ≡ false = not-among names name (λ k lt. c.in_default.ensures.none k (omega (arith, lt, c.len-count.ensures))) in
     sym (ap (λ l. not (is_among l name)) (sym c.self.view_is) ∙ ap not miss)
+
+pub place_in-place-requires-clause-linked : goal.place_in-place-requires-clause-linked
+place_in-place-requires-clause-linked c =
+    let next = c.make_room.new.next in
+    let numbered = c.in_ok-make_room.ensures.numbered in
+    let all : length next ≡ c.self.inside.next.len = omega (arith, numbered.places, c.self.invariant.places, c.self.inside.next.ok.0) in
+    let same = c.deref-2.ensures.value ∙ take_at next (drop (length next) c.self.inside.next.items) c.self.inside.next.len all in
+    record {
+      chains = rw (c.deref.ensures.value, same, c.len-count.ensures) numbered.chains;
+      few = omega (arith, c.len-count.ensures);
+      places = omega (arith, ap length same, numbered.places, c.len-count.ensures);
+    }
+
+pub place_in-place-requires-clause-bucket : goal.place_in-place-requires-clause-bucket
+place_in-place-requires-clause-bucket c =
+    let size : c.len.result ≡ length c.deref.result.now = omega (arith, c.len.ensures, c.make_room.new.heads.ok.0, ap length c.deref.ensures.value) in
+    record { own = c.bucket_of-bucket.ensures.bucket ∙ ap (λ n. bucket_in n c.args.name.now) size; low = omega (arith, c.bucket_of-bucket.ensures.low, size) }
