@@ -27,7 +27,7 @@ pub record HasParts (forms : NumberedForms) (b low : ℕ) (parts : List ℕ) : T
   pub size : length parts ≡ 256
   pub each : (fs : List ℕ) (mask : ℕ) → slice_get forms.bases b ≡ Some (base_and fs) → low ≤ mask → mask < 2 ^ length fs → IsPart forms (picked fs mask) (slice_index parts mask)
 
--- all drops are there, and the parts of higher masks
+-- all drops are there, the parts of higher masks, and one of the next mask
 pub record CanPutPart (forms : NumberedForms) (drops : List ℕ) (b mask : ℕ) (parts : List ℕ) : Type 0 where
   pub has : HasPart forms b (mask + 1)
   pub some : 1 ≤ mask

@@ -10,7 +10,7 @@ use std::alloc::{AllocError, Global};
 
 const NAME_MAX: usize = 2000;
 
-//// Whether a word may be a name.
+/// Whether a word may be a name.
 pub fn is_name(word: &[u8]) -> bool
     ensures { result ≡ is_name word.now }
 {

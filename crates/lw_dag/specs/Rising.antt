@@ -58,14 +58,14 @@ pub record WaitsFor (signal node : ℕ) (old new : Search) : Type 0 where
   pub waiting : new.waiting.items ≡ slice_set old.waiting.items signal (waiting_at old.waiting.items signal ++ node ∷ [])
   pub ready : new.ready ≡ old.ready
 
--- a node, which drives the signal, has this height, and the rest is as it was
+-- the signal has this height, the node is last in the order, and the signal is one of which others are to be told
 pub record IsRaised (signal node height : ℕ) (old new : Search) : Type 0 where
   pub heights : new.heights.items ≡ slice_set old.heights.items signal height
   pub order : new.order.items ≡ old.order.items ++ node ∷ []
   pub waiting : new.waiting ≡ old.waiting
   pub ready : new.ready.items ≡ old.ready.items ++ signal ∷ []
 
--- nodes were looked at, and there is no more to do than before
+-- nodes were looked at, but for these later ones, and there is no more to do than before
 pub record HasSettled (graph : SmallGraph) (later : List ℕ) (old new : Search) : Type 0 where
   pub levelling : IsLevellingIn graph new later
   pub less : left_in new ≤ left_in old

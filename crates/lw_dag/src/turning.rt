@@ -22,7 +22,7 @@ struct Walk {
     left: Vec<u32>,
 }
 
-//// So many rows without entries.
+/// So many rows without entries.
 pub(crate) fn empty_rows(alloc: Global, n: usize) -> Result<Vec<Numbers>, AllocError>
     ensures { IfOk result (λ rows. rows.items ≡ replicate n []) }
 {

@@ -1,6 +1,5 @@
 -- The nets of a cover cost the labels of their classes, and arrive at them.
-use Rattle.std.proofs.Common.{ℕ, ◌≤◌, List, Option, All, Result, Ok, Err}
-use Rattle.std.specs.Result.{IfOk}
+use Rattle.std.proofs.Common.{ℕ, ◌≤◌, List, Option, All}
 use Rattle.lw_laws.specs.Modes.{Mode}
 use Rattle.lw_laws.specs.Networks.{Network}
 use Rattle.lw_laws.specs.Decompositions.{listing_of}
@@ -21,26 +20,17 @@ use Rattle.lw_label.specs.Delays.{most_time, time_cost}
 use Rattle.lw_label.specs.Labels.{AreLeastMarks}
 use Rattle.lw_label.proofs.Low.{labels_below_cap}
 use Rattle.lw_label.proofs.Marked.{patterns_of_cells}
-use Rattle.lw_netlist.specs.Plain.{IsOver, plain}
+use Rattle.lw_netlist.specs.Plain.{plain}
 use Rattle.lw_extract.specs.declared.ports.Ports.{Ports}
 use Rattle.lw_extract.specs.declared.ports.Cover.{Cover as Extracted}
 use Rattle.lw_extract.specs.Choosing.{labels, heights}
-use Rattle.lw_extract.specs.Covers.{AreFit, IsCoverBy, IsExtractedCover, CostTheirLabels, ArriveAtLabels}
+use Rattle.lw_extract.specs.Covers.{AreFit, IsExtractedCover, CostTheirLabels, ArriveAtLabels}
 use Rattle.lw_pool.specs.Numbers.{numbers}
 
 -- each net of a cover costs the label of its class
 pub cost_their_labels : (g : Graph) (cost : Cost) (pats : List Pattern) (marks : List (Option Mark)) → HaveLeafLabels g cost (labels marks) → (ports : Ports) (cover : Extracted) → IsExtractedCover g cost pats marks ports cover → CostTheirLabels g cost marks cover
 cost_their_labels g cost pats marks leaves ports cover is costs are =
     extracted_costs g cost pats (labels marks) (heights marks) (numbers ports.roots) (numbers cover.classes) (plain cover.netlist) costs is.gate_classes is.extracted are leaves
-
--- a cover over the library's cells is one that the labels give
-pub cover_by : {E : Type 0} (g : Graph) (cost : Cost) (pats : List Pattern) (cells : List CellParts) (marks : List (Option Mark)) → HaveLeafLabels g cost (labels marks) → (ports : Ports) (r : Result Extracted E) → IfOk r (IsExtractedCover g cost pats marks ports) → IfOk r (λ (cover : Extracted). IsOver cells cover.netlist) → IfOk r (IsCoverBy g cost pats cells marks ports)
-cover_by g cost pats cells marks leaves ports (Ok cover) is over = record {
-  cover = is;
-  over = over;
-  costs = cost_their_labels g cost pats marks leaves ports cover is;
-}
-cover_by g cost pats cells marks leaves ports (Err e) is over = tt
 
 -- each net of a cover arrives at the label of its class, where the cost is the time
 pub arrive_at_labels : (g : Graph) (cells : List CellParts) (starts : List Micro) (pats : List Pattern) (marks : List (Option Mark)) (ports : Ports) (cover : Extracted) → IsGraph g → IsLibrary cells → All IsSmall starts → AreOfCells (time_cost cells starts).pin_counts pats → AreLeastMarks g (time_cost cells starts) pats marks → HaveLeafLabels g (time_cost cells starts) (labels marks) → AreFit g ports → IsExtractedCover g (time_cost cells starts) pats marks ports cover → ArriveAtLabels g cells starts marks cover

@@ -192,7 +192,8 @@ impl Occurring {
     fn add_nodes(&mut self, maker: &Maker, nodes: &[Node]) -> Result<(), FormFault>
         requires { CanAddNodes self.old nodes.now }
         ensures listed { OnOk result ((signals : List Signal) → HasSignals self.old signals →
-            HasSignals self.new (signals_after maker.now.width signals (map plain_node nodes.now))) }
+            HasSignals self.new
+            (signals_after maker.now.width signals (map plain_node nodes.now))) }
         ensures fault { IfErr result (IsSignalFault self.old
             (λ signals. signals_after maker.now.width signals (map plain_node nodes.now))) }
     {

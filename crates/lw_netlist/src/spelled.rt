@@ -10,8 +10,8 @@ use smallvec::SmallVec;
 use std::alloc::{AllocError, Global};
 use std::marker::Model;
 
-/// A gate by names, as `DraftGate`, but its names stand in one list of bytes: where they are few and
-/// short, they need no memory of their own.
+/// A gate by names, as `DraftGate`, but its names stand in one list of bytes: where they are few
+/// and short, they need no memory of their own.
 #[derive(Debug, Drop)]
 pub struct SpelledGate {
     cell: CellId,
