@@ -134,7 +134,7 @@ pub record ListsTo (old new : Table) (listing : Listing) (goal : List Form) : Ty
   pub listed : IsListed (made new) listing.listed.items listing.places.items
   pub bases : bases_of (made new) listing.listed.items ≡ goal
 
--- Where that goes well, this list is reached, while more forms were made; else it is too long, or there is no memory.
+-- At `Ok` this list is reached, while more forms were made; else it is too long, or there is no memory.
 pub record Lists (result : Result (Unit {0}) FormFault) (old new : Table) (listing : Listing) (goal : List Form) : Type 0 where
   pub listed : OnOk result (ListsTo old new listing goal)
   pub fault : IfErr result (IsTooLong goal)
@@ -143,7 +143,7 @@ pub record Lists (result : Result (Unit {0}) FormFault) (old new : Table) (listi
 abbrev pub CanTake : Table → Listing → List Step → Type 0
 CanTake table listing steps = (goal : List Form) × IsAdding table listing.listed.items listing.places.items steps goal
 
--- Where that goes well, the step is taken; else there is a fault of the step.
+-- At `Ok` the step is taken; else there is a fault of the step.
 pub record Steps (result : Result (Unit {0}) FormFault) (old new : Table) (before after : Listing) (steps left : List Step) (step : Step) : Type 0 where
   pub taken : OnOk result (TakesStep old new before after steps left step)
   pub fault : IfErr result (IsStepFault old before steps step)

@@ -11,7 +11,7 @@ pub(crate) struct Maker {
     ghost wide: { IsWidth width },
 }
 
-/// The forms of some fan-ins, and what forms are made of them with.
+/// The forms of some fan-ins, and the maker of forms over them.
 #[derive(Clone, Copy)]
 pub(crate) struct Fanins<'a> {
     pub(crate) maker: &'a Maker,

@@ -80,7 +80,7 @@ pub record AreGatesBy (g : Graph) (starts places : List ℕ) (nets : List NetId)
   pub nets_are : (turned : List ℕ) × (AreTurned g.inputs places turned × (nets ≡ map (λ s. record { 0 = start_at turned s }) starts))
   pub gates_are : (draft : GateDraft) (net : List ℕ → ℕ) → IsMadeOf draft g → TellNets g.signals nets net → gates ≡ map (closed_gate net) (gates_at draft.gates places)
 
--- The inputs, the gates at some places and the outputs have names and nets.
+-- The gates at some places and the outputs have names among the signals, and there is a net for each signal.
 pub record CanBeNamed (g : Graph) (places : List ℕ) (nets : List NetId) : Type 0 where
   pub places_within : All (λ p. g.inputs + p < length g.signals) places
   pub count : length nets ≡ length g.signals

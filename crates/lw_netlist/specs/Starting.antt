@@ -5,13 +5,13 @@ use Rattle.lw_dag.specs.Graphs.{AreHeights, IsOrdered, most_signals}
 use Rattle.lw_netlist.specs.declared.levels.Starts.{Starts}
 use Rattle.lw_netlist.specs.Numbered.{deepest, own_start, step_of}
 
--- these are the heights of a graph's signals, and the nodes in order
+-- these are the heights of a graph's signals, which are low, and the nodes in order
 pub record AreLevelsOf (inputs : ℕ) (graph : List (List ℕ)) (levels : Levels) : Type 0 where
   pub heights : AreHeights inputs graph levels.heights.items
   pub low : All (λ h. h ≤ 1 + length graph) levels.heights.items
   pub ordered : IsOrdered inputs graph levels.heights.items levels.order.items
 
--- what a node hangs on has depths, of which there is room for one more
+-- there is a place for the node and for what it hangs on, each with a depth and a start, and a depth may be one more
 pub record CanPlace (own : ℕ) (needs : List ℕ) (found : Starts) : Type 0 where
   pub own_within : own < length found.depths.items
   pub few : length found.depths.items ≤ most_signals
