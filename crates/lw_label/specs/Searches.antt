@@ -17,7 +17,7 @@ use Rattle.lw_label.specs.declared.labelling.Task.{Task}
 use Rattle.lw_label.specs.Heights.{AreGiven, AreSameBut}
 use Rattle.lw_label.specs.Lowering.{AreLowering, IsBounded, IsLabelled, LabelState, Lowers, Takes, state, state_weight}
 use Rattle.lw_label.specs.Orders.{places_of}
-use Rattle.lw_label.specs.OneVisit.{AreFalling, AreSetAt, IsFirstRound, IsRound, IsRoundAfter, IsSameBut, IsSearch, IsSearchAround, with_label}
+use Rattle.lw_label.specs.OneVisit.{AreSetAt, IsFirstRound, IsRound, IsRoundAfter, IsSameBut, IsSearch, IsSearchAround, with_label}
 
 -- the patterns are of the cells that the costs are for
 abbrev pub HasCells : {C : Type 0} → (C → Cost) → Task C → Type 0

@@ -1,5 +1,5 @@
 // Which classes are visited again.
-ghost use Rattle.std.specs.Prelude.{◌≡◌, ◌<◌, ◌*◌, ◌/◌, ℕ, true, false, IfOk, IfSome, Some, None, length, replicate, slice_get, slice_index_or};
+ghost use Rattle.std.specs.Prelude.{◌≡◌, ◌<◌, ◌*◌, ◌/◌, ℕ, true, false, IfOk, IfSome, Some, None, length, replicate, slice_index_or};
 ghost use Rattle.lw_label.specs.Orders.{ArePartsStill, AreVisitsAfter, IsClassAmong, IsOrder, IsPlaceAmong, IsPlaceAt, IsReady, IsStillIn, IsVisitOf, places_of};
 
 use crate::order::order_of;

@@ -1,4 +1,4 @@
-use Rattle.std.proofs.Common.{◌<◌, ◌/◌, false, refl, sym, true≢false}
+use Rattle.std.proofs.Common.{false, refl, sym, true≢false}
 use Rattle.lw_label.proofs.OneVisit.{odd_of}
 use Rattle.lw_label.proofs.labelling.Labelling.lower_again.Goals as goal
 

@@ -1,4 +1,4 @@
-use Rattle.std.proofs.Common.{◌≡◌, ◌<◌, ◌/◌, ◌⊎◌, ◌∙◌, false, None, slice_index_or, ap, sym, subst, subst₂, arith}
+use Rattle.std.proofs.Common.{◌≡◌, ◌/◌, ◌⊎◌, ◌∙◌, false, None, slice_index_or, ap, sym, subst₂, arith}
 use Rattle.lw_laws.specs.Flip.{flip}
 use Rattle.lw_laws.proofs.Flips.{xor-one, half-flip}
 use Rattle.lw_label.specs.OneVisit.{IsNoCheaper}

@@ -1,4 +1,4 @@
-use Rattle.std.proofs.Common.{◌≡◌, ◌/◌, ◌∙◌, ap, refl, sym, subst, true≢false, arith}
+use Rattle.std.proofs.Common.{◌/◌, ◌∙◌, ap, refl, sym, subst, true≢false, arith}
 use Rattle.std.proofs.lemmas.Bool.{not-false, not-true}
 use Rattle.lw_match.specs.Bounds.{AreBounds}
 use Rattle.lw_label.proofs.OneVisit.{was_lowered}
