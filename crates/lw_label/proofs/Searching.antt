@@ -1,4 +1,4 @@
--- Labels in hand, after searches at a place.
+-- Labels after searches at a place.
 use Rattle.std.proofs.Common.{ℕ, ◌≡◌, ◌/◌, ◌∙◌, sym, subst₂}
 use Rattle.lw_laws.specs.Costs.{Cost}
 use Rattle.lw_label.specs.declared.labelling.Labelling.{Labelling}

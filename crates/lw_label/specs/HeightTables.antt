@@ -1,4 +1,4 @@
--- Tables of bounds on heights, which searches for heights are cut by.
+-- Heights that fall: what visits and rounds do to them and to the table of bounds that cuts their searches, and what marks are begun with.
 use Rattle.std.specs.Prelude.{ℕ, ◌≡◌, ◌<◌, ◌/◌, Bool, true, false, List, length, Option, IfSome, Some, None, option_map, replicate, slice_index_or}
 use Rattle.lw_laws.specs.Costs.{Cost}
 use Rattle.lw_laws.specs.Graphs.{Graph}
@@ -87,7 +87,7 @@ pub record LowersHeight {C : Type 0} (costs : C → Cost) (d : Given C) (old new
   pub others : AreSameBut (λ c. c ≡ class) old.marks.items new.marks.items
   pub table : new.table ≡ with_heights new.marks.items old.table
 
--- so it does, and none would lower the height of the complement where none would before, or that is told
+-- so it does; and where the answer is false, none would lower the height of the complement if none would before
 pub record LowersHeightBeside {C : Type 0} (costs : C → Cost) (d : Given C) (old new : Heights) (class : ℕ) (result : Visit × Bool) : Type 0 where
   pub lowers : LowersHeight costs d old new class result.0
   pub beside : result.1 ≡ false → IsReachedIn costs d old (flip class) → IsReachedIn costs d new (flip class)
@@ -100,7 +100,7 @@ pub record LowersHeightPair {C : Type 0} (costs : C → Cost) (d : Given C) (old
   pub others : AreSameBut (λ c. c / 2 ≡ place) old.marks.items new.marks.items
   pub table : new.table ≡ with_heights new.marks.items old.table
 
--- no class has a mark, there are labels, and the table, where there is one, has no height
+-- no class has a mark, each has a place among the labels, and the table, where there is one, has no height
 pub record MayStart {C : Type 0} (d : Given C) (h : Heights) : Type 0 where
   pub none : h.marks.items ≡ replicate (length d.task.now.graph.now.pairs) None
   pub one_each : length d.labels.now ≡ length d.task.now.graph.now.pairs
@@ -135,8 +135,9 @@ pub record LowersHeightsAt {C : Type 0} (costs : C → Cost) (d : Given C) (old 
 abbrev pub LowersHeightRound : {C : Type 0} → (C → Cost) → Given C → HeightRounds → HeightRounds → Bool → Bool → Type 0
 LowersHeightRound costs d old new whole changed = LowersHeightsAt costs d old new (λ c. (whole ≡ true) × (c < length d.task.now.graph.now.pairs)) changed
 
--- rounds until none changes a height: the last has lowered one, or none would fall
+-- rounds until none changes a height, in the same order: the last has lowered one, or none would fall
 pub record LowersHeightRounds {C : Type 0} (costs : C → Cost) (d : Given C) (old new : HeightRounds) (changed : Bool) : Type 0 where
+  pub order : new.visits.order ≡ old.visits.order
   pub rounds : AreHeightRounds costs d new
   pub falls : changed ≡ true → heights_weight new.heights.marks.items < heights_weight old.heights.marks.items
   pub reached : changed ≡ false → (c : ℕ) → c < length d.task.now.graph.now.pairs → IsReachedIn costs d new.heights c
@@ -163,7 +164,7 @@ pub record IsUnmarked {C : Type 0} (t : Task C) (r : Room) : Type 0 where
   pub no_labels : r.labels.items ≡ replicate (length t.graph.now.pairs) None
   pub no_marks : r.marks.items ≡ replicate (length t.graph.now.pairs) None
 
--- so it is, the patterns are of the cells that the costs are for, and what is known of gaps is so
+-- so it is, the patterns are of the cells that the costs are for, and gaps are known as far as the numbers say
 pub record MayMark {C : Type 0} (costs : C → Cost) (t : Task C) (r : Room) (tops : TopsState) : Type 0 where
   pub cells : AreOfCells (costs t.cost.now).pin_counts t.pats.now
   pub unmarked : IsUnmarked t r

@@ -1,4 +1,4 @@
--- Labels in hand: a labelling, and the rounds by which it falls.
+-- Labels that fall: what searches, visits and rounds do to them.
 use Rattle.std.specs.Prelude.{ℕ, ◌<◌, ◌≡◌, ◌/◌, Bool, true, false, List, Option, None, length, replicate, slice_index_or}
 use Rattle.lw_laws.specs.Costs.{Cost}
 use Rattle.lw_laws.specs.Covers.{Pattern}
@@ -72,7 +72,7 @@ pub record SetsNumbers (g : Graph) (old new : Labelling) (place : ℕ) : Type 0 
   pub marks : new.marks.items ≡ old.marks.items
   pub tops : new.tops.now ≡ old.tops.now
 
--- labels have been lowered at these classes alone
+-- the labels of these classes alone are others, and the search can go on by the same table
 pub record AreFoundAt {C : Type 0} (costs : C → Cost) (t : Task C) (old new : Labelling) (at : ℕ → Type 0) : Type 0 where
   pub search : MayLower costs t new
   pub table : new.bounds ≡ old.bounds
@@ -84,7 +84,7 @@ pub record IsFound {C : Type 0} (costs : C → Cost) (t : Task C) (old new : Lab
   pub same : lowered ≡ false → new.marks.items ≡ old.marks.items
   pub bounded : IsBoundedIn costs t new class
 
--- so it has been, and no match would lower that of its complement where none would before, or that is told
+-- so it has been; and where the answer is false, no match would lower that of its complement if none would before
 pub record IsFoundBeside {C : Type 0} (costs : C → Cost) (t : Task C) (old new : Labelling) (class : ℕ) (may_fall : Bool) : Type 0 where
   pub found : AreFoundAt costs t old new (λ c. c ≡ class)
   pub bounded : IsBoundedIn costs t new class

@@ -234,7 +234,7 @@ impl<'a> HeightRounds<'a> {
     }
 
     // Goes once through the places, and says whether it changed a height. A whole round passes over
-    // none.
+    // none that is not still.
     fn lower_round<C: Cost>(&mut self, given: &Given<C>, whole: bool) -> bool
         requires { AreHeightRounds C.costs given.now self.old }
         ensures { LowersHeightRound C.costs given.now self.old self.new whole result }

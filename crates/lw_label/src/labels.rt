@@ -99,7 +99,7 @@ pub fn relabel_with_bounds<C: Cost>(
     Ok(mark_all(&task, room, &mut tops))
 }
 
-/// The memory that labels are found in: all that is filled in.
+/// The memory that labels and heights are found in, all of which is taken first.
 #[derive(Drop)]
 struct Room {
     labels: Vec<Option<Mark>>,

@@ -1,4 +1,4 @@
-use Rattle.std.proofs.Common.{ap, arith}
+use Rattle.std.proofs.Common.{◌∙◌, ap, arith}
 use Rattle.lw_label.specs.Heights.{IsReached, heights_weight}
 use Rattle.lw_label.proofs.Passing.{passes_whole}
 use Rattle.lw_label.proofs.heights.HeightRounds.lower_rounds.Goals as goal
@@ -13,6 +13,7 @@ pub loop-preserved : goal.loop-preserved
 loop-preserved g c =
     let falls = c.lower_round.ensures.lowers.falls c.loop-test.true in
     record {
+      order = c.lower_round.ensures.order ∙ c.loop.invariant.order;
       rounds = c.lower_round.ensures.rounds;
       low = omega (arith, falls, c.loop.invariant.low);
     }
@@ -28,6 +29,7 @@ returns g c =
     let one = c.lower_round in
     let last = c.lower_round-2 in
     record {
+      order = last.ensures.order ∙ (one.ensures.order ∙ c.loop.invariant.order);
       rounds = last.ensures.rounds;
       falls = λ t.
           let falls = last.ensures.lowers.falls t in
