@@ -164,3 +164,23 @@ pub record AreInputsOffered (g : Graph) (cost : Cost) (inputs : ℕ) (wait : Lis
 
 abbrev pub pin_count : Placed → ℕ
 pin_count m = length (pins_of m)
+
+-- all inputs have given their classes their marks, and no match has
+abbrev pub IsBegun : Cost → StoreState → Graph → ℕ → List (Option Mark) → List (Option Mark) → List ℕ → Type 0
+IsBegun cost store g start marks wait left =
+    IsSettling cost store.lists (first_stage g start) (length g.leaves) 0 [] store.done marks wait left
+
+-- the matches without pins may be offered, in some graph
+pub record MayOfferPinless (cost : Cost) (store : StoreState) (marks wait : List (Option Mark)) (left : List ℕ) : Type 0 where
+  pub of_cells : AreOfStoredCells cost.pin_counts store.lists
+  pub settling : (g : Graph) × (start : ℕ) × IsBegun cost store g start marks wait left
+
+-- they have been, in whichever graph
+pub record HasOfferedPinless (cost : Cost) (old new : StoreState) (marks wait wait' : List (Option Mark)) (left : List ℕ) : Type 0 where
+  pub lists : new.lists ≡ old.lists
+  pub reading : (g : Graph) (start : ℕ) → IsBegun cost old g start marks wait left → IsReading cost old.lists (first_stage g start) [] new.done marks wait' left
+
+-- the classes that wait may be taken, in some stage
+pub record MayTakeAll (cost : Cost) (store : StoreState) (marks wait : List (Option Mark)) (left : List ℕ) : Type 0 where
+  pub of_cells : AreOfStoredCells cost.pin_counts store.lists
+  pub reading : (s : Stage) × IsReading cost store.lists s [] store.done marks wait left

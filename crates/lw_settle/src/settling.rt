@@ -1,10 +1,9 @@
 ghost use Rattle.std.specs.Prelude.{◌≡◌, ◌+◌, ◌^◌, ◌<◌, ℕ, [], None, IfOk, OnErr, length, map, replicate};
-ghost use Rattle.lw_laws.specs.Graphs.{Graph as PlainGraph};
 ghost use Rattle.lw_laws.specs.Rounds.{labels_in};
 ghost use Rattle.lw_label.specs.Labels.{costs_of};
 ghost use Rattle.lw_match.specs.Values.{marks_in, plain_mark};
 ghost use Rattle.lw_settle.specs.Settled.{AreSettledMarks, AreUnsettled, HaveLeafCosts, IsSettledBy, MaySettle, settle_steps};
-ghost use Rattle.lw_settle.specs.Settling.{AreAllTaken, AreInputsOffered, HasPriced, HasRead, IsOffering, IsReading, IsSettling, MayOffer, MayPrice, MayRead, Stage, first_stage, pin_count};
+ghost use Rattle.lw_settle.specs.Settling.{AreAllTaken, AreInputsOffered, HasOfferedPinless, HasPriced, HasRead, IsOffering, MayOffer, MayOfferPinless, MayPrice, MayRead, MayTakeAll, pin_count};
 ghost use Rattle.lw_settle.specs.Stores.{AreOfStoredCells, placed, uses_of};
 
 use crate::queue::Queue;
@@ -79,16 +78,9 @@ fn offer_pinless<C: Cost>(
     queue: &mut Queue,
     left: &[u8],
 )
-    requires of_cells { AreOfStoredCells (C.costs cost.now).pin_counts store.old.lists }
-    requires settling { (g : PlainGraph) × (start : ℕ) ×
-        IsSettling (C.costs cost.now) store.old.lists (first_stage g start)
-        (length g.leaves) 0 [] store.old.done marks.now queue.old left.now }
-    ensures lists { store.new.lists ≡ store.old.lists }
-    ensures reading { (g : PlainGraph) (start : ℕ) →
-        IsSettling (C.costs cost.now) store.old.lists (first_stage g start)
-        (length g.leaves) 0 [] store.old.done marks.now queue.old left.now →
-        IsReading (C.costs cost.now) store.old.lists
-        (first_stage g start) [] store.new.done marks.now queue.new left.now }
+    requires { MayOfferPinless (C.costs cost.now) store.old marks.now queue.old left.now }
+    ensures { HasOfferedPinless (C.costs cost.now) store.old store.new marks.now queue.old
+        queue.new left.now }
 {
     for place in 0..store.matches() {
         if left[place as usize] == 0 {
@@ -147,10 +139,7 @@ fn settle_classes<C: Cost>(
     queue: &mut Queue,
     left: &mut [u8],
 )
-    requires of_cells { AreOfStoredCells (C.costs cost.now).pin_counts store.old.lists }
-    requires reading { (s : Stage) ×
-        IsReading (C.costs cost.now) store.old.lists s [] store.old.done marks.old queue.old
-        left.old }
+    requires { MayTakeAll (C.costs cost.now) store.old marks.old queue.old left.old }
     ensures { AreAllTaken (C.costs cost.now) store.old store.new marks.old marks.new
         queue.old queue.new left.old left.new }
 {

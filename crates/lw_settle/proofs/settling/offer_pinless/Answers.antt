@@ -51,9 +51,12 @@ loop-place-preserved t c =
       }
     ]
 
-pub returns-clause-reading : goal.returns-clause-reading
-returns-clause-reading t c = λ g start w0.
+pub returns : goal.returns
+returns t c =
     let costs = t.C.Cost.costs c.args.cost.now in
     let l = c.loop-place in
     let all : l.place ≡ length (placed c.args.store.now.lists) = omega (arith, c.matches-place-end.ensures.matches) in
-    subst₂ (λ ls n. IsSettling costs ls (first_stage g start) (length g.leaves) n [] l.store.done c.args.marks.now l.queue c.args.left.now) l.invariant.lists all (l.invariant.settling g start w0)
+    record {
+      lists = l.invariant.lists;
+      reading = λ g start w0. subst₂ (λ ls n. IsSettling costs ls (first_stage g start) (length g.leaves) n [] l.store.done c.args.marks.now l.queue c.args.left.now) l.invariant.lists all (l.invariant.settling g start w0);
+    }
