@@ -59,12 +59,12 @@ pub record MayTakeSides (ps : Parts) (nodes : List PatNode) : Type 0 where
   pub parts : AreCollected ps
   pub kept : IsKept nodes
 
--- the sides are those of the nodes
+-- the sides are those of the nodes, among the parts that have grown
 pub record AreSides (before after : Parts) (gaps : List ℕ) (nodes : List PatNode) (sides : List Side) : Type 0 where
   pub grown : AreMore before after
   pub shapes : HaveShapes after.all.keys gaps nodes sides
 
--- the sides are those of the nodes of each pattern
+-- the sides are those of the nodes of each pattern, among such parts with as much room
 pub record AreAllSides (before after : Parts) (gaps : List (List ℕ)) (pats : List Pattern) (all : List (List Side)) : Type 0 where
   pub room : after.room ≡ before.room
   pub parts : AreCollected after

@@ -4,7 +4,7 @@ use Rattle.lw_match.specs.declared.settling.Basis.{Basis}
 use Rattle.lw_match.specs.declared.settling.Table.{Table}
 use Rattle.lw_match.specs.Bounds.{BoundsState, AreSettledAt, IsTableAfter, IsTableWithTimes, bounds_weight}
 
--- a table of these patterns and this graph, and so many times
+-- a table of these patterns and this graph, with a mark or none for each class, and so many times
 abbrev pub IsTableOf : Basis → Table → Type 0
 IsTableOf basis t =
     IsTableWithTimes t.bounds t.times basis.pats.now basis.graph.now basis.marks.now
@@ -26,7 +26,7 @@ pub record IsRoundDone (basis : Basis) (whole : Bool) (old new : Table) (fell : 
   pub after : IsTableAfter old.bounds new.bounds fell
   pub settled : whole ≡ true → fell ≡ false → IsSettled basis new.bounds
 
--- rounds of which the last one is whole
+-- rounds until none lets a number fall: one fell in the last, and the sum is less, or the table is settled
 pub record AreRoundsDone (basis : Basis) (old new : Table) (fell : Bool) : Type 0 where
   pub timed : IsTableOf basis new
   pub falls : fell ≡ true → bounds_weight new.bounds < bounds_weight old.bounds

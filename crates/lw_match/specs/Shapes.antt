@@ -94,11 +94,6 @@ pub record AreParts (room : ℕ) (parts : List Part) : Type 0 where
 abbrev pub AreMoreParts : List Part → List Part → Type 0
 AreMoreParts parts more = (rest : List Part) × (more ≡ parts ++ rest)
 
--- the same parts, and others behind them, with room for all
-pub record HaveGrown (room : ℕ) (before after : List Part) : Type 0 where
-  pub parts : AreParts room after
-  pub more : AreMoreParts before after
-
 -- the side of each of the first nodes has the shape of the node's tree
 abbrev pub HaveShapes : List Part → List ℕ → List PatNode → List Side → Type 0
 HaveShapes parts gaps nodes sides =

@@ -25,7 +25,8 @@ pub struct Site<'a, C> {
 }
 
 impl<'a, C: Cost> Site<'a, C> {
-    /// A class with these.
+    /// The class in this graph, with these patterns, cuts, marks, cost and floor.
+    #[inline(always)]
     pub(crate) fn new(
         graph: &'a Graph,
         pats: &'a Patterns,
@@ -57,6 +58,7 @@ impl<'a, C: Cost> Site<'a, C> {
     }
 
     /// The numbers of pins and constants at the class.
+    #[inline(always)]
     pub(crate) fn leaves(&self) -> [u64; 5]
         requires { IsSite C.CAP C.costs self.now }
         ensures { result ≡ leaves_of (site_reading self.now) self.now.class.0 }
@@ -66,6 +68,7 @@ impl<'a, C: Cost> Site<'a, C> {
     }
 
     /// What is asked at the class, given those.
+    #[inline(always)]
     pub(crate) fn query(self, leaves: &'a [u64]) -> Query<'a, C>
         requires site { IsSite C.CAP C.costs self }
         requires leaves { leaves.now ≡ leaves_of (site_reading self) self.class.0 }

@@ -25,6 +25,7 @@ pub(crate) struct Hunt {
 
 impl Hunt {
     /// A hunt that has found nothing.
+    #[inline(always)]
     pub(crate) fn new(want: Want) -> Self
         ensures { IsNewHunt want result }
     {
