@@ -4,8 +4,8 @@
 #   sh release/needs.sh [PROGRAM]
 #
 # PROGRAM is the one that release/program.sh finds. A line is printed for the loader, for each library with the newest version
-# of its symbols that the program asks for (readelf -lV), with the file that this system has for it (ldd), for the level of
-# x86-64 that the file is marked with (readelf -n), and for that of its instructions (objdump -d, release/levels.awk). Then an
+# of its symbols that the program asks for (readelf -lW, -dW, -VW), with the file that this system has for it (ldd), for the level of
+# x86-64 that the file is marked with (readelf -nW), and for that of its instructions (objdump -d, release/levels.awk). Then an
 # example is mapped in a new root folder with the loader, the libraries and three files, without an environment, which needs
 # root or user namespaces; and on a processor of x86-64-v2, where qemu-x86_64 is there. 'skipped: ' says what could not be
 # tried. The status is 1 where a trial fails.

@@ -1,4 +1,4 @@
-# Cases of check, time, sim, graph, lut, big, verilog and unverilog for tests/rows.sh, which reads this file behind the functions that are used here.
+# Cases of all commands, of `map` with -c alone, for tests/rows.sh, which reads this file behind the functions that are used here.
 # (the names of its files and folders are set there)
 # shellcheck shell=sh disable=SC2015,SC2154
 
