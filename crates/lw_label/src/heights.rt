@@ -89,8 +89,8 @@ pub(crate) fn first_of(graph: &Graph, labels: &[Option<Mark>], place: u32) -> Cl
     }
 }
 
-// Whether a class with one mark, if it was lowered, may be the pin of a match that lowers the height
-// of a class with the other.
+// Whether a class with one mark, if it was lowered, may be the pin of a match that lowers the
+// height of a class with the other.
 fn may_lower(lowered: bool, mark: Option<Mark>, other: Option<Mark>) -> bool
     ensures { result ≡ false → (lowered ≡ false) ⊎ IsNoPin mark other }
 {

@@ -82,8 +82,8 @@ impl Labelling<'_> {
         true
     }
 
-    // Gives a class the cost of a match whose pins have marks, mostly the least, where that is lower
-    // than its own.
+    // Gives a class the cost of a match whose pins have marks, mostly the least, where that is
+    // lower than its own.
     pub(crate) fn lower_mark<C: Cost>(&mut self, task: &Task<C>, class: ClassId) -> Visit
         requires class { class.0 < length task.now.graph.now.pairs }
         requires may { MayLower C.costs task.now self.old }

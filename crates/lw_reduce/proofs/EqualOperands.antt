@@ -1,12 +1,13 @@
 -- Facts whose operands are equivalent have equivalent forms.
-use Rattle.std.proofs.Common.{ℕ, ◌-◌, ◌<◌, ◌≤◌, ◌≡◌, ◌≢◌, inl, inr, List, length, get_or, slice_index, All, Contains, sym, subst, arith}
+use Rattle.std.proofs.Common.{ℕ, zero, suc, ◌-◌, ◌<◌, ◌≤◌, ◌≡◌, ◌≢◌, inl, inr, List, length, get_or, slice_index, All, Contains, Some, slice_get, refl, sym, subst, arith}
 use Rattle.std.proofs.lemmas.List.Elements.{All-get_or, Contains-get_or}
+use Rattle.std.proofs.lemmas.Option.{get_or_from_slice_get, none-some, slice_get-get_or, slice_get_within}
 use Rattle.lw_laws.specs.Families.{Equivalent}
 use Rattle.lw_laws.specs.Families.Equivalent.{turned as turned_by, joined, nanded}
 use Rattle.lw_reduce.specs.declared.facts.Fact.{Fact}
 use Rattle.lw_reduce.specs.declared.facts.Link.{Link}
 use Rattle.lw_reduce.specs.Representatives.{family, HasOperands}
-use Rattle.lw_reduce.specs.Lookups.{HasFact}
+use Rattle.lw_reduce.specs.Lookups.{HasFact, entry_fact}
 use Rattle.lw_reduce.specs.Settling.{IsImplied, no_fact}
 
 pub equal_operands_alike : (n : ℕ) (nands : List Fact) (links : List Link) (p q : Fact) (low high : ℕ) → Contains nands p → Contains nands q → HasOperands n nands links p low high → HasOperands n nands links q low high → Equivalent (family n nands links) p.form q.form
@@ -24,6 +25,18 @@ pub entry_place : (nands : List Fact) (slots : List ℕ) (slot : ℕ) → All (�
 entry_place nands slots slot places lt ne =
     let in' = All-get_or (λ e. e ≤ length nands) slots slot 0 lt places in
     omega arith
+
+-- the fact of such an entry, which is a listed one
+pub entry_is : (nands : List Fact) (entry : ℕ) → entry ≢ 0 → entry - 1 < length nands → Some (get_or nands (entry - 1) no_fact) ≡ entry_fact nands entry
+entry_is nands zero ne lt = absurd (ne refl)
+entry_is nands (suc place) ne lt =
+    let e : place ≡ suc place - 1 = omega arith in
+    subst (λ k. Some (get_or nands k no_fact) ≡ slice_get nands place) e (sym (slice_get-get_or nands place no_fact (omega (arith, lt))))
+
+pub entry_listed : (nands : List Fact) (entry : ℕ) (f : Fact) → Some f ≡ entry_fact nands entry → Contains nands f
+entry_listed nands zero f e = absurd (none-some f (sym e))
+entry_listed nands (suc place) f e =
+    subst (Contains nands) (get_or_from_slice_get nands place f no_fact (sym e)) (Contains-get_or nands place no_fact (slice_get_within nands place f (sym e)))
 
 -- a fact and one that was looked up with the same operands
 pub lookup_alike : (n m k : ℕ) (nands : List Fact) (links : List Link) (place low high form : ℕ) (d : Fact) → m ≡ n → k ≡ n → place < length nands → HasOperands n nands links (get_or nands place d) low high → HasFact m nands links low high form → Equivalent (family k nands links) (get_or nands place d).form form

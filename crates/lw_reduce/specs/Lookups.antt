@@ -1,5 +1,5 @@
 -- What a look-up in the table of facts gives.
-use Rattle.std.specs.Prelude.{ℕ, ◌^◌, ◌<◌, ◌≤◌, ◌≡◌, ⊤, List, All, Contains, length, slice_index_or}
+use Rattle.std.specs.Prelude.{ℕ, zero, suc, ◌^◌, ◌<◌, ◌≤◌, ◌≡◌, ⊤, List, All, Contains, Option, None, length, slice_get, slice_index_or}
 use Rattle.lw_reduce.specs.declared.propagate.Lookup.{Lookup}
 use Rattle.lw_reduce.specs.declared.propagate.Operands.{Operands}
 use Rattle.lw_reduce.specs.declared.propagate.Lookup.TheVariants.{Form, Free, Full}
@@ -18,6 +18,11 @@ abbrev pub IsLookup : ℕ → List Fact → List Link → ℕ → ℕ → ℕ �
 IsLookup n nands links slots low high (Form form) = HasFact n nands links low high form
 IsLookup n nands links slots low high (Free slot) = slot < slots
 IsLookup n nands links slots low high Full = ⊤
+
+-- the fact that a slot's entry stands for: none for 0, and else that at the place before
+abbrev pub entry_fact : List Fact → ℕ → Option Fact
+entry_fact nands zero = None
+entry_fact nands (suc place) = slice_get nands place
 
 -- some slots, which have no fact
 pub record AreFreeSlots (slots : List ℕ) : Type 0 where

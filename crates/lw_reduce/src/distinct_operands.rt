@@ -41,8 +41,8 @@ fn are_increasing(keys: &[u64]) -> bool
     true
 }
 
-/// Whether no two facts have operands with the same representatives. It sorts keys, which takes half
-/// as long as sorting facts.
+/// Whether no two facts have operands with the same representatives. It sorts keys, which takes
+/// half as long as sorting facts.
 pub(crate) fn have_distinct_operands(alloc: Global, facts: &KnownFacts) -> Result<bool, AllocError>
     ensures { IfOk result (λ own. IsTrue own →
         HaveDistinctOperands facts.now.reps.now facts.now.nands.now) }

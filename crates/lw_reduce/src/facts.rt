@@ -1,8 +1,8 @@
 ghost use Rattle.std.specs.Prelude.{◌-◌, ◌<◌, ◌^◌, length, All};
 ghost use Rattle.lw_reduce.specs.declared.facts.Fact.{Fact};
 
-/// A form that is the NAND of two operands. The operands stand first, the right one before the left:
-/// so they are one number of the processor.
+/// A form that is the NAND of two operands. The operands stand first, the right one before the
+/// left: so they are one number of the processor.
 #[derive(Clone, Copy, Debug, PartialEq, Eq)]
 pub(crate) struct Fact {
     pub(crate) right: u32,

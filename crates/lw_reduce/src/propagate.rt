@@ -1,8 +1,8 @@
 // Passes over the facts whose operands have new representatives, with a hash table of facts by the
 // representatives of their operands.
-ghost use Rattle.std.specs.Prelude.{◌<◌, ◌≤◌, length, All, Contains, IfOk, IfSome};
+ghost use Rattle.std.specs.Prelude.{◌<◌, ◌≤◌, ◌≡◌, length, slice_index_or, All, IfOk, IfSome};
 ghost use Rattle.lw_reduce.specs.Representatives.{CanFindOperands, ComparesOperands, FindsOperands, StillRepresent};
-ghost use Rattle.lw_reduce.specs.Lookups.{AreFreeSlots, CanInsert, CanVisit, CanVisitAll, HaveSlots, KeepSlots, LooksUp, StandAt};
+ghost use Rattle.lw_reduce.specs.Lookups.{AreFreeSlots, CanInsert, CanVisit, CanVisitAll, HaveSlots, KeepSlots, LooksUp, StandAt, entry_fact};
 ghost use Rattle.lw_reduce.specs.Settling.{HaveCanonical};
 
 use crate::facts::{Fact, Facts};
@@ -71,7 +71,7 @@ fn next_slot(slot: usize, last: usize) -> usize
 fn fact_in(facts: &Facts, slots: &[u32], slot: usize) -> Option<Fact>
     requires places { All (λ e. e ≤ length facts.now.nands.now) slots.now }
     requires within { slot < length slots.now }
-    ensures { IfSome result (Contains facts.now.nands.now) }
+    ensures { result ≡ entry_fact facts.now.nands.now (slice_index_or slots.now slot 0) }
 {
     let entry = slots[slot];
     if entry == 0 {

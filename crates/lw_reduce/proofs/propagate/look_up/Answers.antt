@@ -1,6 +1,7 @@
 use Rattle.std.proofs.Common.{length, refl, sym, subst, arith}
 use Rattle.std.proofs.lemmas.List.Elements.{All-contains}
 use Rattle.lw_reduce.specs.Representatives.{HasOperands, IsFactIn}
+use Rattle.lw_reduce.proofs.EqualOperands.{entry_listed}
 use Rattle.lw_reduce.proofs.RepSteps.{stay_none, stay_then, valid_at}
 use Rattle.lw_reduce.proofs.propagate.look_up.Goals as goal
 
@@ -29,7 +30,7 @@ has_operands-requires c =
     let valid = c.loop-step.invariant.kept.valid in
     record {
       valid = valid_at (length reps) nands c.args.facts.now.links.now reps (length c.args.reps.now) valid (sym valid.count);
-      within = subst (λ n. IsFactIn n c.in-Some.fact) (sym valid.count) (All-contains (IsFactIn (length c.args.reps.now)) nands c.in-Some.fact valid.nands_in c.in-Some.ensures);
+      within = subst (λ n. IsFactIn n c.in-Some.fact) (sym valid.count) (All-contains (IsFactIn (length c.args.reps.now)) nands c.in-Some.fact valid.nands_in (entry_listed nands _ c.in-Some.fact c.in-Some.ensures));
     }
 
 pub returns-then-has_operands : goal.returns-then-has_operands
@@ -40,7 +41,7 @@ returns-then-has_operands c =
     let count = c.loop-step.invariant.kept.valid.count in
     record {
       kept = stay_then (length c.args.reps.now) nands links c.args.reps.now c.loop-step.reps c.has_operands.new.reps c.loop-step.invariant.kept c.has_operands.ensures.kept;
-      found = (fact, c.in-Some.ensures, subst (λ n. HasOperands n nands links fact c.args.operands.low c.args.operands.high) count (c.has_operands.ensures.operands c.if-has_operands.true), refl);
+      found = (fact, entry_listed nands _ fact c.in-Some.ensures, subst (λ n. HasOperands n nands links fact c.args.operands.low c.args.operands.high) count (c.has_operands.ensures.operands c.if-has_operands.true), refl);
     }
 
 pub loop-step-preserved : goal.loop-step-preserved
