@@ -62,8 +62,8 @@ impl Bounds {
     ghost use Rattle.lw_match.specs.Least.{AreOfCells};
     ghost use Rattle.lw_match.specs.Places.{AreRootsListed};
 
-    /// A table whose numbers are all 0, so that it is one of bounds. All memory is taken here. Where
-    /// there would be too many numbers, only the first parts have some.
+    /// A table whose numbers are all 0, so that it is one of bounds. All memory is taken here.
+    /// Where there would be too many numbers, only the first parts have some.
     pub fn new<C: Cost>(
         alloc: Global,
         graph: &Graph,
@@ -78,8 +78,8 @@ impl Bounds {
         Bounds::with_gaps(alloc, graph, pats, gaps)
     }
 
-    /// The same for heights: what a match has above its pins is one, whichever the pin, so no pin has
-    /// a gap.
+    /// The same for heights: what a match has above its pins is one, whichever the pin, so no pin
+    /// has a gap.
     pub fn of_heights(alloc: Global, graph: &Graph, pats: &Patterns) -> Result<Bounds, AllocError>
         ensures fits { IfOk result (λ b. BoundsFit b pats.now graph.now) }
         ensures zero { IfOk result (λ b. AreZero b.numbers) }

@@ -11,9 +11,9 @@ use lw_pool::PatId;
 
 /// What searches are cut by: the side that each node of each pattern is and that its root is, the
 /// numbers of the parts by rows, and the gaps of the pins of each pattern. With no sides no search
-/// is cut. The roots also stand in lists by where their numbers are. A second table tells the height
-/// that a side's pins have at least: the sides of the nodes by it, and what their numbers are read
-/// from.
+/// is cut. The roots also stand in lists by where their numbers are. A second table tells the
+/// height that a side's pins have at least: the sides of the nodes by it, and what their numbers
+/// are read from.
 #[derive(Clone, Copy)]
 pub struct Cuts<'a> {
     pub sides: &'a [Vec<Side>],
@@ -54,9 +54,9 @@ impl<'a> Cuts<'a> {
 pub(crate) fn numbers_of<'a>(
     graph: &Graph,
     marks: &'a [Option<Mark>],
-    cuts: Cuts<'a>,
+    cuts: &Cuts<'a>,
 ) -> Numbers<'a>
-    ensures { reading result ≡ cuts_reading (cuts_state cuts.entry) graph.now marks.entry.now }
+    ensures { reading result ≡ cuts_reading (cuts_state cuts.now) graph.now marks.entry.now }
 {
     Numbers {
         one: graph.one(),

@@ -44,8 +44,8 @@ fn value_alone<C: Cost>(cost: &C, cell: CellId, pins: usize, pin: usize, amount:
     cost.value(cell, &costs[..pins])
 }
 
-/// Up to which number a pin alone, with the cost that its gap leaves of the number, is known to make
-/// the cell cost so much.
+/// Up to which number a pin alone, with the cost that its gap leaves of the number, is known to
+/// make the cell cost so much.
 fn known_at<C: Cost>(cost: &C, cell: CellId, pins: usize, pin: usize, gap: u64) -> u64
     requires has { HasPins (C.costs cost.now).pin_counts cell.0 pins }
     requires pin { pin < pins }

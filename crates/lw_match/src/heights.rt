@@ -26,7 +26,7 @@ pub(crate) fn with_heights<'a>(
     let own = heights.bounds.cuts();
     Cuts {
         height_sides: own.sides,
-        heights: numbers_of(graph, heights.marks, own),
+        heights: numbers_of(graph, heights.marks, &own),
         ..cuts
     }
 }

@@ -40,6 +40,7 @@ mod sweeping;
 mod target;
 mod times;
 mod tops;
+mod want;
 
 pub use bettering::{Outcome, better_bare, better_within, lower_within};
 pub use bounds::Bounds;

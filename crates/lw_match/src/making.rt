@@ -42,8 +42,8 @@ pub(crate) struct Rows {
     pub least: Vec<u64>,
 }
 
-/// The parts of patterns whose pins have these gaps, of which only the first are kept where there is
-/// no room for more, and the sides that nodes and roots are.
+/// The parts of patterns whose pins have these gaps, of which only the first are kept where there
+/// is no room for more, and the sides that nodes and roots are.
 pub(crate) fn sides_by(
     alloc: Global,
     room: usize,

@@ -17,11 +17,11 @@ pub struct Query<'a, C> {
     pub marks: &'a [Option<Mark>],
     pub cost: &'a C,
     pub class: ClassId,
-    pub cuts: Cuts<'a>,
+    pub cuts: &'a Cuts<'a>,
     /// What no match at the class costs less than.
     pub floor: u64,
     /// The numbers of sides at the class.
     pub view: View<'a>,
     ghost leaves: { length view.leaves.now ≡ 5 },
-    ghost sides: { HasSides (cuts_reading (cuts_state cuts) graph.now marks.now) class.0 view },
+    ghost sides: { HasSides (cuts_reading (cuts_state cuts.now) graph.now marks.now) class.0 view },
 }

@@ -27,8 +27,8 @@ pub(crate) struct Table {
     pub times: Times,
 }
 
-// Lets the numbers of a class fall, if that is due or the round is a whole one, and says whether one
-// fell.
+// Lets the numbers of a class fall, if that is due or the round is a whole one, and says whether
+// one fell.
 fn renew_class(basis: Basis, table: &mut Table, class: ClassId, whole: bool) -> bool
     requires class { class.0 < length basis.graph.now.pairs }
     requires timed { IsTableOf basis table.old }

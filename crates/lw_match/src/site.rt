@@ -20,7 +20,7 @@ pub struct Site<'a, C> {
     pub marks: &'a [Option<Mark>],
     pub cost: &'a C,
     pub class: ClassId,
-    pub cuts: Cuts<'a>,
+    pub cuts: &'a Cuts<'a>,
     pub floor: u64,
 }
 
@@ -30,7 +30,7 @@ impl<'a, C: Cost> Site<'a, C> {
     pub(crate) fn new(
         graph: &'a Graph,
         pats: &'a Patterns,
-        cuts: Cuts<'a>,
+        cuts: &'a Cuts<'a>,
         marks: &'a [Option<Mark>],
         class: ClassId,
         cost: &'a C,

@@ -1,16 +1,17 @@
 // Hunts by all patterns at a class: those alone are searched whose roots have numbers low enough.
-ghost use Rattle.std.specs.Prelude.{ℕ, IsTrue, IsFalse};
+ghost use Rattle.std.specs.Prelude.{ℕ, ◌↔◌, IsTrue, IsFalse};
 ghost use Rattle.lw_match.specs.Places.{IsFar};
 ghost use Rattle.lw_match.specs.Queries.{IsQuery, IsQueryBy, AreRootsIn, HasRootsListed};
-ghost use Rattle.lw_match.specs.Hunts.{GoesOn, HasNoneAtAll, HasNoneByRoot, HasNoneInList, HasNoneLeft, IsNewHunt, IsWholeHunt};
+ghost use Rattle.lw_match.specs.Hunts.{HuntsOn, HasNoneAtAll, HasNoneByRoot, HasNoneInList, HasNoneLeft, IsNewHunt, IsWholeHunt};
 
-use crate::bettering::{Want, better_by, target_after, target_of};
 use crate::binding::Unbound;
+use crate::hunting::better_by;
 use crate::numbers::shifted;
 use crate::parts::Root;
 use crate::query::Query;
 use crate::rows::list_at;
 use crate::target::Target;
+use crate::want::{Want, target_after, target_of};
 use crate::{Best, Cost};
 use lw_pool::PatId;
 
@@ -38,7 +39,7 @@ impl Hunt {
 
     /// Whether nothing was found or marks count, so that nothing better was left behind.
     pub(crate) fn is_whole(&self) -> bool
-        ensures { IsTrue result → IsWholeHunt self.now }
+        ensures { IsTrue result ↔ IsWholeHunt self.now }
     {
         self.target.by_marks || self.found.is_none()
     }
@@ -67,7 +68,7 @@ pub(crate) fn is_bare(numbers: &[u64], top: u64) -> bool
 /// Goes on with a hunt by one pattern.
 pub(crate) fn hunt_by<C: Cost>(query: &Query<C>, pat: PatId, hunt: &mut Hunt)
     requires { IsQueryBy C.CAP C.costs query.now pat.0 }
-    ensures goes_on { GoesOn C.costs query.now hunt.old hunt.new }
+    ensures goes_on { HuntsOn C.costs query.now hunt.old hunt.new }
     ensures none { IsWholeHunt hunt.new → HasNoneLeft C.costs query.now hunt.new pat.0 }
 {
     if let Some(best) = better_by(query, pat, hunt.target, &mut hunt.unbound) {
@@ -79,7 +80,7 @@ pub(crate) fn hunt_by<C: Cost>(query: &Query<C>, pat: PatId, hunt: &mut Hunt)
 /// Goes on with a hunt by the pattern of a root, where its number in a list is below the top.
 fn hunt_root<C: Cost>(query: &Query<C>, numbers: &[u64], root: Root, hunt: &mut Hunt)
     requires { IsQuery C.CAP C.costs query.now }
-    ensures goes_on { GoesOn C.costs query.now hunt.old hunt.new }
+    ensures goes_on { HuntsOn C.costs query.now hunt.old hunt.new }
     ensures none { HasNoneByRoot C.costs query.now hunt.new numbers.now root }
 {
     if root.pattern >= query.pats.len() {
@@ -94,7 +95,7 @@ fn hunt_root<C: Cost>(query: &Query<C>, numbers: &[u64], root: Root, hunt: &mut 
 fn hunt_list<C: Cost>(query: &Query<C>, list: u8, roots: &[Root], hunt: &mut Hunt)
     requires query { IsQuery C.CAP C.costs query.now }
     requires listed { AreRootsIn query.now list roots.now }
-    ensures goes_on { GoesOn C.costs query.now hunt.old hunt.new }
+    ensures goes_on { HuntsOn C.costs query.now hunt.old hunt.new }
     ensures none { HasNoneInList C.costs query.now hunt.new list }
 {
     let numbers = list_at(query.view, list);
@@ -109,7 +110,7 @@ fn hunt_list<C: Cost>(query: &Query<C>, list: u8, roots: &[Root], hunt: &mut Hun
 /// Goes on with a hunt by all patterns, one after the other.
 fn hunt_all<C: Cost>(query: &Query<C>, hunt: &mut Hunt)
     requires { IsQuery C.CAP C.costs query.now }
-    ensures goes_on { GoesOn C.costs query.now hunt.old hunt.new }
+    ensures goes_on { HuntsOn C.costs query.now hunt.old hunt.new }
     ensures none { HasNoneAtAll C.costs query.now hunt.new }
 {
     for number in 0..query.pats.len() {
@@ -121,7 +122,7 @@ fn hunt_all<C: Cost>(query: &Query<C>, hunt: &mut Hunt)
 pub(crate) fn hunt_near<C: Cost>(query: &Query<C>, hunt: &mut Hunt)
     requires query { IsQuery C.CAP C.costs query.now }
     requires listed { HasRootsListed query.now }
-    ensures goes_on { GoesOn C.costs query.now hunt.old hunt.new }
+    ensures goes_on { HuntsOn C.costs query.now hunt.old hunt.new }
     ensures none { HasNoneAtAll C.costs query.now hunt.new }
 {
     if query.cuts.roots.len() < query.pats.len() as usize {

@@ -1,4 +1,5 @@
-ghost use Rattle.lw_match.specs.Cutting.{IsTopOf};
+ghost use Rattle.std.specs.Prelude.{◌≡◌, false};
+ghost use Rattle.lw_match.specs.Cutting.{IsSharper, IsTopOf};
 
 use crate::Mark;
 
@@ -10,4 +11,39 @@ pub struct Target {
     pub top: u64,
     pub by_marks: bool,
     ghost is_top: { IsTopOf bound top },
+}
+
+/// A bound that is as good for matches, none of which has height 0.
+pub(crate) fn sharpened(bound: Option<Mark>) -> Option<Mark>
+    ensures { IsSharper bound result }
+{
+    let mark = bound?;
+    let height = if mark.height == 1 { 0 } else { mark.height };
+    Some(Mark {
+        cost: mark.cost,
+        height,
+    })
+}
+
+/// The number from which on no match is before a bound.
+pub(crate) fn top_of(bound: Option<Mark>) -> u64
+    ensures { IsTopOf bound result }
+{
+    match bound {
+        None => u64::MAX,
+        Some(mark) if mark.height == 0 => mark.cost,
+        Some(mark) => mark.cost.saturating_add(1),
+    }
+}
+
+/// Any match before a bound, as it stands.
+pub(crate) fn before(bound: Option<Mark>) -> Target
+    ensures bound { result.bound ≡ bound }
+    ensures by_marks { result.by_marks ≡ false }
+{
+    Target {
+        bound,
+        top: top_of(bound),
+        by_marks: false,
+    }
 }

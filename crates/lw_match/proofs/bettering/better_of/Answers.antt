@@ -1,5 +1,5 @@
 use Rattle.std.proofs.Common.{subst}
-use Rattle.lw_match.specs.declared.bettering.Want.{Want}
+use Rattle.lw_match.specs.declared.want.Want.{Want}
 use Rattle.lw_match.specs.Hunts.{IsHunt}
 use Rattle.lw_match.proofs.Sites.{new_hunt}
 use Rattle.lw_match.proofs.bettering.better_of.Goals as goal

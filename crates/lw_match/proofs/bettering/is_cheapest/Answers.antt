@@ -13,4 +13,4 @@ returns-clause-none g c = λ t bounds.
     let costs = g.C.Cost.costs q.cost.now in
     let mark : Mark = record { cost = c.args.cost; height = 0 } in
     let target : Target = record { bound = Some mark; top = c.args.cost; by_marks = false; is_top = top_flat mark refl } in
-    hunted_none (cuts_state q.cuts) q.graph.now costs q.pats.now q.marks.now q.class.0 (Some mark) target None (same_bound (Some mark)) (λ i lt. let known : i < length q.cuts.roots.now = omega arith in all_far g.C.Cost.costs q _ (g.met.C.Cost.laws q.cost.now) (subst (λ n. AreInRange n q.marks.now) (sym (g.met.C.Cost.cap q.cost.now)) c.requires.asked.query.in_range) c.requires.asked.query c.args.number target c.requires.asked.listed c.requires.far (omega arith) i lt known) (λ i lt cut. inl (c.are_sure.ensures.sure t i)) bounds
+    hunted_none (cuts_state q.cuts.now) q.graph.now costs q.pats.now q.marks.now q.class.0 (Some mark) target None (same_bound (Some mark)) (λ i lt. let known : i < length q.cuts.now.roots.now = omega arith in all_far g.C.Cost.costs q _ (g.met.C.Cost.laws q.cost.now) (subst (λ n. AreInRange n q.marks.now) (sym (g.met.C.Cost.cap q.cost.now)) c.requires.asked.query.in_range) c.requires.asked.query c.args.number target c.requires.asked.listed c.requires.far (omega arith) i lt known) (λ i lt cut. inl (c.are_sure.ensures.sure t i)) bounds

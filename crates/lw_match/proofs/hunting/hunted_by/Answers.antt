@@ -17,7 +17,7 @@ returns g c =
     let start = c.to_beat-best.result in
     let best = c.least_by.new.best in
     let searched = subst (λ (scope : Scope). SearchesBy g.C.Cost.costs q i scope start best) c.scope_of.ensures c.least_by.ensures in
-    let cuts = AreSureCuts (cuts_state q.cuts) q.graph.now costs q.pats.now q.marks.now i scope in
+    let cuts = AreSureCuts (cuts_state q.cuts.now) q.graph.now costs q.pats.now q.marks.now i scope in
     record {
       sound = match_by cuts q.graph.now costs q.pats.now (marks_in q.marks.now) q.class.0 i target.bound start best c.within.result c.to_beat-best.ensures searched c.within.ensures;
       none = λ whole bounds sure. none_by cuts q.graph.now costs q.pats.now (marks_in q.marks.now) q.class.0 i target.bound start best c.within.result searched c.within.ensures (λ b before. record {

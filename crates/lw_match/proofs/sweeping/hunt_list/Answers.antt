@@ -12,7 +12,7 @@ use Rattle.lw_match.proofs.sweeping.hunt_list.Goals as goal
 pub returns-then-is_bare-clause-none : goal.returns-then-is_bare-clause-none
 returns-then-is_bare-clause-none g c = λ e i within known in_list.
     let q = c.args.query.now in
-    let root = root_of i (root_side (cuts_state q.cuts) i) in
+    let root = root_of i (root_side (cuts_state q.cuts.now) i) in
     let here : IsRootOf q c.list_at-numbers.result.now root i = record {
       within = within;
       known = known;

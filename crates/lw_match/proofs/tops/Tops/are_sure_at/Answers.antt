@@ -9,7 +9,7 @@ pub returns-clause-known : goal.returns-clause-known
 returns-clause-known g c =
     let costs = g.C.Cost.costs c.args.query.now.cost.now in
     let pats = c.args.query.now.pats.now in
-    let gaps = (cuts_state c.args.query.now.cuts).gaps in
+    let gaps = (cuts_state c.args.query.now.cuts.now).gaps in
     let known = subst (AreKnown costs pats gaps) (sym c.self.view_is) c.requires.known in
     record {
       up_to = known.up_to;

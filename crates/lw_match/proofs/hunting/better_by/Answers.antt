@@ -1,0 +1,14 @@
+use Rattle.std.proofs.Common.{subst, sym, arith}
+use Rattle.lw_match.specs.Values.{AreInRange}
+use Rattle.lw_match.specs.Cutting.{cuts_state}
+use Rattle.lw_match.proofs.Better.{root_none}
+use Rattle.lw_match.proofs.hunting.better_by.Goals as goal
+
+pub returns-then-number-target : goal.returns-then-number-target
+returns-then-number-target g c = record {
+  sound = tt;
+  none = λ e.
+      let q = c.args.query.now in
+      let costs = g.C.Cost.costs q.cost.now in
+      root_none (cuts_state q.cuts.now) q.graph.now costs q.pats.now q.marks.now q.class.0 c.args.pat.0 c.root_number-number.result c.args.target.bound c.args.target.top (g.met.C.Cost.laws q.cost.now) (subst (λ n. AreInRange n q.marks.now) (sym (g.met.C.Cost.cap q.cost.now)) c.requires.query.in_range) c.requires.pat (c.root_number-number.ensures c.requires.query.cuts) (omega arith) (omega (arith, c.if-number-target.true)) c.args.target.is_top;
+}

@@ -1,0 +1,94 @@
+// What is sought, and the targets that stand for it.
+ghost use Rattle.std.specs.Prelude.{◌≡◌, Some, true, false};
+ghost use Rattle.lw_match.specs.Values.{plain_mark};
+ghost use Rattle.lw_match.specs.Least.{IsWithin};
+ghost use Rattle.lw_match.specs.Cutting.{IsSharper};
+ghost use Rattle.lw_match.specs.Hunts.{IsCheaper, IsTargetOf, IsTargetAfter, IsUnlimited};
+
+use crate::Mark;
+use crate::target::{Target, sharpened, top_of};
+
+/// What is sought: a match before the bound, where there is one, and one with the least mark where
+/// marks count.
+#[derive(Clone, Copy)]
+pub(crate) struct Want {
+    pub(crate) by_marks: bool,
+    pub(crate) bound: Option<Mark>,
+}
+
+impl Want {
+    /// Any match before the bound.
+    pub(crate) fn any(bound: Option<Mark>) -> Want
+        ensures { result ≡ record { by_marks = false; bound = bound } }
+    {
+        Want {
+            by_marks: false,
+            bound,
+        }
+    }
+
+    /// A match with the least mark, where that is before the bound.
+    pub(crate) fn least(bound: Option<Mark>) -> Want
+        ensures { result ≡ record { by_marks = true; bound = bound } }
+    {
+        Want {
+            by_marks: true,
+            bound,
+        }
+    }
+}
+
+/// The target of a hunt for this.
+pub(crate) fn target_of(want: Want) -> Target
+    ensures { IsTargetOf want result }
+{
+    let bound = sharpened(want.bound);
+    let top = top_of(bound);
+    Target {
+        bound,
+        top,
+        by_marks: want.by_marks,
+    }
+}
+
+/// The target after a match was found with a mark before it. Where marks count its number stays, so
+/// that what was passed over at it needs no other certificate.
+pub(crate) fn target_after(target: Target, mark: Mark) -> Target
+    requires within { IsWithin target.bound (plain_mark mark) }
+    ensures sharper { IsSharper (Some mark) result.bound }
+    ensures goes_on { IsTargetAfter target result }
+{
+    if target.by_marks {
+        return Target {
+            bound: Some(mark),
+            top: target.top,
+            by_marks: true,
+        };
+    }
+    target_of(Want::any(Some(mark)))
+}
+
+/// A target by which sides alone are passed over that stand nowhere, or too high.
+pub(crate) fn unlimited(bound: Option<Mark>) -> Target
+    ensures { IsUnlimited bound result }
+{
+    Target {
+        bound,
+        top: u64::MAX,
+        by_marks: false,
+    }
+}
+
+/// What costs less than a number.
+pub(crate) fn cheaper(number: u64) -> Target
+    ensures { IsCheaper number result }
+{
+    Target {
+        bound: Some(Mark {
+            cost: number,
+            height: 0,
+        }),
+        top: number,
+        by_marks: false,
+    }
+}
