@@ -1,5 +1,5 @@
 // Rounds that unify forms, until one changes nothing.
-ghost use Rattle.std.specs.Prelude.{◌≡◌, ◌^◌, ◌<◌, ◌≤◌, ℕ, length, map, All, IfOk, OnOk, IsTrue};
+ghost use Rattle.std.specs.Prelude.{◌≡◌, ◌^◌, ◌<◌, length, map, All, IfOk, OnOk};
 ghost use Rattle.lw_facts.specs.Sorting.{AreSortedFrom};
 ghost use Rattle.lw_reduce.specs.Representatives.{LinkAgrees, Represent, Unifies};
 ghost use Rattle.lw_reduce.specs.Settling.{AgreesAll, AgreesAt, AreSettledFrom, CanUnifyAt, HaveCanonical, IsRoundOutcome, TellsSettled, fact_key, canonical_fact};
