@@ -3,7 +3,7 @@ ghost use Rattle.std.specs.Prelude.{◌≡◌, Some, true, false};
 ghost use Rattle.lw_match.specs.Values.{plain_mark};
 ghost use Rattle.lw_match.specs.Least.{IsWithin};
 ghost use Rattle.lw_match.specs.Cutting.{IsSharper};
-ghost use Rattle.lw_match.specs.Hunts.{IsCheaper, IsTargetOf, IsTargetAfter, IsUnlimited};
+ghost use Rattle.lw_match.specs.Hunts.{IsCheaper, IsTargetOf, IsTargetAfter, IsUnlimited, any_before, lowest_before};
 
 use crate::Mark;
 use crate::target::{Target, sharpened, top_of};
@@ -11,15 +11,15 @@ use crate::target::{Target, sharpened, top_of};
 /// What is sought: a match before the bound, where there is one, and one with the least mark where
 /// marks count.
 #[derive(Clone, Copy)]
-pub(crate) struct Want {
-    pub(crate) by_marks: bool,
-    pub(crate) bound: Option<Mark>,
+pub struct Want {
+    pub by_marks: bool,
+    pub bound: Option<Mark>,
 }
 
 impl Want {
     /// Any match before the bound.
     pub(crate) fn any(bound: Option<Mark>) -> Want
-        ensures { result ≡ record { by_marks = false; bound = bound } }
+        ensures { result ≡ any_before bound }
     {
         Want {
             by_marks: false,
@@ -29,7 +29,7 @@ impl Want {
 
     /// A match with the least mark, where that is before the bound.
     pub(crate) fn least(bound: Option<Mark>) -> Want
-        ensures { result ≡ record { by_marks = true; bound = bound } }
+        ensures { result ≡ lowest_before bound }
     {
         Want {
             by_marks: true,

@@ -4,10 +4,10 @@ use Rattle.lw_match.proofs.Sites.{bounds_site, found_at}
 use Rattle.lw_match.proofs.bettering.better_bare.Goals as goal
 
 pub leaves-leaves-requires : goal.leaves-leaves-requires
-leaves-leaves-requires g c = subst (IsSite g.C.Cost.CAP g.C.Cost.costs) (sym c.new-site.ensures) (bounds_site g.C.Cost.costs g.C.Cost.CAP _ c.args.bounds.now c.requires.class c.requires.one_each c.requires.in_range c.requires.of_cells c.requires.fit c.cuts-cuts.ensures.state c.cuts-cuts.ensures.roots c.requires.floor)
+leaves-leaves-requires g c = subst (IsSite g.C.Cost.CAP g.C.Cost.costs) (sym c.new-site.ensures) (bounds_site g.C.Cost.costs g.C.Cost.CAP _ c.args.bounds.now c.requires.may c.cuts-cuts.ensures.state c.cuts-cuts.ensures.roots c.requires.floor)
 
 pub query-requires-clause-site : goal.query-requires-clause-site
-query-requires-clause-site g c = subst (IsSite g.C.Cost.CAP g.C.Cost.costs) (sym c.new-site.ensures) (bounds_site g.C.Cost.costs g.C.Cost.CAP _ c.args.bounds.now c.requires.class c.requires.one_each c.requires.in_range c.requires.of_cells c.requires.fit c.cuts-cuts.ensures.state c.cuts-cuts.ensures.roots c.requires.floor)
+query-requires-clause-site g c = subst (IsSite g.C.Cost.CAP g.C.Cost.costs) (sym c.new-site.ensures) (bounds_site g.C.Cost.costs g.C.Cost.CAP _ c.args.bounds.now c.requires.may c.cuts-cuts.ensures.state c.cuts-cuts.ensures.roots c.requires.floor)
 
 pub returns : goal.returns
 returns g c =

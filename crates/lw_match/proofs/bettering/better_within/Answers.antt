@@ -6,7 +6,7 @@ use Rattle.lw_match.proofs.Sites.{bounds_site, outcome_of}
 use Rattle.lw_match.proofs.bettering.better_within.Goals as goal
 
 pub better_at-requires-clause-site : goal.better_at-requires-clause-site
-better_at-requires-clause-site g c = subst (IsSite g.C.Cost.CAP g.C.Cost.costs) (sym c.new-site.ensures) (bounds_site g.C.Cost.costs g.C.Cost.CAP _ c.args.bounds.now c.requires.class c.requires.one_each c.requires.in_range c.requires.of_cells c.requires.fit c.cuts-cuts.ensures.state c.cuts-cuts.ensures.roots (record { capped = omega arith; below = λ b i. omega arith }))
+better_at-requires-clause-site g c = subst (IsSite g.C.Cost.CAP g.C.Cost.costs) (sym c.new-site.ensures) (bounds_site g.C.Cost.costs g.C.Cost.CAP _ c.args.bounds.now c.requires.may c.cuts-cuts.ensures.state c.cuts-cuts.ensures.roots (record { capped = omega arith; below = λ b i. omega arith }))
 
 pub better_at-requires-clause-known : goal.better_at-requires-clause-known
 better_at-requires-clause-known g c =
@@ -18,13 +18,11 @@ returns-clause-known g c =
     let known = subst (λ s. AreKnownAt g.C.Cost.costs s c.better_at.new.tops) c.new-site.ensures c.better_at.ensures.known in
     subst (λ (cuts : CutsState). AreKnown (g.C.Cost.costs c.args.cost.now) c.args.pats.now cuts.gaps c.better_at.new.tops) c.cuts-cuts.ensures.state known
 
-pub returns-clause-sound : goal.returns-clause-sound
-returns-clause-sound g c =
-    (outcome_of g.C.Cost.costs c.new-site.result _ c.any.result _ c.better_at.result c.new-site.ensures c.any.ensures c.better_at.ensures.outcome).sound
-
-pub returns-clause-none : goal.returns-clause-none
-returns-clause-none g c = c.better_at.ensures.outcome.none
-
-pub returns-clause-least : goal.returns-clause-least
-returns-clause-least g c = λ t bounds.
-    (outcome_of g.C.Cost.costs c.new-site.result _ c.any.result _ c.better_at.result c.new-site.ensures c.any.ensures c.better_at.ensures.outcome).least t (subst (λ (cuts : CutsState). AreCutsOf cuts c.args.pats.now c.args.graph.now c.args.marks.now) (sym c.cuts-cuts.ensures.state) (bounds_cut_well c.args.bounds.now c.args.pats.now c.args.graph.now c.args.marks.now c.requires.fit bounds))
+pub returns-clause-outcome : goal.returns-clause-outcome
+returns-clause-outcome g c =
+    let is = outcome_of g.C.Cost.costs c.new-site.result _ c.any.result _ c.better_at.result c.new-site.ensures c.any.ensures c.better_at.ensures.outcome in
+    record {
+      sound = is.sound;
+      none = is.none;
+      least = λ t bounds. is.least t (subst (λ (cuts : CutsState). AreCutsOf cuts c.args.pats.now c.args.graph.now c.args.marks.now) (sym c.cuts-cuts.ensures.state) (bounds_cut_well c.args.bounds.now c.args.pats.now c.args.graph.now c.args.marks.now c.requires.may.fits bounds));
+    }

@@ -8,13 +8,13 @@ use Rattle.lw_match.proofs.bettering.lower_within.Goals as goal
 
 pub better_at-requires-clause-site : goal.better_at-requires-clause-site
 better_at-requires-clause-site g c =
-    let own = subst (λ (cuts : CutsState). CutsFit cuts c.args.graph.now) (sym c.cuts.ensures.state) (bounds_cut c.args.bounds.now c.args.pats.now c.args.graph.now c.requires.fit) in
+    let own = subst (λ (cuts : CutsState). CutsFit cuts c.args.graph.now) (sym c.cuts.ensures.state) (bounds_cut c.args.bounds.now c.args.pats.now c.args.graph.now c.requires.may.fits) in
     subst (IsSite g.C.Cost.CAP g.C.Cost.costs) (sym c.new-site.ensures) (record {
-      class = c.requires.class;
-      one_each = c.requires.one_each;
-      in_range = c.requires.in_range;
-      of_cells = c.requires.of_cells;
-      cuts_fit = subst (λ (cuts : CutsState). CutsFit cuts c.args.graph.now) (sym c.with_heights-cuts.ensures.state) (heights_fit _ c.args.pats.now c.args.graph.now c.args.marks.now c.args.heights c.requires.one_each c.classes.ensures.kept.even c.requires.heights own);
+      class = c.requires.may.class;
+      one_each = c.requires.may.one_each;
+      in_range = c.requires.may.in_range;
+      of_cells = c.requires.may.of_cells;
+      cuts_fit = subst (λ (cuts : CutsState). CutsFit cuts c.args.graph.now) (sym c.with_heights-cuts.ensures.state) (heights_fit _ c.args.pats.now c.args.graph.now c.args.marks.now c.args.heights c.requires.may.one_each c.classes.ensures.kept.even c.requires.heights own);
       listed = c.with_heights-cuts.ensures.roots c.cuts.ensures.roots;
       floor_is = c.requires.floor;
     })
@@ -38,14 +38,13 @@ returns-clause-known g c =
     let known = subst (λ gaps. AreKnown costs pats gaps tops) (gaps_with _ c.args.graph.now c.args.heights) with_them in
     subst (λ (cuts : CutsState). AreKnown costs pats cuts.gaps tops) c.cuts.ensures.state known
 
-pub returns-clause-sound : goal.returns-clause-sound
-returns-clause-sound g c =
-    (outcome_of g.C.Cost.costs c.new-site.result _ c.least.result _ c.better_at.result c.new-site.ensures c.least.ensures c.better_at.ensures.outcome).sound
-
-pub returns-clause-none : goal.returns-clause-none
-returns-clause-none g c = c.better_at.ensures.outcome.none
-
-pub returns-clause-least : goal.returns-clause-least
-returns-clause-least g c = λ t bounds.
-    let own = subst (λ (cuts : CutsState). AreCutsOf cuts c.args.pats.now c.args.graph.now c.args.marks.now) (sym c.cuts.ensures.state) (bounds_cut_well c.args.bounds.now c.args.pats.now c.args.graph.now c.args.marks.now c.requires.fit bounds) in
-    (outcome_of g.C.Cost.costs c.new-site.result _ c.least.result _ c.better_at.result c.new-site.ensures c.least.ensures c.better_at.ensures.outcome).least t (subst (λ (cuts : CutsState). AreCutsOf cuts c.args.pats.now c.args.graph.now c.args.marks.now) (sym c.with_heights-cuts.ensures.state) (heights_cut _ c.args.pats.now c.args.graph.now c.args.marks.now c.args.heights c.requires.heights own))
+pub returns-clause-outcome : goal.returns-clause-outcome
+returns-clause-outcome g c =
+    let is = outcome_of g.C.Cost.costs c.new-site.result _ c.least.result _ c.better_at.result c.new-site.ensures c.least.ensures c.better_at.ensures.outcome in
+    record {
+      sound = is.sound;
+      none = is.none;
+      least = λ t bounds.
+          let own = subst (λ (cuts : CutsState). AreCutsOf cuts c.args.pats.now c.args.graph.now c.args.marks.now) (sym c.cuts.ensures.state) (bounds_cut_well c.args.bounds.now c.args.pats.now c.args.graph.now c.args.marks.now c.requires.may.fits bounds) in
+          is.least t (subst (λ (cuts : CutsState). AreCutsOf cuts c.args.pats.now c.args.graph.now c.args.marks.now) (sym c.with_heights-cuts.ensures.state) (heights_cut _ c.args.pats.now c.args.graph.now c.args.marks.now c.args.heights c.requires.heights own));
+    }

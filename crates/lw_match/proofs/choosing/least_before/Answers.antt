@@ -8,19 +8,19 @@ use Rattle.lw_match.proofs.Sites.{bounds_site, sure_query, least_at, last_at}
 use Rattle.lw_match.proofs.choosing.least_before.Goals as goal
 
 pub leaves-leaves-requires : goal.leaves-leaves-requires
-leaves-leaves-requires g c = subst (IsSite g.C.Cost.CAP g.C.Cost.costs) (sym c.new-site.ensures) (bounds_site g.C.Cost.costs g.C.Cost.CAP _ c.args.bounds.now c.requires.class c.requires.one_each c.requires.in_range c.requires.of_cells c.requires.fit c.cuts-cuts.ensures.state c.cuts-cuts.ensures.roots (last_floor c.args.graph.now (g.C.Cost.costs c.args.cost.now) c.args.pats.now (marks_in c.args.marks.now) c.args.class.0 c.args.bound c.requires.last))
+leaves-leaves-requires g c = subst (IsSite g.C.Cost.CAP g.C.Cost.costs) (sym c.new-site.ensures) (bounds_site g.C.Cost.costs g.C.Cost.CAP _ c.args.bounds.now c.requires.may c.cuts-cuts.ensures.state c.cuts-cuts.ensures.roots (last_floor c.args.graph.now (g.C.Cost.costs c.args.cost.now) c.args.pats.now (marks_in c.args.marks.now) c.args.class.0 c.args.bound c.requires.last))
 
 pub query-requires-clause-site : goal.query-requires-clause-site
-query-requires-clause-site g c = subst (IsSite g.C.Cost.CAP g.C.Cost.costs) (sym c.new-site.ensures) (bounds_site g.C.Cost.costs g.C.Cost.CAP _ c.args.bounds.now c.requires.class c.requires.one_each c.requires.in_range c.requires.of_cells c.requires.fit c.cuts-cuts.ensures.state c.cuts-cuts.ensures.roots (last_floor c.args.graph.now (g.C.Cost.costs c.args.cost.now) c.args.pats.now (marks_in c.args.marks.now) c.args.class.0 c.args.bound c.requires.last))
+query-requires-clause-site g c = subst (IsSite g.C.Cost.CAP g.C.Cost.costs) (sym c.new-site.ensures) (bounds_site g.C.Cost.costs g.C.Cost.CAP _ c.args.bounds.now c.requires.may c.cuts-cuts.ensures.state c.cuts-cuts.ensures.roots (last_floor c.args.graph.now (g.C.Cost.costs c.args.cost.now) c.args.pats.now (marks_in c.args.marks.now) c.args.class.0 c.args.bound c.requires.last))
 
 pub picked-requires-clause-asked : goal.picked-requires-clause-asked
 picked-requires-clause-asked g c =
     let known = subst (λ (cuts : CutsState). AreKnown (g.C.Cost.costs c.args.cost.now) c.args.pats.now cuts.gaps c.args.tops.now) (sym c.cuts-cuts.ensures.state) c.requires.known in
-    sure_query g.C.Cost.costs g.C.Cost.CAP c.new-site.result c.query.result c.args.tops.now c.query.ensures.site c.query.ensures.query (subst (IsSite g.C.Cost.CAP g.C.Cost.costs) (sym c.new-site.ensures) (bounds_site g.C.Cost.costs g.C.Cost.CAP _ c.args.bounds.now c.requires.class c.requires.one_each c.requires.in_range c.requires.of_cells c.requires.fit c.cuts-cuts.ensures.state c.cuts-cuts.ensures.roots (last_floor c.args.graph.now (g.C.Cost.costs c.args.cost.now) c.args.pats.now (marks_in c.args.marks.now) c.args.class.0 c.args.bound c.requires.last))) (subst (λ s. AreKnownAt g.C.Cost.costs s c.args.tops.now) (sym c.new-site.ensures) known)
+    sure_query g.C.Cost.costs g.C.Cost.CAP c.new-site.result c.query.result c.args.tops.now c.query.ensures.site c.query.ensures.query (subst (IsSite g.C.Cost.CAP g.C.Cost.costs) (sym c.new-site.ensures) (bounds_site g.C.Cost.costs g.C.Cost.CAP _ c.args.bounds.now c.requires.may c.cuts-cuts.ensures.state c.cuts-cuts.ensures.roots (last_floor c.args.graph.now (g.C.Cost.costs c.args.cost.now) c.args.pats.now (marks_in c.args.marks.now) c.args.class.0 c.args.bound c.requires.last))) (subst (λ s. AreKnownAt g.C.Cost.costs s c.args.tops.now) (sym c.new-site.ensures) known)
 
 pub picked-requires-clause-bounds : goal.picked-requires-clause-bounds
 picked-requires-clause-bounds g c =
-    let bounds = subst (λ (cuts : CutsState). AreCutsOf cuts c.args.pats.now c.args.graph.now c.args.marks.now) (sym c.cuts-cuts.ensures.state) (bounds_cut_well c.args.bounds.now c.args.pats.now c.args.graph.now c.args.marks.now c.requires.fit c.requires.bounds) in
+    let bounds = subst (λ (cuts : CutsState). AreCutsOf cuts c.args.pats.now c.args.graph.now c.args.marks.now) (sym c.cuts-cuts.ensures.state) (bounds_cut_well c.args.bounds.now c.args.pats.now c.args.graph.now c.args.marks.now c.requires.may.fits c.requires.bounds) in
     subst AreTrueAt (sym (c.query.ensures.site ∙ c.new-site.ensures)) bounds
 
 pub picked-requires-clause-last : goal.picked-requires-clause-last
