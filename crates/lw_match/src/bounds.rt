@@ -1,3 +1,4 @@
+// The table of bounds: what the pins of parts of patterns cost at least, class by class.
 ghost use Rattle.std.specs.Prelude.{◌≡◌, ◌<◌, ◌≤◌, ◌*◌, ℕ, List, [], IfOk, IsTrue, IsFalse, length, slice_index};
 ghost use Rattle.lw_laws.specs.Covers.{Pattern as TreeOfCell};
 ghost use Rattle.lw_match.specs.Numbers.{most_numbers};

@@ -1,3 +1,4 @@
+// What matches are priced with: the trait of costs, and the laws that each cost keeps.
 use lw_pool::CellId;
 
 /// What inputs cost, and what cells cost over the costs of their pins: numbers from 0 to `CAP`. A
@@ -29,6 +30,7 @@ pub trait Cost {
         ensures { (ds : List ℕ) → length ds ≡ pins → slice_index ds pin + gap ≤ result →
             slice_index ds pin + gap ≤ (costs self.now).value cell.0 ds }
     {
+        // Nothing is known by itself; an implementation may look at them.
         let _ = (cell, pins, pin, gap);
         0
     }

@@ -1,3 +1,4 @@
+// What searches are cut by, as it is read from the tables of bounds.
 ghost use Rattle.std.specs.Prelude.{◌≡◌, map, [], slice_index_or};
 ghost use Rattle.lw_match.specs.Numbers.{reading};
 ghost use Rattle.lw_match.specs.Cutting.{cuts_state, cuts_reading};

@@ -1,3 +1,4 @@
+// Laws of matches and bounds, which other crates cite.
 ghost use Rattle.lw_match.specs.Bounds.{SettledBoundsAreBounds, BoundsOfFewer};
 ghost use Rattle.lw_match.specs.Matching.{MatchesHaveCells, LibraryPatternsAreOfCells};
 

@@ -1,3 +1,4 @@
+// Marks of classes, and matches with their marks.
 ghost use Rattle.std.specs.Prelude.{◌<◌, ◌↔◌, IsTrue, MatchBool};
 ghost use Rattle.lw_laws.specs.Extracts.{IsListAtMost};
 ghost use Rattle.lw_pool.specs.Numbers.{numbers};

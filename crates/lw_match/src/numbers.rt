@@ -1,3 +1,4 @@
+// Where the numbers of sides at classes are read from.
 ghost use Rattle.std.specs.Prelude.{◌≡◌, ◌<◌, length};
 ghost use Rattle.lw_match.specs.Shapes.{KindFits, SideFits};
 ghost use Rattle.lw_match.specs.Numbers.{reading, no_reading, start_of, shifted, mark_number, part_number, class_below, kind_number, side_number, IsReading};

@@ -1,3 +1,4 @@
+// The pins of a match.
 ghost use Rattle.std.specs.Prelude.{◌≡◌, ◌<◌, ◌≤◌, ◌+◌, ◌++◌, [], ◌∷◌, ◌↔◌, List, length, take, IsTrue, Some, slice_get};
 
 use lw_pool::ClassId;

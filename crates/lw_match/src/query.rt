@@ -1,3 +1,4 @@
+// What is asked at a class, with the numbers of sides there.
 ghost use Rattle.std.specs.Prelude.{◌≡◌, length};
 ghost use Rattle.lw_match.specs.Cutting.{cuts_state, cuts_reading};
 ghost use Rattle.lw_match.specs.Places.{HasSides};

@@ -1,3 +1,4 @@
+// A class with all that a search there reads, of which a query is made.
 ghost use Rattle.std.specs.Prelude.{◌≡◌};
 ghost use Rattle.lw_match.specs.Places.{leaves_of};
 ghost use Rattle.lw_match.specs.Queries.{IsQuery};

@@ -61,6 +61,7 @@ pub(crate) fn is_near(numbers: &[u64], root: Root, top: u64) -> bool
 pub(crate) fn is_bare(numbers: &[u64], top: u64) -> bool
     ensures { IsTrue result → (place shift : ℕ) → IsFar numbers.now place shift top }
 {
+    // An empty list has no number below the top, whatever it is: the clause alone names it.
     let _ = top;
     numbers.is_empty()
 }

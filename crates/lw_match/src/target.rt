@@ -1,3 +1,4 @@
+// Targets: what a match has to be before.
 ghost use Rattle.std.specs.Prelude.{◌≡◌, false};
 ghost use Rattle.lw_match.specs.Cutting.{IsSharper, IsTopOf};
 

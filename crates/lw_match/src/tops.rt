@@ -3,7 +3,7 @@ ghost use Rattle.std.specs.Prelude.{◌≡◌, ◌<◌, ◌≤◌, ◌≢◌, Is
 ghost use Rattle.lw_match.specs.Least.{AreOfCells};
 ghost use Rattle.lw_match.specs.Numbers.{never};
 ghost use Rattle.lw_match.specs.Queries.{AreCertifiedFor, AreKnownFor, HasPatternsOfCells};
-ghost use Rattle.lw_match.specs.Cutting.{AreCertified, AreKnown, IsLikeLast};
+ghost use Rattle.lw_match.specs.Cutting.{AreCertified, AreKnown, IsLikeLast, most_tops};
 
 use crate::gaps::{gaps_at, is_certified_by, known_of};
 use crate::query::Query;
@@ -62,7 +62,7 @@ fn known_up_to<C: Cost>(pats: &Patterns, cost: &C, gaps: &[[u64; 16]]) -> u64
 
 /// The place of a number: numbers that lie close together have different ones.
 fn place_of(top: u64) -> usize
-    ensures { result < 4096 }
+    ensures { result < most_tops }
 {
     (top.wrapping_mul(0x9e37_79b9_7f4a_7c15) >> 32) as usize % PLACES
 }
@@ -72,18 +72,18 @@ fn place_of(top: u64) -> usize
 #[derive(Drop)]
 pub struct Tops {
     known: u64,
-    tops: [u64; 4096],
+    tops: [u64; PLACES],
 }
 
 impl Model for Tops {
     ghost use Rattle.std.specs.Prelude.{◌≡◌, length};
-    ghost use Rattle.lw_match.specs.Cutting.{TopsState};
+    ghost use Rattle.lw_match.specs.Cutting.{TopsState, most_tops};
 
     ghost Value = { TopsState };
 
     ghost view = { λ t. record { known = t.known; tops = t.tops } };
 
-    ghost invariant = { λ t. length t.tops ≡ 4096 };
+    ghost invariant = { λ t. length t.tops ≡ most_tops };
 }
 
 impl Tops {
@@ -94,7 +94,7 @@ impl Tops {
     {
         Tops {
             known: known_up_to(pats, cost, bounds.cuts().gaps),
-            tops: [u64::MAX; 4096],
+            tops: [u64::MAX; PLACES],
         }
     }
 
