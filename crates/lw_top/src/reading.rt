@@ -13,6 +13,9 @@ use std::alloc::{AllocError, Global};
 /// The most bytes of a file.
 const MAX_LEN: usize = 67_108_864;
 
+/// How many bytes are read at once at most.
+const PIECE: usize = 4096;
+
 #[derive(Clone, Copy, PartialEq, Eq)]
 enum ReadError {
     Failed,
@@ -64,9 +67,9 @@ fn read_all<F: Shelf>(alloc: Global, shelf: &mut F) -> Result<Option<Vec<u8>>, R
         Rose (F.faults shelf.old) (F.faults shelf.new)) }
 {
     let mut text = Vec::new(alloc);
-    let mut buf = [0; 4096];
+    let mut buf = [0; PIECE];
     'pieces: while text.len() <= MAX_LEN {
-        let room = (MAX_LEN + 1 - text.len()).min(4096);
+        let room = (MAX_LEN + 1 - text.len()).min(PIECE);
         if read_piece(shelf, &mut text, &mut buf[..room])? == 0 {
             return Ok(Some(text));
         }

@@ -84,7 +84,7 @@ fn width_of(word: &str) -> Option<u8>
     ensures { result ≡ width_of word.now }
 {
     match word.as_bytes() {
-        [digit] if 50 <= *digit && *digit <= 56 => Some(*digit - 48),
+        [digit] if b'2' <= *digit && *digit <= b'8' => Some(*digit - b'0'),
         _ => None,
     }
 }
@@ -94,7 +94,7 @@ fn leaves_of(word: &str) -> Option<u8>
     ensures { result ≡ leaves_of word.now }
 {
     match word.as_bytes() {
-        [digit] if 50 <= *digit && *digit <= 54 => Some(*digit - 48),
+        [digit] if b'2' <= *digit && *digit <= b'6' => Some(*digit - b'0'),
         _ => None,
     }
 }
@@ -161,18 +161,24 @@ fn number_of(word: &str) -> Option<u64>
     }
 }
 
-// Of at most 20 digits.
+// The most digits of a seed.
+const SEED_DIGITS: usize = 20;
+
+// A number of at most 20 digits.
 fn seed_of(word: &str) -> Option<u64>
     ensures { result ≡ seed_of word.now }
 {
-    if word.len() <= 20 {
+    if word.len() <= SEED_DIGITS {
         number_of(word)
     } else {
         None
     }
 }
 
-// Without leading zero, from 1 to 20000.
+// The most nodes of a drawn network.
+const MOST_NODES: u64 = 20_000;
+
+// A number without leading zero, from 1 to 20000.
 fn count_of(word: &str) -> Option<u32>
     ensures { result ≡ count_of word.now }
 {
@@ -180,7 +186,7 @@ fn count_of(word: &str) -> Option<u32>
         return None;
     }
     match number_of(word) {
-        Some(n) if 1 <= n && n <= 20_000 => Some(n as u32),
+        Some(n) if 1 <= n && n <= MOST_NODES => Some(n as u32),
         _ => None,
     }
 }
@@ -291,6 +297,9 @@ fn from_verilog_of(words: &[String]) -> Option<Command<'_>>
     Some(Command::FromVerilog(library, verilog))
 }
 
+// What each time is below.
+const TIME_UNITS: u64 = 1_000_000;
+
 // `none`, or a decimal below 1000000.
 fn deadline_of(word: &str) -> Option<Option<Micro>>
     ensures { result ≡ deadline_of word.now }
@@ -298,7 +307,7 @@ fn deadline_of(word: &str) -> Option<Option<Micro>>
     if word == "none" {
         return Some(None);
     }
-    match read(word.as_bytes(), 1_000_000) {
+    match read(word.as_bytes(), TIME_UNITS) {
         Ok(time) => Some(Some(time)),
         Err(_) => None,
     }

@@ -6,7 +6,7 @@ use crate::area::MOST_AREA;
 use crate::bisecting::last_by;
 use crate::grouping::Curves;
 use crate::plan::{Demand, Plan, Want, demand_of, pin_want, root_want};
-use crate::walking::{Node, Trail, User};
+use crate::walking::{MOST_GATES, Node, Trail, User};
 use lw_fixed::Micro;
 use lw_pool::{CellId, ClassId, Numbers};
 
@@ -204,7 +204,7 @@ fn is_even(trail: &Trail) -> bool
     ensures { IsTrue result → IsEven trail.now }
 {
     let number = trail.nodes.len();
-    if number > 8_000_000
+    if number > MOST_GATES
         || trail.walk.cells.len() != number
         || trail.walk.pins.len() != number
         || trail.users.len() != number

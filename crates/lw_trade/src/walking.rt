@@ -56,8 +56,8 @@ pub(crate) struct Trail {
 /// The gate of a point that has none.
 pub(crate) const NO_GATE: u32 = u32::MAX;
 
-// How many gates there are at most.
-const MOST_GATES: usize = 8_000_000;
+/// How many gates there are at most.
+pub(crate) const MOST_GATES: usize = 8_000_000;
 
 // The input of each class.
 fn inputs_of(alloc: Global, graph: &Graph) -> Result<Vec<Option<u32>>, AllocError>

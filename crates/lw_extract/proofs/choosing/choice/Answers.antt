@@ -18,8 +18,16 @@ returns-in_err-best-clause-choice g c = λ mark at.
     (before_next (plain_mark c.in_ok-mark.mark) (plain_mark (after c.in_ok-mark.mark)) refl refl)
     c.in_err-best.ensures.least)
 
-pub least_before-requires-clause-in_range : goal.least_before-requires-clause-in_range
-least_before-requires-clause-in_range g c = subst (λ cap. AreInRange cap c.args.job.now.marks.now) (g.met.C.Cost.cap c.args.job.now.cost.now) c.requires.ready.labels.least.in_range
+pub least_before-requires-clause-may : goal.least_before-requires-clause-may
+least_before-requires-clause-may g c =
+    let labels = c.requires.ready.labels in
+    record {
+      class = c.requires.class.within;
+      one_each = labels.least.one_each;
+      in_range = subst (λ cap. AreInRange cap c.args.job.now.marks.now) (g.met.C.Cost.cap c.args.job.now.cost.now) labels.least.in_range;
+      of_cells = labels.of_cells;
+      fits = c.requires.bounds.fits;
+    }
 
 pub returns-clause-choice : goal.returns-clause-choice
 returns-clause-choice g c = λ mark at. (

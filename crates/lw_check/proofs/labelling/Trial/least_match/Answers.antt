@@ -5,6 +5,11 @@ use Rattle.lw_check.specs.Least.{IsLeastOf}
 use Rattle.lw_check.proofs.Table.{least_found, none_given}
 use Rattle.lw_check.proofs.labelling.Trial.least_match.Goals as goal
 
+pub least_within-requires : goal.least_within-requires
+least_within-requires g c =
+    let table = c.requires.table in
+    record { class = c.requires.inside; one_each = table.one_each; in_range = table.in_range; of_cells = table.of_cells; fits = table.fit }
+
 pub returns-in-Some : goal.returns-in-Some
 returns-in-Some g c =
     let t = c.args.self.now in

@@ -26,12 +26,20 @@ put-lowered-requires-clause-table g c =
     let own = c.args.self.now in
     around_has task.graph.now task.pats.now own.marks.items (c.args.class.0 / 2) own.table c.requires.may.table
 
-pub lower_within-found-requires-clause-in_range : goal.lower_within-found-requires-clause-in_range
-lower_within-found-requires-clause-in_range g c =
+pub lower_within-found-requires-clause-may : goal.lower_within-found-requires-clause-may
+lower_within-found-requires-clause-may g c =
     let given = c.args.given.now in
-    let costs = g.C.Cost.costs given.task.now.cost.now in
+    let task = given.task.now in
+    let costs = g.C.Cost.costs task.cost.now in
     let search = c.requires.may.search in
-    subst₂ AreInRange (g.met.C.Cost.cap given.task.now.cost.now) (sym c.deref.ensures.value) (heights_in_range given.task.now.graph.now costs given.task.now.pats.now given.labels.now c.args.self.now.marks.items search.given.problem search.given.graph search.given.lowering search.heights)
+    let marks = c.args.self.now.marks.items in
+    record {
+      class = omega (arith, c.requires.place, search.heights.one_each);
+      one_each = subst (λ ms. length ms ≡ length task.graph.now.pairs) (sym c.deref.ensures.value) search.heights.one_each;
+      in_range = subst₂ AreInRange (g.met.C.Cost.cap task.cost.now) (sym c.deref.ensures.value) (heights_in_range task.graph.now costs task.pats.now given.labels.now marks search.given.problem search.given.graph search.given.lowering search.heights);
+      of_cells = search.given.of_cells;
+      fits = search.given.fits;
+    }
 
 pub lower_within-found-requires-clause-floor : goal.lower_within-found-requires-clause-floor
 lower_within-found-requires-clause-floor g c =
@@ -52,16 +60,6 @@ lower_within-found-requires-clause-heights g c =
     let own = c.args.self.now in
     let seen = c.seen_in-seen.result in
     subst (λ ms. IfSome seen (λ (h : HeightBounds). AreHeightBounds h task.pats.now task.graph.now ms)) (sym c.deref.ensures.value) (seen_bounds task.graph.now task.pats.now own.marks.items (c.args.class.0 / 2) seen own.table c.seen_in-seen.ensures c.requires.may.table)
-
-pub lower_within-found-requires-clause-one_each : goal.lower_within-found-requires-clause-one_each
-lower_within-found-requires-clause-one_each g c =
-    subst (λ ms. length ms ≡ length c.args.given.now.task.now.graph.now.pairs) (sym c.deref.ensures.value) c.requires.may.search.heights.one_each
-
-pub lower_within-found-requires-clause-of_cells : goal.lower_within-found-requires-clause-of_cells
-lower_within-found-requires-clause-of_cells g c = c.requires.may.search.given.of_cells
-
-pub lower_within-found-requires-clause-fit : goal.lower_within-found-requires-clause-fit
-lower_within-found-requires-clause-fit g c = c.requires.may.search.given.fits
 
 pub lower_within-found-requires-clause-known : goal.lower_within-found-requires-clause-known
 lower_within-found-requires-clause-known g c = c.requires.may.search.known
@@ -105,8 +103,8 @@ returns g c =
     let below : class < length marks = omega (arith, c.requires.place, search.heights.one_each) in
     let bounds = heights_bounds graph costs pats labels given.bounds.now marks search.given.bounds search.heights in
     let height = bound.ensures.height ∙ ap height_limit c.mark.ensures in
-    let sound = subst (λ ms. IsMatchWithin graph costs pats (marks_in ms) class (Some bound.result) best) c.deref.ensures.value found.ensures.sound in
-    let least = subst (λ ms. found.result.is_least ≡ true → AreBounds given.bounds.now graph ms → IsLeastWithin graph costs pats (marks_in ms) class (bound_after best (Some bound.result)) None) c.deref.ensures.value found.ensures.least in
+    let sound = subst (λ ms. IsMatchWithin graph costs pats (marks_in ms) class (Some bound.result) best) c.deref.ensures.value found.ensures.outcome.sound in
+    let least = subst (λ ms. found.result.is_least ≡ true → AreBounds given.bounds.now graph ms → IsLeastWithin graph costs pats (marks_in ms) class (bound_after best (Some bound.result)) None) c.deref.ensures.value found.ensures.outcome.least in
     let takes = put.ensures.takes graph costs pats labels bound.result search.given.bounded search.heights (label ∙ ap Some (sym bound.ensures.cost)) height sound in
     record {
       search = record {
@@ -117,7 +115,7 @@ returns g c =
       takes = takes;
       reached = λ e.
           let none = put.ensures.none e in
-          reached_under graph costs pats labels marks search.heights class c.in-Some.label.cost (plain_mark bound.result) label bound.ensures.cost height search.given.graph below (subst (λ found. IsLeastWithin graph costs pats (marks_in marks) class (bound_after found (Some bound.result)) None) none (least (found.ensures.none none) bounds));
+          reached_under graph costs pats labels marks search.heights class c.in-Some.label.cost (plain_mark bound.result) label bound.ensures.cost height search.given.graph below (subst (λ found. IsLeastWithin graph costs pats (marks_in marks) class (bound_after found (Some bound.result)) None) none (least (found.ensures.outcome.none none) bounds));
       still = λ e. subst (λ new. IsReached graph costs pats labels new class) (sym put.ensures.marks) (reached_by graph costs pats labels marks search.heights class c.in-Some.label.cost (plain_mark bound.result) label bound.ensures.cost height search.given.graph below search.given.bounded bound.result refl best sound (least e bounds));
       others = subst (λ new. AreSameBut (λ b. b ≡ class) marks new) (sym put.ensures.marks) (others_kept marks class best);
       table = put.ensures.table;

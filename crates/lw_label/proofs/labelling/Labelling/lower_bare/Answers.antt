@@ -15,21 +15,19 @@ pub put-requires : goal.put-requires
 put-requires g c =
     omega (arith, c.requires.class, c.requires.may.sought.lowering.one_each)
 
-pub better_bare-found-requires-clause-in_range : goal.better_bare-found-requires-clause-in_range
-better_bare-found-requires-clause-in_range g c =
+pub better_bare-found-requires-clause-may : goal.better_bare-found-requires-clause-may
+better_bare-found-requires-clause-may g c =
     let task = c.args.task.now in
+    let sought = c.requires.may.sought in
     let costs = g.C.Cost.costs task.cost.now in
-    subst₂ AreInRange (g.met.C.Cost.cap task.cost.now) (sym c.deref.ensures.value) (lowering_in_range task.graph.now costs task.pats.now c.args.self.now.marks.items c.requires.may.sought.problem c.requires.may.sought.lowering)
-
-pub better_bare-found-requires-clause-one_each : goal.better_bare-found-requires-clause-one_each
-better_bare-found-requires-clause-one_each g c =
-    subst (λ ms. length ms ≡ length c.args.task.now.graph.now.pairs) (sym c.deref.ensures.value) c.requires.may.sought.lowering.one_each
-
-pub better_bare-found-requires-clause-of_cells : goal.better_bare-found-requires-clause-of_cells
-better_bare-found-requires-clause-of_cells g c = c.requires.may.sought.of_cells
-
-pub better_bare-found-requires-clause-fit : goal.better_bare-found-requires-clause-fit
-better_bare-found-requires-clause-fit g c = c.requires.may.sought.fits
+    let marks = c.args.self.now.marks.items in
+    record {
+      class = c.requires.class;
+      one_each = subst (λ ms. length ms ≡ length task.graph.now.pairs) (sym c.deref.ensures.value) sought.lowering.one_each;
+      in_range = subst₂ AreInRange (g.met.C.Cost.cap task.cost.now) (sym c.deref.ensures.value) (lowering_in_range task.graph.now costs task.pats.now marks sought.problem sought.lowering);
+      of_cells = sought.of_cells;
+      fits = sought.fits;
+    }
 
 pub returns : goal.returns
 returns g c =

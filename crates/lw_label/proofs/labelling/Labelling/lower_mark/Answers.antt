@@ -17,22 +17,19 @@ pub put-lowered-requires : goal.put-lowered-requires
 put-lowered-requires g c =
     omega (arith, c.requires.class, c.requires.may.sought.lowering.one_each)
 
-pub better_within-found-requires-clause-one_each : goal.better_within-found-requires-clause-one_each
-better_within-found-requires-clause-one_each g c =
-    subst (λ ms. length ms ≡ length c.args.task.now.graph.now.pairs) (sym c.deref.ensures.value) c.requires.may.sought.lowering.one_each
-
-pub better_within-found-requires-clause-in_range : goal.better_within-found-requires-clause-in_range
-better_within-found-requires-clause-in_range g c =
+pub better_within-found-requires-clause-may : goal.better_within-found-requires-clause-may
+better_within-found-requires-clause-may g c =
     let task = c.args.task.now in
+    let sought = c.requires.may.sought in
     let costs = g.C.Cost.costs task.cost.now in
     let marks = c.args.self.now.marks.items in
-    subst₂ AreInRange (g.met.C.Cost.cap task.cost.now) (sym c.deref.ensures.value) (lowering_in_range task.graph.now costs task.pats.now marks c.requires.may.sought.problem c.requires.may.sought.lowering)
-
-pub better_within-found-requires-clause-of_cells : goal.better_within-found-requires-clause-of_cells
-better_within-found-requires-clause-of_cells g c = c.requires.may.sought.of_cells
-
-pub better_within-found-requires-clause-fit : goal.better_within-found-requires-clause-fit
-better_within-found-requires-clause-fit g c = c.requires.may.sought.fits
+    record {
+      class = c.requires.class;
+      one_each = subst (λ ms. length ms ≡ length task.graph.now.pairs) (sym c.deref.ensures.value) sought.lowering.one_each;
+      in_range = subst₂ AreInRange (g.met.C.Cost.cap task.cost.now) (sym c.deref.ensures.value) (lowering_in_range task.graph.now costs task.pats.now marks sought.problem sought.lowering);
+      of_cells = sought.of_cells;
+      fits = sought.fits;
+    }
 
 pub better_within-found-requires-clause-known : goal.better_within-found-requires-clause-known
 better_within-found-requires-clause-known g c = c.requires.may.known
@@ -51,8 +48,8 @@ returns g c =
     let found = c.better_within-found in
     let best = found.result.best in
     let put = c.put-lowered in
-    let sound = subst₂ (λ ms o. IsMatchWithin graph costs pats (marks_in ms) class o best) c.deref.ensures.value c.mark-old.ensures found.ensures.sound in
-    let least = subst₂ (λ ms o. found.result.is_least ≡ true → AreBounds bounds graph ms → IsLeastWithin graph costs pats (marks_in ms) class (bound_below best o) None) c.deref.ensures.value c.mark-old.ensures found.ensures.least in
+    let sound = subst₂ (λ ms o. IsMatchWithin graph costs pats (marks_in ms) class o best) c.deref.ensures.value c.mark-old.ensures found.ensures.outcome.sound in
+    let least = subst₂ (λ ms o. found.result.is_least ≡ true → AreBounds bounds graph ms → IsLeastWithin graph costs pats (marks_in ms) class (bound_below best o) None) c.deref.ensures.value c.mark-old.ensures found.ensures.outcome.least in
     let takes = put.ensures.takes graph costs pats before.problem before.lowering sound in
     let low = subst (λ ms. AreLowering graph costs pats ms) put.ensures.marks takes.lowering in
     let below : class < length marks = omega (arith, c.requires.class, before.lowering.one_each) in
@@ -64,6 +61,6 @@ returns g c =
         takes = takes;
         others = subst (λ ms. AreSameBut (λ b. b ≡ class) marks ms) (sym put.ensures.marks) (label_others_kept marks class best);
       };
-      none = λ e. found.ensures.none (put.ensures.none e);
+      none = λ e. found.ensures.outcome.none (put.ensures.none e);
       bounded = λ still are. subst (λ ms. IsBounded graph costs pats ms class) (sym put.ensures.marks) (bounded_now graph costs pats before.problem marks class best below low (least still are));
     }
