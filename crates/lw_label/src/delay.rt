@@ -1,3 +1,4 @@
+// The time of covers as a cost.
 ghost use Rattle.std.specs.Prelude.{◌≡◌, ◌<◌, ◌+◌, All, min, max, map, length};
 ghost use Rattle.lw_laws.specs.Covers.{latest};
 ghost use Rattle.lw_genlib.specs.Cells.{IsSmall};
@@ -87,7 +88,7 @@ fn start_of(starts: &[Micro], input: usize) -> u64
     }
 }
 
-// The greatest time that is told.
+// The greatest time that is reported.
 const MOST_TIME: u64 = 9_223_372_036_854_775_807;
 
 // The later of two times.
