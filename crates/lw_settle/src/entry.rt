@@ -1,3 +1,4 @@
+// Classes that wait with a mark, and their order.
 ghost use Rattle.std.specs.Prelude.{◌≡◌, ◌<◌, ◌^◌, ◌-◌};
 ghost use Rattle.lw_settle.specs.Queues.{is_before, lesser, IsIdleLeaf, IsWaitingLeaf};
 

@@ -1,3 +1,4 @@
+// What keeps matches from being stored.
 use std::alloc::AllocError;
 
 /// Why there is no store.
@@ -5,7 +6,7 @@ use std::alloc::AllocError;
 pub enum StoreFault {
     /// The classes have more than 8,388,608 matches together.
     TooMany,
-    /// Want of memory.
+    /// Out of memory.
     Memory,
 }
 

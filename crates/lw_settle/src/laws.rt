@@ -1,3 +1,4 @@
+//! Laws over definitions: functions with empty bodies, whose clauses are the laws.
 ghost use Rattle.std.specs.Prelude.{◌≡◌, ℕ, List, Option, Some, slice_get};
 ghost use Rattle.lw_graph.specs.Graphs.{IsGraph};
 ghost use Rattle.lw_laws.specs.Costs.{Cost, IsCost};

@@ -1,3 +1,4 @@
+// The classes that wait, in a tree by their marks.
 ghost use Rattle.std.specs.Prelude.{◌≡◌, ◌+◌, ◌*◌, ◌/◌, ◌^◌, ◌-◌, ◌<◌, None, IfOk, length, drop, replicate, slice_set};
 ghost use Rattle.lw_settle.specs.Queues.{IsLowered, IsWonBut, TakesFirst};
 

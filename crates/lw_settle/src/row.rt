@@ -1,3 +1,4 @@
+// Stored matches in rows.
 use lw_pool::{ClassId, PatId};
 
 /// A stored match: its class, its pattern, and which of all pins are its own.

@@ -1,3 +1,4 @@
+// Marks of classes by stored matches.
 ghost use Rattle.std.specs.Prelude.{◌≡◌, ◌+◌, ◌^◌, ◌<◌, ℕ, [], None, IfOk, OnErr, length, map, replicate};
 ghost use Rattle.lw_laws.specs.Rounds.{labels_in};
 ghost use Rattle.lw_label.specs.Labels.{costs_of};

@@ -1,3 +1,4 @@
+// The stored matches of each class, and how they are read.
 ghost use Rattle.std.specs.Prelude.{◌≡◌, ◌+◌, ◌^◌, ◌<◌, ◌≤◌, List, Some, length, take, slice_get};
 ghost use Rattle.std.specs.List.{slice_range};
 ghost use Rattle.lw_laws.specs.Covers.{HasPins};
@@ -31,8 +32,8 @@ pub struct Found {
 ///
 /// Stored matches are numbered from 0, by class and then by place in the class's list. A use of a
 /// class is a stored match together with a pin of it that has this class; the uses of a class are
-/// numbered from 0, by match and then by pin. A pin or a cell is told by `use_at`, `price` and
-/// `read` alone, which count what they tell. No call takes memory.
+/// numbered from 0, by match and then by pin. A pin or a cell is read by `use_at`, `price` and
+/// `read` alone, which count their readings. No call takes memory.
 #[derive(Drop)]
 pub struct Store {
     rows: Vec<Row>,
