@@ -1,3 +1,4 @@
+// The netlist that labels give to some outputs.
 ghost use Rattle.std.specs.Prelude.{◌≡◌, ◌<◌, ◌^◌, ◌↔◌, ℕ, All, IfOk, IfSome, IsSome, None, Err, length, slice_index_or, MatchOption};
 ghost use Rattle.lw_pool.specs.Numbers.{numbers};
 ghost use Rattle.lw_laws.specs.Names.{net_names};

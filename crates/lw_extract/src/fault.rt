@@ -1,3 +1,4 @@
+// What keeps labels from giving a netlist.
 use std::alloc::AllocError;
 
 /// Why there is no netlist.
@@ -5,7 +6,7 @@ use std::alloc::AllocError;
 pub enum ExtractFault {
     /// The class of the output with this number, from 0, has no cover. It is the first such output.
     NoCover(u32),
-    /// Want of memory.
+    /// Out of memory.
     Memory,
 }
 

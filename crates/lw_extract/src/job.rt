@@ -1,3 +1,4 @@
+// What a netlist is extracted from.
 use crate::Ports;
 use lw_genlib::Library;
 use lw_graph::Graph;

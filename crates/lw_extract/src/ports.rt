@@ -1,3 +1,4 @@
+// The ports of a netlist, and a netlist with the classes of its gates.
 use lw_netlist::Netlist;
 use lw_pool::{Classes, Name, Names};
 
