@@ -1,3 +1,4 @@
+// What is checked, and what it is checked against.
 use lw_fixed::Micros;
 use lw_genlib::Library;
 use lw_graph::Graph;

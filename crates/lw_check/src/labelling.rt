@@ -1,3 +1,4 @@
+// Labels that are tested, and the prices that they are tested by.
 ghost use Rattle.std.specs.Prelude.{◌≡◌, length};
 ghost use Rattle.lw_label.specs.Labels.{costs_of};
 ghost use Rattle.lw_check.specs.Least.{AreFlat};

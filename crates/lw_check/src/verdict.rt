@@ -1,3 +1,4 @@
+// What a check comes to.
 use lw_fixed::Micro;
 use lw_pool::{ClassId, Name};
 
