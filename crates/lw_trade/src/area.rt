@@ -1,3 +1,4 @@
+// The area of covers as a cost.
 ghost use Rattle.std.specs.Prelude.{◌≡◌, ◌+◌, min};
 ghost use Rattle.lw_trade.specs.Areas.{most_area, total};
 
@@ -49,17 +50,17 @@ impl Cost for AreaCost<'_> {
     }
 }
 
-// The greatest area that is told.
+// The greatest area that is reported.
 pub(crate) const MOST_AREA: u64 = 4_611_686_018_427_387_904;
 
-// The sum of two areas, or the greatest that is told.
+// The sum of two areas, or the greatest that is reported.
 pub(crate) fn joined(a: u64, b: u64) -> u64
     ensures { result ≡ min most_area (a + b) }
 {
     a.saturating_add(b).min(MOST_AREA)
 }
 
-// An area and those of some pins together, or the greatest that is told.
+// An area and those of some pins together, or the greatest that is reported.
 fn together(area: u64, pins: &[u64]) -> u64
     ensures { result ≡ min most_area (area + total pins.now) }
 {

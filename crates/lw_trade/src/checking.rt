@@ -10,7 +10,7 @@ use crate::walking::{MOST_GATES, Node, Trail, User};
 use lw_fixed::Micro;
 use lw_pool::{CellId, ClassId, Numbers};
 
-/// Whether the last point of a class by a time has the greatest area that is told.
+/// Whether the last point of a class by a time has the greatest area that is reported.
 pub(crate) fn is_cut(curves: &Curves, class: ClassId, time: u64) -> bool
     ensures { IsTrue result → IsCut curves.now.points class.0 time }
 {

@@ -1,3 +1,4 @@
+// The inputs and the matches that may stand at classes.
 ghost use Rattle.std.specs.Prelude.{◌≡◌, ◌<◌, List, IfOk, OnOk, length};
 ghost use Rattle.lw_genlib.specs.Cells.{CellParts};
 ghost use Rattle.lw_fixed.specs.declared.micro.Micro.{Micro as MicroOf};

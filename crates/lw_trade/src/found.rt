@@ -1,3 +1,4 @@
+// Points as they are kept while more are found.
 use lw_fixed::Micro;
 
 /// A point of a class as it is kept while points are found: with how many areas were gained before

@@ -1,3 +1,4 @@
+// The points that were found so far, and searches among those of a class.
 ghost use Rattle.std.specs.Prelude.{◌≡◌, ◌<◌, ◌≤◌, IfOk, IfSome, OnOk, OnErr, Some, length, map};
 ghost use Rattle.lw_trade.specs.Backing.{spot_in};
 ghost use Rattle.lw_trade.specs.Fronts.{AreFoundAt, ArePointsSame, CountsSpots, HasNoSpots, IsLeastSpot, IsLessOr, IsPlaceFor, IsPutTo, IsTried, MayJump, MayPut, MayTry, held_of, spots_of};

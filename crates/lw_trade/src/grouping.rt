@@ -1,3 +1,4 @@
+// The points of each class as a curve.
 ghost use Rattle.std.specs.Prelude.{IfOk, IfSome, MatchOption, None, OnOk, Some, [], length, option_map, reverse, slice_get, slice_range, ℕ, ◌<◌, ◌≡◌, ◌≤◌};
 ghost use Rattle.lw_trade.specs.Checks.{IsStandAt};
 ghost use Rattle.lw_trade.specs.Groups.{AreCurvesOf, IsTable};

@@ -1,3 +1,4 @@
+// What the points of classes are settled by.
 use crate::choices::Row;
 use crate::uses::Uses;
 use lw_fixed::Micro;

@@ -1,3 +1,4 @@
+// One lane of a queue.
 ghost use Rattle.std.specs.Prelude.{◌≡◌, ◌<◌, ◌≤◌, ◌++◌, [], ◌∷◌, All, IsTrue, MatchResult};
 ghost use Rattle.lw_trade.specs.Queues.{Item, IsLaneTaken, IsMostLeft};
 

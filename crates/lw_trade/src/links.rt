@@ -1,3 +1,4 @@
+// Places, each linked to the last one before it that has the same class.
 ghost use Rattle.std.specs.Prelude.{◌≡◌, ◌<◌, ◌++◌, [], ◌∷◌, ℕ, IfOk, MatchResult, OnOk, OnErr, length, Some, slice_get};
 ghost use Rattle.lw_trade.specs.Links.{CountsPlaces, HasNoPlaces, HasOneClassMore, IsLast};
 

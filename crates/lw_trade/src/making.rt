@@ -1,3 +1,4 @@
+// From a graph to the points of its classes.
 ghost use Rattle.std.specs.Prelude.{◌<◌, ◌≤◌, IfErr, IfOk, OnOk, length};
 ghost use Rattle.lw_match.specs.Least.{AreOfCells};
 ghost use Rattle.lw_trade.specs.Areas.{area_cost};

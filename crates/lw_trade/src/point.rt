@@ -1,3 +1,4 @@
+// A point of a curve, and why there are no curves.
 use lw_fixed::Micro;
 use std::alloc::AllocError;
 
@@ -14,7 +15,7 @@ pub struct Point {
 pub enum CurveFault {
     /// All classes together have more than 8,000,000 points.
     Limit,
-    /// Want of memory.
+    /// Out of memory.
     Memory,
 }
 

@@ -1,3 +1,4 @@
+// The least area that a choice gives by a time.
 ghost use Rattle.std.specs.Prelude.{◌≡◌, ◌<◌, ◌≤◌, List, All, IfSome, length, map};
 ghost use Rattle.lw_genlib.specs.Tables.{millionths};
 ghost use Rattle.lw_laws.specs.Covers.{start_of};

@@ -1,3 +1,4 @@
+// What waits, the earliest first, in lanes and a heap.
 ghost use Rattle.std.specs.Prelude.{◌≡◌, ◌<◌, ◌≤◌, ℕ, IfOk, OnOk, option_map};
 ghost use Rattle.std.specs.BinaryHeap.{IsHeap, heap_items};
 ghost use Rattle.lw_trade.specs.Queues.{IsFirstTime, IsHorizonOf, IsIdle, IsMostLeft, IsTaken, IsWithOneMore, item_cmp};
@@ -9,7 +10,8 @@ use std::alloc::{AllocError, Global};
 use std::collections::BinaryHeap;
 use std::marker::Model;
 
-/// The choices that wait to be looked at, each at a time up to a horizon, the earliest first.
+/// The choices or the groups that wait to be looked at, each at a time up to a horizon, the
+/// earliest first.
 ///
 /// They stand in lanes, in each by rising time, and where one would come before the last of its
 /// lane in a heap.

@@ -1,3 +1,4 @@
+// The points of classes, found by rising time.
 ghost use Rattle.std.specs.Prelude.{◌≡◌, ◌+◌, ◌<◌, ◌≤◌, ℕ, IfOk, MatchResult, OnOk, length};
 ghost use Rattle.lw_trade.specs.Jobs.{HaveGained, HaveGainedAll, IsGainBy, IsKeptOf, IsUnderWay, WhereStill, turns_in};
 ghost use Rattle.lw_trade.specs.Queues.{IsFirstOf};

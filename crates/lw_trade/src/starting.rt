@@ -1,3 +1,4 @@
+// The choices that wait at the start, since they need no points of pins.
 ghost use Rattle.std.specs.Prelude.{◌≡◌, ◌<◌, ℕ, [], IfOk, MatchResult, Some, length};
 ghost use Rattle.lw_trade.specs.Jobs.{IsBegun};
 ghost use Rattle.lw_trade.specs.Points.{Task};

@@ -1,3 +1,4 @@
+// What a netlist of least area is built for.
 use lw_fixed::Micros;
 use lw_pool::{Classes, Name, Names};
 

@@ -1,3 +1,4 @@
+// The netlist of least area under a deadline.
 ghost use Rattle.std.specs.Prelude.{IfOk};
 ghost use Rattle.lw_match.specs.Least.{AreOfCells};
 ghost use Rattle.lw_trade.specs.Areas.{area_cost};
@@ -18,11 +19,11 @@ use std::alloc::{AllocError, Global};
 
 /// A netlist whose outputs arrive by their times, each with the least area of all covers of its
 /// class that do. Each use of a shared part counts in this area, but uses of one class by one
-/// point share a gate. Where an output's least area by its time is the greatest that is told, each
-/// cover in time has it, and the output takes gates that are shared by class. Each other output
-/// takes the last point of its class by its time, and so does each pin of its gates. The curves are
-/// those of the graph, the patterns, the library and the starts, up to a horizon that is no less
-/// than any of the times.
+/// point share a gate. Where an output's least area by its time is the greatest that is reported,
+/// each cover in time has it, and the output takes gates that are shared by class. Each other
+/// output takes the last point of its class by its time, and so does each pin of its gates. The
+/// curves are those of the graph, the patterns, the library and the starts, up to a horizon that is
+/// no less than any of the times.
 pub fn trade(
     alloc: Global,
     graph: &Graph,

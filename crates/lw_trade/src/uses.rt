@@ -1,3 +1,4 @@
+// The pins of choices, in groups by class and delay.
 ghost use Rattle.std.specs.Prelude.{◌≡◌, ◌<◌, IfOk, IfSome, MatchResult, OnOk, length};
 ghost use Rattle.lw_trade.specs.Pricing.{IsPartFor};
 ghost use Rattle.lw_trade.specs.Rows.{ArePartsFor, plain_part, plain_row, plain_rows};

@@ -261,8 +261,8 @@ fn has_cut(plan: &Plan) -> bool {
     false
 }
 
-// Walks from the roots down. A root whose last point has the greatest area that is told takes any
-// point in time, and shares gates. Where that fails, no root does.
+// Walks from the roots down. A root whose last point has the greatest area that is reported takes
+// any point in time, and shares gates. Where that fails, no root does.
 fn walk_either(alloc: Global, plan: &Plan) -> Result<Walk, AllocError>
     ensures { IfOk result (IsWalkBy plan.now) }
 {
@@ -276,7 +276,7 @@ fn walk_either(alloc: Global, plan: &Plan) -> Result<Walk, AllocError>
 
 /// Walks from the roots down: each root takes the last point of its class by its time, and each
 /// pin of the gate of a point the last point of the pin's class by the point's time, less the
-/// delay of the pin. But a root whose last point has the greatest area that is told takes any
+/// delay of the pin. But a root whose last point has the greatest area that is reported takes any
 /// point in time, and shares gates. Where that fails, no root does.
 pub(crate) fn walk_down(
     alloc: Global,
