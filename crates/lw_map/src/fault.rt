@@ -1,3 +1,4 @@
+// What keeps a network from being mapped.
 ghost use Rattle.std.specs.Prelude.{◌≡◌};
 ghost use Rattle.lw_map.specs.declared.fault.MapFault.TheVariants.{Memory};
 

@@ -1,3 +1,4 @@
+// The options of a decomposition.
 ghost use Rattle.std.specs.Prelude.{◌≤◌};
 
 use lw_assoc::Mode;

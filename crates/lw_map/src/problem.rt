@@ -1,3 +1,4 @@
+// What a mapping is found from.
 use crate::Choices;
 use lw_fixed::Micros;
 use lw_genlib::Library;
