@@ -37,6 +37,7 @@ impl TakesLines<()> for LibReader {
     ghost accepts = { λ line. HasNoHash line };
 
     fn take_line(&mut self, _over: &(), line: &Line) {
+        // The reader keeps a fault, and reports it at its end.
         let _ = self.line(line);
     }
 }
@@ -49,6 +50,7 @@ impl TakesLines<()> for Reader {
     ghost accepts = { λ line. Unit {0} };
 
     fn take_line(&mut self, _over: &(), line: &Line) {
+        // The reader keeps a fault, and reports it at its end.
         let _ = self.line(line);
     }
 }
@@ -61,6 +63,7 @@ impl TakesLines<Library> for MappedReader {
     ghost accepts = { λ line. Unit {0} };
 
     fn take_line(&mut self, over: &Library, line: &Line) {
+        // The reader keeps a fault, and reports it at its end.
         let _ = self.line(line, over);
     }
 }
@@ -74,6 +77,7 @@ impl TakesLines<u32> for Vectors {
     ghost accepts = { λ line. Unit {0} };
 
     fn take_line(&mut self, _over: &u32, line: &Line) {
+        // The vectors keep a fault, which `fault` reports when all lines are given.
         let _ = self.line(line);
     }
 }

@@ -55,7 +55,7 @@ pub fn run<F: Shelf, O: Sink, E: Sink>(
         × IsDone O.taken O.is_finished out.old out.new text) }
 
     // At 6, over known files and where a mapping was asked for, no tree that the command's laws
-    // derive for the root whose name is told has a cover.
+    // derive for the root whose name is reported has a cover.
     ensures no_cover { (files : List File) → F.files shelf.old ≡ Some files →
         AsksForMapping (map string_bytes words.now.items) → result ≡ 6
         → ((name : List ℕ) × LacksOutput (map string_bytes words.now.items) (bytes_of files) name
@@ -88,7 +88,8 @@ pub fn run<F: Shelf, O: Sink, E: Sink>(
         → ((text : List ℕ) × IsTrade (map string_bytes words.now.items) (bytes_of files) text
         × IsDone O.taken O.is_finished out.old out.new text) }
 
-    // At 6, over known files and where it was asked for, the root whose name is told has no cover.
+    // At 6, over known files and where it was asked for, the root whose name is reported has no
+    // cover.
     ensures no_trade { (files : List File) → F.files shelf.old ≡ Some files →
         AsksForTrade (map string_bytes words.now.items) → result ≡ 6
         → ((name : List ℕ) × LacksTradedOutput (map string_bytes words.now.items)
@@ -114,7 +115,7 @@ pub fn run<F: Shelf, O: Sink, E: Sink>(
         IsReached command w (bytes_of files))
         × Told E.taken E.faults err.old err.new (refusal_line (Some command) (Refusal.Unread w))) }
 
-    // Words of no form are told as such, whatever the files.
+    // Words of no form are reported as such, whatever the files.
     ensures words { (result ≡ 1) ↔ (command_of (map string_bytes words.now.items) ≡ None) }
 
     // Over known files, whatever failed, a status other than 2, 7 and 8 is the answer's, and so is
@@ -143,6 +144,7 @@ pub fn run<F: Shelf, O: Sink, E: Sink>(
     answers_are_tables();
     let command = command_of(words);
     let outcome = serve(alloc, command, shelf, out);
+    // Where `err` does not take the line, the status stays that of the outcome.
     let _ = tell(command, &outcome, err);
     status(&outcome)
 }
