@@ -1,3 +1,4 @@
+// What keeps lines from being a list of vectors.
 use std::alloc::AllocError;
 use thiserror::Error;
 
@@ -7,7 +8,7 @@ pub enum VectorFault {
     /// The number of the first line that is no vector.
     #[error("line {0}")]
     Line(u32),
-    /// Want of memory.
+    /// Out of memory.
     #[error("out of memory")]
     Memory,
 }
