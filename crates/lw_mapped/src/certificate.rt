@@ -1,3 +1,4 @@
+// Labels and classes that show that a netlist is the fastest.
 ghost use Rattle.std.specs.Prelude.{◌≡◌};
 
 use lw_fixed::Micro;

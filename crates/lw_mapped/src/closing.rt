@@ -121,6 +121,7 @@ fn rooted_draft(
         }) }
 {
     let mut roots = outputs;
+    // How many of the roots are outputs was counted before.
     let Ok(_own) = add_roots(alloc, &mut roots, latches) else {
         drop(roots);
         return Err(AllocError);

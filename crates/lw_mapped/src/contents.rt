@@ -51,7 +51,7 @@ impl Contents {
         }
     }
 
-    /// Takes what a line says. The answer is the fault that it was told before.
+    /// Takes what a line says. What may be said only once and was said before is a fault.
     pub fn take(&mut self, saying: Saying) -> Result<(), Refusal>
         requires { IsFit saying }
         ensures fault { (before : List Saying) → Keeps self.old before →

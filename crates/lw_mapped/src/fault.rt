@@ -1,3 +1,4 @@
+// The rules that a line may break, and why a text is no mapped netlist.
 use lw_fixed::DecimalFault;
 use lw_netlist::NetlistFault;
 use std::alloc::AllocError;
@@ -28,7 +29,7 @@ pub enum MappedKind {
     Decimal(DecimalFault),
 }
 
-/// Why a line says nothing: the first rule that it breaks, or want of memory.
+/// Why a line says nothing: the first rule that it breaks, or no memory.
 #[derive(Clone, Copy)]
 pub enum Refusal {
     Broken(MappedKind),
@@ -52,11 +53,10 @@ pub enum MappedFault {
     /// The number of the first line that breaks a rule, and the first rule that it breaks.
     #[error("line {0}")]
     Line(u32, MappedKind),
-    /// No line breaks a rule, but the netlist as a whole has this fault. It is never want of
-    /// memory.
+    /// No line breaks a rule, but the netlist as a whole has this fault, which is never `Memory`.
     #[error("netlist")]
     Whole(NetlistFault),
-    /// Want of memory.
+    /// Out of memory.
     #[error("out of memory")]
     Memory,
 }

@@ -19,7 +19,7 @@ ghost use Rattle.lw_mapped.specs.Unmapped.{IsUnmapped};
 ghost use Rattle.lw_laws.specs.Graphs.{most_classes};
 
 /// Lines have one meaning: they come to one netlist with one frame, the same starts and one
-/// certificate, or to one fault. Want of memory aside, two outcomes of the same lines are one.
+/// certificate, or to one fault. But for `Memory`, two outcomes of the same lines are one.
 pub fn lines_have_one_meaning()
     ensures { (cells : List CellParts) (lines : List LogicalLine) (a b : Result Mapped MappedFault)
         → IsUnmapped cells lines a → IsUnmapped cells lines b → a ≢ Err Memory → b ≢ Err Memory →

@@ -1,3 +1,4 @@
+// What a line of a mapped text may say.
 use lw_fixed::Micro;
 use lw_netlist::{SpelledGate, Wire};
 use lw_pool::{ClassId, Latch, Name, Names};
