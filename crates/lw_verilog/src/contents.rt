@@ -83,6 +83,7 @@ fn declare(declared: &mut Signals, name: &[u8]) -> Result<(), AllocError>
     requires new { is_among declared.old name.now ≡ false }
     ensures { OnOk result (declared.new ≡ declared.old ++ name.now ∷ []) }
 {
+    // The name is not there, so it is always added.
     let _fresh = declared.add(name)?;
     Ok(())
 }

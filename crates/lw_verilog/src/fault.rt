@@ -1,3 +1,4 @@
+// The rules that a token may break, and why a text is no netlist.
 use lw_netlist::NetlistFault;
 use std::alloc::AllocError;
 use thiserror::Error;
@@ -31,11 +32,10 @@ pub enum VerilogFault {
     /// The line of the first token that breaks a rule, counted from 1, and the rule.
     #[error("line {0}")]
     Line(u32, VerilogKind),
-    /// No token breaks a rule, but the netlist as a whole has this fault. It is never want of
-    /// memory.
+    /// No token breaks a rule, but the netlist as a whole has this fault, which is never `Memory`.
     #[error("netlist")]
     Whole(NetlistFault),
-    /// Want of memory.
+    /// Out of memory.
     #[error("out of memory")]
     Memory,
 }
@@ -65,7 +65,7 @@ impl From<NetlistFault> for VerilogFault {
     }
 }
 
-/// Why a token is not taken: the rule that it breaks, or want of memory.
+/// Why a token is not taken: the rule that it breaks, or no memory.
 #[derive(Clone, Copy)]
 pub enum Refusal {
     Broken(VerilogKind),

@@ -12,8 +12,8 @@ ghost use Rattle.lw_verilog.specs.Tokens.{tokens};
 ghost use Rattle.lw_verilog.specs.Verdicts.{AreSame, IsRead};
 ghost use Rattle.lw_verilog.specs.Writable.{IsWritable};
 
-/// A text has one meaning: it comes to one netlist, or to one fault. Want of memory aside, two
-/// outcomes of the same text are one.
+/// A text has one meaning: it comes to one netlist, or to one fault. But for `Memory`, two outcomes
+/// of the same text are one.
 pub fn texts_have_one_meaning()
     ensures { (cells : List CellParts) (text : List ℕ) (a b : Result NetlistParts VerilogFault) →
         IsRead cells text a → IsRead cells text b → a ≢ Err Memory → b ≢ Err Memory → AreSame a b }

@@ -100,8 +100,8 @@ fn parse(contents: &mut Contents, text: &[u8], lib: &Library) -> Result<(), Veri
 }
 
 /// The netlist of a text of structural Verilog over the library's cells, or its first fault in the
-/// order of the bytes. Where no token has a fault, that of the netlist as a whole is told. The
-/// lines are counted from 1. All behind `endmodule` is ignored. The text has at most 67,108,864
+/// order of the bytes. Where no token has a fault, that of the netlist as a whole is reported.
+/// The lines are counted from 1. All behind `endmodule` is ignored. The text has at most 67,108,864
 /// bytes.
 pub fn read_verilog(alloc: Global, bytes: &Bytes, lib: &Library) -> Result<Netlist, VerilogFault>
     requires { length bytes.now ≤ most_bytes }

@@ -1,3 +1,4 @@
+// What keeps a netlist from having a Verilog text.
 use lw_pool::Name;
 
 /// Why a netlist has no Verilog text.

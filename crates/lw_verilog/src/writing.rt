@@ -77,7 +77,7 @@ fn put_gate_of<S: Sink>(
     put_gate(out, names, number, gate, lib.cell(gate.cell));
 }
 
-// So many names and gates are counted.
+// How many names and gates there are together, and one more.
 fn room(all: &AllNames, gates: &[Gate]) -> u64
     requires { length all.now.names.now < 2 ^ 32 }
     ensures { result
@@ -93,6 +93,7 @@ fn put_gates<S: Sink>(out: &mut Writer<'_, S>, all: &AllNames, lib: &Library, ga
     ensures { Writes S.taken S.faults out.old out.new (gates_text lib.now all.now.names.now
         (names_in all.now) (length (names_in all.now)) 1 gates.now) }
 {
+    // This sum fits 64 bits, so no number of an instance overflows below.
     let _room = room(all, gates);
     let mut taken = Taken::new(all);
     let mut most = all.names.len() as u64 + all.outputs.len() as u64;
