@@ -1,3 +1,4 @@
+// The least depths of all classes, one depth after another.
 ghost use Rattle.std.specs.Prelude.{◌≤◌, IfOk};
 ghost use Rattle.lw_lut.specs.Depths.{AreLeastDepths};
 ghost use Rattle.lw_lut.specs.Sweeps.{IsAtDepth, HasAllDepths};

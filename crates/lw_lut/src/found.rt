@@ -1,3 +1,4 @@
+// The depths that a search has found, and the cuts for them.
 ghost use Rattle.std.specs.Prelude.{◌≡◌, ◌<◌, ◌/◌, Some, None, length, slice_get, slice_index_or};
 
 use crate::cut::Cut;

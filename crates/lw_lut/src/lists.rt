@@ -1,3 +1,4 @@
+// Lists of tables.
 use crate::table::Table;
 use std::marker::Model;
 

@@ -1,3 +1,4 @@
+// The network of tables for some roots.
 ghost use Rattle.std.specs.Prelude.{◌≡◌, ◌<◌, All, IfOk};
 ghost use Rattle.lw_lut.specs.Depths.{AreLeastDepths};
 ghost use Rattle.lw_lut.specs.Nets.{AreFit, IsTableNetOf};
@@ -64,6 +65,7 @@ pub fn tables(
     requires known { All (λ root. IsKnown depths.now.depths root.0) ports.now.roots }
     ensures { IfOk result (IsTableNetOf graph.now leaves depths.now.depths ports.now) }
 {
+    // `leaves` is for the clauses alone.
     let _ = (graph.classes(), leaves);
     let chosen = choose(alloc, depths, ports.roots.as_slice())?;
     let names = names_of(alloc, depths.len(), ports, &chosen)?;

@@ -1,3 +1,4 @@
+// Networks of tables.
 ghost use Rattle.std.specs.Prelude.{◌≡◌, ◌≤◌, All, Contains, length};
 ghost use Rattle.lw_lut.specs.Nets.{IsTableNet, net_classes};
 ghost use Rattle.lw_lut.specs.Texts.{net_name};
@@ -66,6 +67,7 @@ impl TableNet {
         ensures roots { length self.now.ports.roots ≡ length self.now.ports.outputs }
         ensures few { All (λ x. length x.fanins ≤ 6) self.now.tables }
     {
+        // Brings in what the type of `self` keeps.
         let _ = &self.places;
     }
 

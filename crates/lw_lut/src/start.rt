@@ -61,6 +61,7 @@ impl Search {
         requires { HasStarted graph.now leaves 0 self.old }
         ensures { HasStarted graph.now leaves (length graph.now.leaves) self.new }
     {
+        // `leaves` is for the clauses alone.
         let _ = (graph.classes(), leaves);
         for input in 0..graph.inputs() {
             let class = graph.leaf(input);
@@ -79,6 +80,7 @@ impl Search {
         ensures counts { AreCounts graph.now leaves 1 self.new }
         ensures depths { AreDepthsUpTo graph.now leaves self.new.depths.items 0 }
     {
+        // `leaves` is for the clauses alone.
         let _ = leaves;
         let one = graph.one();
         let place = (one.0 / 2) as usize;

@@ -1,3 +1,4 @@
+// Lookup tables, made from cuts.
 ghost use Rattle.std.specs.Prelude.{◌≡◌, ◌≤◌, ◌^◌, ◌↔◌, length, Contains, IfOk, IsTrue, OnOk};
 ghost use Rattle.lw_facts.specs.Sorting.{AreSortedFrom};
 ghost use Rattle.lw_lut.specs.Packed.{packed};

@@ -1,3 +1,4 @@
+// The text of a network of tables, as BLIF.
 ghost use Rattle.std.specs.Prelude.{◌≤◌, ◌∷◌, All, Contains, length};
 ghost use Rattle.std.specs.List.{flat_map};
 ghost use Rattle.lw_io.specs.Waitings.{IsTaken};
