@@ -90,6 +90,7 @@ pub(crate) fn link(names: &SpelledNames, heads: &mut [u32], next: &mut [u32]) ->
     for place in 0..names.len() {
         let name = names.get(place);
         let bucket = bucket_of(name, heads.len());
+        // Where the name stands before is not asked.
         if let Some(_first) = place_in(names, place, heads, next, bucket, name) {
             return Some(place);
         }

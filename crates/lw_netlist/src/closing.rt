@@ -46,6 +46,7 @@ fn linked(alloc: Global, draft: &GateDraft, signals: &Signals) -> Result<Vec<Num
         draft.wires.as_slice(),
         signals,
     )?;
+    // The numbers are not needed here, but the first output that nothing drives is a fault.
     let _outputs = numbers_of(alloc, draft.outputs.as_slice(), signals)?;
     Ok(rows)
 }

@@ -1,3 +1,4 @@
+// Netlists by names, before they are closed.
 ghost use Rattle.std.specs.Prelude.{◌≡◌, ◌++◌, [], ◌∷◌, ◌↔◌, length, IsTrue, MatchResult};
 
 use crate::SpelledGate;
@@ -64,7 +65,7 @@ impl DraftGates {
         &self.items
     }
 
-    /// Appends an entry. For want of memory nothing is changed.
+    /// Appends an entry. Where there is no memory nothing is changed.
     pub fn push(&mut self, item: DraftGate) -> Result<(), AllocError>
         ensures { MatchResult result (λ _. self.new ≡ self.old ++ item ∷ [])
             (λ _. self.new ≡ self.old) }
@@ -73,7 +74,7 @@ impl DraftGates {
         self.push_spelled(gate)
     }
 
-    /// Appends an entry that is spelled. For want of memory nothing is changed.
+    /// Appends an entry that is spelled. Where there is no memory nothing is changed.
     pub fn push_spelled(&mut self, item: SpelledGate) -> Result<(), AllocError>
         ensures { MatchResult result (λ _. self.new ≡ self.old ++ item ∷ [])
             (λ _. self.new ≡ self.old) }
@@ -140,7 +141,7 @@ impl Wires {
         &self.items
     }
 
-    /// Appends an entry. For want of memory nothing is changed.
+    /// Appends an entry. Where there is no memory nothing is changed.
     pub fn push(&mut self, item: Wire) -> Result<(), AllocError>
         ensures { MatchResult result (λ _. self.new ≡ self.old ++ item ∷ [])
             (λ _. self.new ≡ self.old) }

@@ -1,3 +1,4 @@
+// What keeps a draft from being closed.
 use lw_pool::Name;
 use std::alloc::AllocError;
 use thiserror::Error;
@@ -14,7 +15,7 @@ pub enum NetlistFault {
     /// The gate or the wire that drives this name reaches itself.
     #[error("cycle")]
     Cycle(Name),
-    /// Want of memory.
+    /// Out of memory.
     #[error("out of memory")]
     Memory,
 }

@@ -1,3 +1,4 @@
+// Gates and outputs over numbered nets.
 ghost use Rattle.std.specs.Prelude.{◌≡◌, [], ◌↔◌, length, IsTrue};
 
 use lw_pool::{CellId, Name, NetId, Nets};

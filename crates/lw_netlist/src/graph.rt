@@ -1,3 +1,4 @@
+// What is kept of a draft while it is closed.
 use crate::signals::Signals;
 use lw_pool::{CellId, Name, Names, Numbers};
 

@@ -1,3 +1,4 @@
+// Netlists, the values of their nets, and when these arrive.
 ghost use Rattle.std.specs.Prelude.{◌≡◌, ◌≤◌, ◌<◌, ◌^◌, All, length, map};
 
 use crate::arrivals::fill_arrivals;

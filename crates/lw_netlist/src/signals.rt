@@ -93,8 +93,8 @@ impl Signals {
         self.find(name)
     }
 
-    /// Adds a name that is not there, and tells whether it was not. For want of memory nothing is
-    /// changed.
+    /// Adds a name that is not there, and tells whether it was not. Where there is no memory
+    /// nothing is changed.
     pub fn add(&mut self, name: &[u8]) -> Result<bool, AllocError>
         requires { 0 < length name.now }
         ensures fresh { IfOk result (λ fresh. fresh ≡ not (is_among self.old name.now)) }
@@ -106,6 +106,7 @@ impl Signals {
         let bucket = buckets::bucket_of(name, self.heads.len());
         let count = self.names.len();
         let place = buckets::place_in(&self.names, count, &self.heads, &self.next, bucket, name);
+        // Where the name stands is not asked.
         if let Some(_there) = place {
             return Ok(false);
         }

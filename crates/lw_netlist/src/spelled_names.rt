@@ -51,7 +51,7 @@ impl SpelledNames {
         name_at(&self.bytes, &self.ends, 0, place)
     }
 
-    /// Appends a name. For want of memory nothing is changed.
+    /// Appends a name. Where there is no memory nothing is changed.
     pub fn push(&mut self, name: &[u8]) -> Result<(), AllocError>
         requires { 0 < length name.now }
         ensures ok { OnOk result (self.new ≡ self.old ++ name.now ∷ []) }
