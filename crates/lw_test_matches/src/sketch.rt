@@ -9,7 +9,7 @@ use std::alloc::{AllocError, Global};
 use std::test::Fail;
 
 /// A draft as data: how many inputs it has, the samples of the base forms after them, its NAND
-/// facts, each a form and its two parts, and its links. Forms are told by their numbers.
+/// facts, each a form and its two parts, and its links. Forms are given by their numbers.
 #[derive(Clone, Copy)]
 pub(crate) struct Sketch<'a> {
     pub(crate) inputs: u32,
