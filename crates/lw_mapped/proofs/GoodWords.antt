@@ -10,6 +10,7 @@ use Rattle.lw_genlib.specs.Cells as genlib
 use Rattle.lw_mapped.specs.GateLines.{is_equals}
 use Rattle.lw_mapped.specs.Sayings.{are_names}
 use Rattle.lw_mapped.specs.Texts.{tie}
+use Rattle.lw_words.specs.Limits.{longest_word}
 use Rattle.lw_words.specs.Words.{IsSignalName}
 use Rattle.lw_frame.proofs.Each.{each-of, each-append, each-weaker}
 use Rattle.lw_frame.proofs.GoodWords.{IsGood, EndsWell, ends-behind, ends-name, ends_stroke}
@@ -39,13 +40,13 @@ word-bytes (b ∷ word) e =
 abbrev pub IsRight : List ℕ → Type 0
 IsRight word = IsWordOf word × Each IsNoHash word
 
-pub right-of : (word : List ℕ) → 0 < length word → length word ≤ 4095 → Each IsPlainInk word → IsRight word
+pub right-of : (word : List ℕ) → 0 < length word → length word ≤ longest_word → Each IsPlainInk word → IsRight word
 right-of word some few each = ((some, few, each-weaker IsPlainInk IsInk (λ b h. h.0) word each), each-weaker IsPlainInk IsNoHash (λ b h. h.1) word each)
 
-pub right-good : (word : List ℕ) → 0 < length word → length word ≤ 4095 → Each IsGood word → IsRight word
+pub right-good : (word : List ℕ) → 0 < length word → length word ≤ longest_word → Each IsGood word → IsRight word
 right-good word some few each = right-of word some few (each-weaker IsGood IsPlainInk (λ b h. (h.0, h.1)) word each)
 
-pub right-word : (most : ℕ) (word : List ℕ) → most ≤ 4095 → genlib.IsWord most word → IsRight word
+pub right-word : (most : ℕ) (word : List ℕ) → most ≤ longest_word → genlib.IsWord most word → IsRight word
 right-word most word few is = right-of word is.0 (omega (arith, few, is.1)) (word-bytes word is.2)
 
 -- How a word ends.

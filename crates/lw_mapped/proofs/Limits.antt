@@ -1,5 +1,5 @@
 -- Times, labels and class numbers that lines say are within their limits.
-use Rattle.std.proofs.Common.{ℕ, ◌≡◌, ◌<◌, ◌^◌, ◌==◌, ◌&&◌, Bool, true, false, cond, nat_lt, List, [], ◌∷◌, length, drop, Option, Some, None, Result, Ok, Err, All, refl, subst, arith}
+use Rattle.std.proofs.Common.{ℕ, ◌≡◌, ◌<◌, ◌==◌, ◌&&◌, Bool, true, false, cond, nat_lt, List, [], ◌∷◌, length, drop, Option, Some, None, Result, Ok, Err, All, refl, subst, arith}
 use Rattle.std.specs.Prelude.{nat_le, decimal}
 use Rattle.std.specs.Char.{is_ascii_digit}
 use Rattle.std.specs.List.{flat_map, list_all, AllByRecursion as Each}
@@ -21,6 +21,7 @@ use Rattle.lw_mapped.specs.declared.saying.Saying.{Saying}
 use Rattle.lw_mapped.specs.declared.saying.Saying.TheVariants as saying
 use Rattle.lw_mapped.specs.Commands.{command_of}
 use Rattle.lw_mapped.specs.LineFaults.{line_says, lines_say, what_is_said}
+use Rattle.lw_mapped.specs.Limits.{label_units}
 use Rattle.lw_mapped.specs.Parsed.{IsFit, IsLabel, Says}
 use Rattle.lw_mapped.specs.Said.{Labelled, Classed, arrivals_in, labels_in, nets_in, label_among, class_among}
 use Rattle.lw_mapped.specs.Sayings.{said, fault_in, are_names, second_word, words_say, command_says, certificate_says, class_said}
@@ -56,7 +57,7 @@ fit-said o s fit = said-all IsFit o s (λ none. fit)
 
 fit-certificate : (words : List (List ℕ)) → AreFit (certificate_says words)
 fit-certificate =
-    certificate-all IsFit (λ first second class label e f. (class-below first class e, decimal_below second (2 ^ 43) label f))
+    certificate-all IsFit (λ first second class label e f. (class-below first class e, decimal_below second label_units label f))
     (λ first second class e. class-below second class e)
 
 fit-command : (cells : List CellParts) (c : Command) (words : List (List ℕ)) → AreFit (command_says cells c words)

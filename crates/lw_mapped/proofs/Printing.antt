@@ -15,6 +15,7 @@ use Rattle.lw_fixed.specs.declared.fault.DecimalFault.{DecimalFault}
 use Rattle.lw_fixed.specs.declared.fault.DecimalFault.TheVariants.{Shape, Large, Fine, Negative}
 use Rattle.lw_fixed.specs.Decimals.{decimal_of, is_point, whole_part, decimals, is_decimal, has_digits, units_of, millionths_of, value_of_decimals, is_finer, is_negative}
 use Rattle.lw_fixed.specs.Printed.{decimal_text, six_decimals, without_zeros, with_decimals}
+use Rattle.lw_words.specs.Limits.{longest_word}
 use Rattle.lw_fixed.proofs.Shapes.{digit_apart, signless}
 use Rattle.lw_fixed.proofs.Texts.{padded}
 use Rattle.lw_frame.proofs.Each.{each-append}
@@ -155,11 +156,11 @@ module _ (n : ℕ) (fits : n < 2 ^ 64) where
   unfolding decimal_text
   printed-good = good-text whole part (good-bytes whole (digits-good whole whole-digits)) (good-bytes part (digits-good part part-digits))
 
-  text-length : (w p : List ℕ) → 0 < length w → length w ≤ 20 → length p ≤ 6 → (0 < length (with_decimals w p)) × (length (with_decimals w p) ≤ 4095)
+  text-length : (w p : List ℕ) → 0 < length w → length w ≤ 20 → length p ≤ 6 → (0 < length (with_decimals w p)) × (length (with_decimals w p) ≤ longest_word)
   text-length w [] some short few = (some, omega arith)
   text-length w (d ∷ ds) some short few = (omega (arith, length-append w (46 ∷ d ∷ ds)), omega (arith, length-append w (46 ∷ d ∷ ds)))
 
-  pub printed-length : (0 < length (decimal_text n)) × (length (decimal_text n) ≤ 4095)
+  pub printed-length : (0 < length (decimal_text n)) × (length (decimal_text n) ≤ longest_word)
   unfolding decimal_text
   printed-length = text-length whole part whole-some whole-short part-short
 

@@ -1,12 +1,12 @@
 -- What lines come to is kept.
-use Rattle.std.proofs.Common.{ℕ, ◌≡◌, ◌-◌, ◌*◌, ◌^◌, ◌<◌, ◌≤◌, ◌⊎◌, inl, inr, List, length, map, take, get_or, Option, Some, None, Ok, All, refl, ap, sym, ◌∙◌, subst, arith, length-append, length-take}
+use Rattle.std.proofs.Common.{ℕ, ◌≡◌, ◌<◌, ◌≤◌, ◌⊎◌, inl, inr, List, length, map, take, get_or, Option, Some, None, Ok, All, refl, ap, sym, ◌∙◌, subst, arith, length-append, length-take}
 use Rattle.std.specs.Prelude.{slice_index_or}
 use Rattle.std.specs.List.{flat_map, AllByRecursion as Each}
 use Rattle.std.specs.Option.{IfSome}
 use Rattle.std.proofs.lemmas.Bool.{cases_lt}
 use Rattle.std.proofs.lemmas.List.{length-map, get_or-take, get_or_past}
 use Rattle.std.proofs.lemmas.List.Elements.{All-from_get_or, All-map}
-use Rattle.lw_words.specs.Lines.{LogicalLine, lines_weight}
+use Rattle.lw_words.specs.Lines.{LogicalLine}
 use Rattle.lw_fixed.specs.declared.micro.Micro.{Micro}
 use Rattle.lw_pool.specs.declared.id.ClassId.{ClassId}
 use Rattle.lw_frame.specs.Frames.{output_of}
@@ -18,8 +18,10 @@ use Rattle.lw_netlist.specs.Plain.{IsOver}
 use Rattle.lw_mapped.specs.declared.closing.Mapped.{Mapped}
 use Rattle.lw_mapped.specs.declared.saying.Saying.{Saying}
 use Rattle.lw_mapped.specs.Alike.{AreSameMapped}
+use Rattle.lw_mapped.specs.Closings.{HasFewGates}
 use Rattle.lw_mapped.specs.Fitting.{IsMapped}
 use Rattle.lw_mapped.specs.LineFaults.{FaultAt, lines_read, lines_say, text_fault}
+use Rattle.lw_mapped.specs.Limits.{word_limit}
 use Rattle.lw_mapped.specs.Parsed.{IsFit, IsLabel}
 use Rattle.lw_mapped.specs.Readable.{IsReadableCertificate}
 use Rattle.lw_mapped.specs.Said.{inputs_in, latches_in, nets_in, class_among}
@@ -116,7 +118,7 @@ module _ (cells : List CellParts) (lines : List LogicalLine) (mapped : Mapped) (
   within : Each IsFit what
   within = lines-within cells (lines_read lines)
 
-  pub read-netlist : word_count lines < 2 ^ 32 - 1 → IsNetlist mapped.netlist
+  pub read-netlist : word_count lines < word_limit → IsNetlist mapped.netlist
   read-netlist few =
       let latches = flat_map latches_in what in
       closed-netlist (draft_said what) mapped.netlist is-said.netlist
@@ -134,5 +136,5 @@ module _ (cells : List CellParts) (lines : List LogicalLine) (mapped : Mapped) (
   pub read-certificate : IsReadableCertificate (length mapped.netlist.gates) mapped.cert
   read-certificate = said-certificate what mapped is-said within
 
-  pub read-few : IsLibrary cells → 12 * length mapped.netlist.gates ≤ lines_weight lines
+  pub read-few : IsLibrary cells → HasFewGates lines mapped
   read-few lib = few-gates cells lines (Ok mapped) lib is-said

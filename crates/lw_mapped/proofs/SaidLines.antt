@@ -1,5 +1,5 @@
 -- What is so of all that a line of one kind can say is so of what it says.
-use Rattle.std.proofs.Common.{ℕ, ◌≡◌, ◌^◌, Bool, true, false, cond, nat_lt, List, [], ◌∷◌, length, drop, Option, Some, None, Result, Ok, Err, refl}
+use Rattle.std.proofs.Common.{ℕ, ◌≡◌, Bool, true, false, cond, nat_lt, List, [], ◌∷◌, length, drop, Option, Some, None, Result, Ok, Err, refl}
 use Rattle.std.specs.Prelude.{codes, position, slice_get}
 use Rattle.std.specs.List.{AllByRecursion as Each}
 use Rattle.std.specs.Str.{bytes_eq}
@@ -15,6 +15,7 @@ use Rattle.lw_mapped.specs.declared.saying.Saying.TheVariants as saying
 use Rattle.lw_mapped.specs.GateLines.{gate_of, ties_fault}
 use Rattle.lw_mapped.specs.LineFaults.{what_is_said}
 use Rattle.lw_mapped.specs.Sayings.{arrival_says, certificate_says, class_said, default_arrival, default_says, gate_says, gate_says_at, gate_says_in, label_of, named_arrival, net_of, said}
+use Rattle.lw_mapped.specs.Limits.{label_units}
 use Rattle.lw_words.specs.Words.{first_word, is_name}
 
 module _ (P : Saying → Type 0) where
@@ -63,14 +64,14 @@ module _ (P : Saying → Type 0) where
       by_start (Err f) e = tt
 
   -- the label of a class, or the class of a net
-  pub certificate-all : ((first second : List ℕ) (class : ℕ) (label : Micro) → class_said first ≡ Some class → decimal_of second (2 ^ 43) ≡ Ok label → P (saying.Label (record { 0 = class }) label)) →
+  pub certificate-all : ((first second : List ℕ) (class : ℕ) (label : Micro) → class_said first ≡ Some class → decimal_of second label_units ≡ Ok label → P (saying.Label (record { 0 = class }) label)) →
       ((first second : List ℕ) (class : ℕ) → class_said second ≡ Some class → P (saying.Net first (record { 0 = class }))) → (words : List (List ℕ)) → AllSaid (certificate_says words)
   certificate-all own net [] = tt
   certificate-all own net (a ∷ []) = tt
   certificate-all own net (a ∷ b ∷ []) = tt
-  certificate-all own net (what ∷ first ∷ second ∷ []) = by_what (bytes_eq what (codes "label")) (bytes_eq what (codes "net")) (class_said first) refl (class_said second) refl (decimal_of second (2 ^ 43)) refl
+  certificate-all own net (what ∷ first ∷ second ∷ []) = by_what (bytes_eq what (codes "label")) (bytes_eq what (codes "net")) (class_said first) refl (class_said second) refl (decimal_of second label_units) refl
     where
-      by_what : (l n : Bool) (c : Option ℕ) → class_said first ≡ c → (d : Option ℕ) → class_said second ≡ d → (r : Result Micro DecimalFault) → decimal_of second (2 ^ 43) ≡ r →
+      by_what : (l n : Bool) (c : Option ℕ) → class_said first ≡ c → (d : Option ℕ) → class_said second ≡ d → (r : Result Micro DecimalFault) → decimal_of second label_units ≡ r →
           AllSaid (cond l (label_of c r) (cond n (net_of first d) (Err kind.Certificate)))
       by_what true n (Some c) ec d ed (Ok r) er = (own first second c r ec er, tt)
       by_what true n (Some c) ec d ed (Err f) er = tt

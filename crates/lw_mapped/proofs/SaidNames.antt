@@ -32,6 +32,7 @@ use Rattle.lw_mapped.proofs.ReadKept.{comes-said}
 use Rattle.lw_mapped.proofs.SaidLines.{arrival-all, certificate-all, default-all, gate-all}
 use Rattle.lw_mapped.proofs.TextWords.{HasRight, read-right}
 use Rattle.lw_mapped.proofs.TieLemmas.{IsTied, gives-output, net-has, ties-tied, whole-first}
+use Rattle.lw_words.specs.Limits.{longest_word}
 use Rattle.lw_words.specs.Words.{first_word, is_name, IsSignalName}
 use Rattle.lw_frame.specs.Latches.{IsReadableLatch}
 use Rattle.lw_frame.proofs.Each.{each-append, each-drop, each-of, each-weaker}
@@ -146,7 +147,7 @@ all-in : {A : Type 0} (P : A → Type 0) (f : Saying → List A) → ((s : Sayin
 all-in P f own ss each = each-flat P f ss (each-weaker IsNamedSaying (λ s. Each P (f s)) own ss each)
 
 pub model-or-unnamed : (names : List (List ℕ)) → Each IsSignalName names → IsSignalName (first_word (names ++ codes "unnamed" ∷ []))
-model-or-unnamed [] each = signal (codes "unnamed") (right-word 4095 (codes "unnamed") (omega arith) (omega arith, omega arith, refl)) refl
+model-or-unnamed [] each = signal (codes "unnamed") (right-word longest_word (codes "unnamed") (omega arith) (omega arith, omega arith, refl)) refl
 model-or-unnamed (name ∷ names) each = each.0
 
 pub control-named : (words : List (List ℕ)) → Each IsSignalName words → Each IsSignalName (control_among words)

@@ -1,5 +1,5 @@
 -- How much lines say, against how many words they have.
-use Rattle.std.proofs.Common.{ℕ, ◌≡◌, ◌≤◌, ◌+◌, ◌^◌, ◌==◌, Bool, true, false, ◌&&◌, cond, nat_lt, List, [], ◌∷◌, ◌++◌, length, drop, Option, Some, None, Result, Ok, Err, refl, arith, length-append, length-drop, lit≤}
+use Rattle.std.proofs.Common.{ℕ, ◌≡◌, ◌≤◌, ◌+◌, ◌==◌, Bool, true, false, ◌&&◌, cond, nat_lt, List, [], ◌∷◌, ◌++◌, length, drop, Option, Some, None, Result, Ok, Err, refl, arith, length-append, length-drop, lit≤}
 use Rattle.std.specs.Prelude.{nat_le, codes, slice_get, position}
 use Rattle.std.specs.List.{flat_map}
 use Rattle.std.specs.Str.{bytes_eq}
@@ -20,6 +20,7 @@ use Rattle.lw_mapped.specs.declared.saying.Saying.{Saying}
 use Rattle.lw_mapped.specs.declared.saying.Saying.TheVariants as saying
 use Rattle.lw_mapped.specs.Commands.{command_of}
 use Rattle.lw_mapped.specs.GateLines.{ties_fault, gate_of}
+use Rattle.lw_mapped.specs.Limits.{label_units}
 use Rattle.lw_mapped.specs.Said.{inputs_in, outputs_in, latches_in, gates_in}
 use Rattle.lw_mapped.specs.Sayings.{said, fault_in, are_names, second_word, words_say, command_says, gate_says, gate_says_in, gate_says_at, latch_says, arrival_says, default_says, certificate_says, named_arrival, default_arrival, class_said, label_of, net_of}
 use Rattle.lw_mapped.specs.LineFaults.{line_says, lines_say, what_is_said, lines_read, goes_on, ends}
@@ -88,7 +89,7 @@ fits-certificate : (words : List (List ℕ)) → amount (what_is_said (certifica
 fits-certificate [] = refl
 fits-certificate (a ∷ []) = refl
 fits-certificate (a ∷ b ∷ []) = refl
-fits-certificate (what ∷ first ∷ second ∷ []) = by_what (bytes_eq what (codes "label")) (bytes_eq what (codes "net")) (class_said first) (class_said second) (decimal_of second (2 ^ 43))
+fits-certificate (what ∷ first ∷ second ∷ []) = by_what (bytes_eq what (codes "label")) (bytes_eq what (codes "net")) (class_said first) (class_said second) (decimal_of second label_units)
   where
     by_what : (l n : Bool) (c d : Option ℕ) (r : Result Micro DecimalFault) → amount (what_is_said (cond l (label_of c r) (cond n (net_of first d) (Err kind.Certificate)))) ≡ 0
     by_what true n (Some c) d (Ok r) = refl

@@ -3,6 +3,7 @@ use Rattle.std.proofs.Common.{ℕ, ◌≡◌, ◌≢◌, ◌+◌, Bool, true, fa
 use Rattle.std.specs.List.{slice_split, onto_first, AllByRecursion as Each}
 use Rattle.std.proofs.lemmas.Bool.{eqb-false}
 use Rattle.lw_words.specs.Gathering.{IsNoHash}
+use Rattle.lw_words.specs.Limits.{longest_word}
 use Rattle.lw_words.specs.Lines.{LogicalLine, Text, is_blank, is_line_feed, has_some, lines_among, physical_lines, before_hash, has_mark, uncommented, before_trimmed, trimmed, is_continued, with_blank, continued_by, text_of, texts_from, words_of, line_of, has_words, lines_of, logical_lines}
 use Rattle.lw_mapped.specs.LineFaults.{ends_on, lines_read}
 use Rattle.lw_mapped.proofs.GoodWords.{IsPlainInk, IsRight, right-of}
@@ -143,17 +144,17 @@ are-texts begins number (line ∷ lines) all =
 abbrev IsInked : ℕ → Type 0
 IsInked b = (is_blank b ≡ false) × IsPlain b
 
-right-word : (word : List ℕ) → Each IsInked word → has_some word ≡ true → IsRight (take 4095 word)
+right-word : (word : List ℕ) → Each IsInked word → has_some word ≡ true → IsRight (take longest_word word)
 right-word [] each some = cc
 right-word (b ∷ word) each some =
-    let long = length-take 4095 (b ∷ word) in
-    right-of (take 4095 (b ∷ word)) (omega arith) (omega arith) (each-weaker IsInked IsPlainInk (λ c h. ((h.0, h.1.0), h.1.1)) (take 4095 (b ∷ word)) (each-take IsInked 4095 (b ∷ word) each))
+    let long = length-take longest_word (b ∷ word) in
+    right-of (take longest_word (b ∷ word)) (omega arith) (omega arith) (each-weaker IsInked IsPlainInk (λ c h. ((h.0, h.1.0), h.1.1)) (take longest_word (b ∷ word)) (each-take IsInked longest_word (b ∷ word) each))
 
-right-words : (parts : List (List ℕ)) → Each (Each IsInked) parts → Each IsRight (map (take 4095) (filter has_some parts))
+right-words : (parts : List (List ℕ)) → Each (Each IsInked) parts → Each IsRight (map (take longest_word) (filter has_some parts))
 right-words [] all = tt
 right-words (part ∷ parts) all = by_test (has_some part) refl (right-words parts all.1)
   where
-    by_test : (t : Bool) → has_some part ≡ t → Each IsRight (map (take 4095) (filter has_some parts)) → Each IsRight (map (take 4095) (cond t (part ∷ filter has_some parts) (filter has_some parts)))
+    by_test : (t : Bool) → has_some part ≡ t → Each IsRight (map (take longest_word) (filter has_some parts)) → Each IsRight (map (take longest_word) (cond t (part ∷ filter has_some parts) (filter has_some parts)))
     by_test true some rest = (right-word part all.0 some, rest)
     by_test false some rest = rest
 
@@ -161,12 +162,12 @@ right-words (part ∷ parts) all = by_test (has_some part) refl (right-words par
 abbrev pub HasRight : LogicalLine → Type 0
 HasRight line = Each IsRight (drop 1 line.words)
 
-right-behind : (bytes : List ℕ) → Begins IsNoFeed bytes → Each IsRight (drop 1 (map (take 4095) (words_of bytes)))
+right-behind : (bytes : List ℕ) → Begins IsNoFeed bytes → Each IsRight (drop 1 (map (take longest_word) (words_of bytes)))
 right-behind [] h = tt
 right-behind (b ∷ bytes) h = by_test (is_blank b) (slice_split is_blank bytes) (split-parts is_blank IsPlain bytes h.1)
   where
-    by_test : (t : Bool) (parts : List (List ℕ)) → Each (Each IsInked) parts → Each IsRight (drop 1 (map (take 4095) (filter has_some (cond t ([] ∷ parts) (onto_first b parts)))))
-    by_test true parts all = each-drop IsRight 1 (map (take 4095) (filter has_some parts)) (right-words parts all)
+    by_test : (t : Bool) (parts : List (List ℕ)) → Each (Each IsInked) parts → Each IsRight (drop 1 (map (take longest_word) (filter has_some (cond t ([] ∷ parts) (onto_first b parts)))))
+    by_test true parts all = each-drop IsRight 1 (map (take longest_word) (filter has_some parts)) (right-words parts all)
     by_test false [] all = tt
     by_test false (part ∷ parts) all = right-words parts all.1
 

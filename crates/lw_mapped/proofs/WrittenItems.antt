@@ -23,6 +23,7 @@ use Rattle.lw_mapped.specs.declared.fault.MappedKind.TheVariants as kind
 use Rattle.lw_mapped.specs.declared.saying.Saying.TheVariants as saying
 use Rattle.lw_mapped.specs.Commands.{command_of, point_command, port_command}
 use Rattle.lw_mapped.specs.LineFaults.{ends}
+use Rattle.lw_mapped.specs.Limits.{label_units}
 use Rattle.lw_mapped.specs.Parsed.{IsLabel}
 use Rattle.lw_mapped.specs.Sayings.{said, fault_in, words_say, class_said, label_of, net_of, named_arrival}
 use Rattle.lw_mapped.specs.Texts.{net_name, gate_words, ties, tie}
@@ -32,6 +33,7 @@ use Rattle.lw_mapped.proofs.GoodWords.{IsRight, right-good, right-word, right-na
 use Rattle.lw_mapped.proofs.Items.{inputs_item, outputs_item, arrival_item, latch_item, gate_item, wire_item, label_item, net_item}
 use Rattle.lw_mapped.proofs.Printing.{printed-read, printed-good, printed-length}
 use Rattle.lw_mapped.proofs.WrittenLines.{IsWritten}
+use Rattle.lw_words.specs.Limits.{longest_word}
 use Rattle.lw_words.specs.Words.{IsSignalName}
 use Rattle.lw_laws.specs.Graphs.{most_classes}
 use Rattle.lw_frame.specs.Latches.{IsReadableLatch}
@@ -55,13 +57,13 @@ plain-line words each last = record {
 }
 
 -- a word of a command
-right-key : (word : List ℕ) → list_all is_good word ≡ true → 0 < length word → length word ≤ 4095 → IsRight word
+right-key : (word : List ℕ) → list_all is_good word ≡ true → 0 < length word → length word ≤ longest_word → IsRight word
 right-key word good some few = right-good word some few (good-bytes word good)
 
 well-key : (word : List ℕ) → list_all is_good word ≡ true → 0 < length word → EndsWell word
 well-key word good some = ends-good word some (good-bytes word good)
 
-names-line : (word : List ℕ) → list_all is_good word ≡ true → 0 < length word → length word ≤ 4095 → (names : List (List ℕ)) → Each IsSignalName names → IsWritten (word ∷ names)
+names-line : (word : List ℕ) → list_all is_good word ≡ true → 0 < length word → length word ≤ longest_word → (names : List (List ℕ)) → Each IsSignalName names → IsWritten (word ∷ names)
 names-line word good some few names each =
     plain-line (word ∷ names) (right-key word good some few, each-weaker IsSignalName IsRight right-name names each)
     (last-behind word names (well-key word good some) (each-weaker IsSignalName EndsWell well-name names each))
@@ -177,7 +179,7 @@ gate-spoken cells names gate cell lib at listed one_each apart named pins = reco
       plain-line (codes ".gate" ∷ gate_words names gate cell) (
         right-key (codes ".gate") refl (omega arith) (omega arith),
         (
-          right-word 4095 cell.name (omega arith) listed.name,
+          right-word longest_word cell.name (omega arith) listed.name,
           each-append IsRight (ties names cell.pins gate.pins) (tie cell.output (net_name names gate.out) ∷ []) (ties-right names cell.pins gate.pins pins named.pins)
               (right-tie cell.output (net_name names gate.out) listed.output named.out, tt),
         ),
@@ -235,7 +237,7 @@ pub label-spoken : (cells : List CellParts) (class : ℕ) (label : Micro) → cl
 unfolding words_say command_of
 label-spoken cells class label few low =
     let fits : label.0 < 2 ^ 64 = omega (arith, low) in
-    let read : decimal_of (decimal_text label.0) (2 ^ 43) ≡ Ok label = printed-read label.0 fits (2 ^ 43) low in
+    let read : decimal_of (decimal_text label.0) label_units ≡ Ok label = printed-read label.0 fits label_units low in
     record {
       is = record { says = ap₂ label_of (class-again class few) read; names = refl };
       written =

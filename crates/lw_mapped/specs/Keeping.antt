@@ -1,5 +1,5 @@
 -- What is kept of what lines say.
-use Rattle.std.specs.Prelude.{ℕ, ◌≡◌, ◌≤◌, ◌++◌, List, Option, None, IfSome, length, take, slice_index_or, option_to_list, ◌+◌, ◌-◌, ◌^◌, ◌<◌, All}
+use Rattle.std.specs.Prelude.{ℕ, ◌≡◌, ◌≤◌, ◌++◌, List, Option, None, IfSome, length, take, slice_index_or, option_to_list, ◌+◌, ◌^◌, ◌<◌, All}
 use Rattle.std.specs.List.{flat_map}
 use Rattle.std.specs.Option.{option_or}
 use Rattle.std.specs.Str.{bytes_eq}
@@ -14,6 +14,7 @@ use Rattle.lw_frame.specs.Standing as arrival
 use Rattle.lw_mapped.specs.declared.contents.Contents.{Contents}
 use Rattle.lw_mapped.specs.declared.saying.Saying.{Saying}
 use Rattle.lw_mapped.specs.Said.{models_in, inputs_in, outputs_in, gates_in, wires_in, latches_in, arrivals_in, labels_in, nets_in, label_among, class_among}
+use Rattle.lw_mapped.specs.Limits.{word_limit}
 use Rattle.lw_mapped.specs.Parsed.{IsLabel}
 use Rattle.lw_laws.specs.Graphs.{most_classes}
 
@@ -54,5 +55,5 @@ pub record IsOfFew (kept : Contents) (cells : List CellParts) : Type 0 where
   pub said : List Saying
   pub keeps : Keeps kept said
   pub gates : All (IsOfCell cells) (flat_map gates_in said)
-  pub few : length (flat_map inputs_in said) + length (flat_map latches_in said) + length (flat_map gates_in said) < 2 ^ 32 - 1
+  pub few : length (flat_map inputs_in said) + length (flat_map latches_in said) + length (flat_map gates_in said) < word_limit
   pub outputs : length (each_once (flat_map outputs_in said)) < 2 ^ 32

@@ -5,6 +5,7 @@ pub mod Commands
 pub mod Fitting
 pub mod GateLines
 pub mod Keeping
+pub mod Limits
 pub mod LineFaults
 pub mod Made
 pub mod Parsed

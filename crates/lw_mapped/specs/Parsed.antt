@@ -1,5 +1,5 @@
 -- What is told of a line, and what is so of it whatever the line.
-use Rattle.std.specs.Prelude.{◌≡◌, ◌<◌, ◌*◌, ◌^◌, ⊤, Result, Ok, Err, Option, None, Some}
+use Rattle.std.specs.Prelude.{◌≡◌, ◌<◌, ◌*◌, ⊤, Result, Ok, Err, Option, None, Some}
 use Rattle.lw_fixed.specs.declared.micro.Micro.{Micro}
 use Rattle.lw_frame.specs.Starts.{IsEarly}
 use Rattle.lw_mapped.specs.declared.fault.MappedKind.{MappedKind}
@@ -7,6 +7,7 @@ use Rattle.lw_mapped.specs.declared.fault.Refusal.{Refusal}
 use Rattle.lw_mapped.specs.declared.fault.Refusal.TheVariants as refusal
 use Rattle.lw_mapped.specs.declared.saying.Saying.{Saying}
 use Rattle.lw_mapped.specs.declared.saying.Saying.TheVariants as saying
+use Rattle.lw_mapped.specs.Limits.{label_units}
 use Rattle.lw_laws.specs.Graphs.{most_classes}
 
 -- What the line says is told, or the rule that it breaks. Want of memory is free.
@@ -21,9 +22,9 @@ TellsFault (Ok u) fault = fault ≡ None
 TellsFault (Err (refusal.Broken kind)) fault = fault ≡ Some kind
 TellsFault (Err refusal.Memory) fault = ⊤
 
--- below 2^43 units
+-- of fewer units than the limit
 abbrev pub IsLabel : Micro → Type 0
-IsLabel label = label.0 < 2 ^ 43 * 1000000
+IsLabel label = label.0 < label_units * 1000000
 
 -- times and labels below their limits, and class numbers too
 abbrev pub IsFit : Saying → Type 0

@@ -1,5 +1,5 @@
 -- What a line of a mapped text says by itself, or the first rule that it breaks.
-use Rattle.std.specs.Prelude.{ℕ, ◌==◌, ◌^◌, Bool, true, not, ◌&&◌, nat_lt, nat_le, List, [], ◌∷◌, length, drop, position, Option, Some, None, Result, Ok, Err, if◌then◌else◌, codes, decimal, slice_get}
+use Rattle.std.specs.Prelude.{ℕ, ◌==◌, Bool, true, not, ◌&&◌, nat_lt, nat_le, List, [], ◌∷◌, length, drop, position, Option, Some, None, Result, Ok, Err, if◌then◌else◌, codes, decimal, slice_get}
 use Rattle.std.specs.List.{list_all}
 use Rattle.std.specs.Char.{is_ascii_digit}
 use Rattle.std.specs.Str.{bytes_eq}
@@ -17,6 +17,7 @@ use Rattle.lw_mapped.specs.declared.saying.Saying.{Saying}
 use Rattle.lw_mapped.specs.declared.saying.Saying.TheVariants as saying
 use Rattle.lw_mapped.specs.Commands.{command_of}
 use Rattle.lw_mapped.specs.GateLines.{ties_fault, gate_of}
+use Rattle.lw_mapped.specs.Limits.{label_units}
 use Rattle.lw_words.specs.Words.{first_word, is_name}
 use Rattle.lw_laws.specs.Graphs.{most_classes}
 
@@ -110,7 +111,7 @@ net_of name None = Err kind.Certificate
 -- `label`, a class and its label, or `net`, a net's name and its class
 abbrev pub certificate_says : List (List ℕ) → Result Saying MappedKind
 certificate_says (what ∷ first ∷ second ∷ []) =
-    if bytes_eq what (codes "label") then label_of (class_said first) (decimal_of second (2 ^ 43))
+    if bytes_eq what (codes "label") then label_of (class_said first) (decimal_of second label_units)
     else (if bytes_eq what (codes "net") then net_of first (class_said second) else Err kind.Certificate)
 certificate_says words = Err kind.Certificate
 

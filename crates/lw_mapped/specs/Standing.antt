@@ -1,5 +1,5 @@
 -- What a reader stands for: the lines that it was given, over one library.
-use Rattle.std.specs.Prelude.{ℕ, ◌≡◌, ◌<◌, ◌≤◌, ◌-◌, ◌^◌, Bool, not, List, [], Option, Some, None, Result, Ok, Err, ⊤, length, sum_by, All, IfSome, IsSome}
+use Rattle.std.specs.Prelude.{ℕ, ◌≡◌, ◌<◌, ◌≤◌, Bool, not, List, [], Option, Some, None, Result, Ok, Err, ⊤, length, sum_by, All, IfSome, IsSome}
 use Rattle.lw_words.specs.Lines.{LogicalLine}
 use Rattle.lw_genlib.specs.Cells.{CellParts}
 use Rattle.lw_mapped.specs.declared.certificate.Certificate.{Certificate}
@@ -13,6 +13,7 @@ use Rattle.lw_mapped.specs.declared.reader.Stop.{Stop}
 use Rattle.lw_mapped.specs.declared.reader.Stop.TheVariants as stop
 use Rattle.lw_mapped.specs.Keeping.{Keeps}
 use Rattle.lw_mapped.specs.LineFaults.{FaultAt, first_fault, lines_read, lines_say, has_ended, wire_without_row}
+use Rattle.lw_mapped.specs.Limits.{word_limit}
 use Rattle.lw_mapped.specs.Parsed.{IsLabel}
 use Rattle.lw_laws.specs.Graphs.{most_classes}
 use Rattle.lw_frame.specs.Ending.{is_first}
@@ -80,11 +81,11 @@ StandsFor reader cells lines = IsKept reader.begun reader.ended reader.stop read
 abbrev pub word_count : List LogicalLine → ℕ
 word_count lines = sum_by (λ (line : LogicalLine). length line.words) lines
 
--- The reader was given some lines, of fewer than 2^32 - 1 words together.
+-- The reader was given some lines, of fewer words together than the limit.
 pub record IsGivenFew (reader : MappedReader) (cells : List CellParts) : Type 0 where
   pub lines : List LogicalLine
   pub stands : StandsFor reader cells lines
-  pub few : word_count lines < 2 ^ 32 - 1
+  pub few : word_count lines < word_limit
 
 -- labels below their limit, at class numbers
 pub record AreLabels (certificate : Certificate) : Type 0 where

@@ -3,6 +3,7 @@ ghost use Rattle.std.specs.Prelude.{◌≡◌, ◌==◌, ◌<◌, ◌≤◌, ◌
 ghost use Rattle.std.specs.Str.{bytes_eq};
 ghost use Rattle.indexmap.specs.IndexMap.{get};
 ghost use Rattle.indexmap.specs.IndexSet.{insert_all};
+ghost use Rattle.lw_laws.specs.Graphs.{most_classes};
 
 use crate::{MappedKind, Refusal, Saying};
 use indexmap::{IndexMap, IndexSet};
@@ -32,7 +33,6 @@ impl Contents {
     ghost use Rattle.lw_mapped.specs.Parsed.{TellsFault, IsFit, IsLabel};
     ghost use Rattle.lw_mapped.specs.LineFaults.{told_fault, MaySayAgain};
     ghost use Rattle.lw_mapped.specs.Keeping.{Keeps, Takes};
-    ghost use Rattle.lw_laws.specs.Graphs.{most_classes};
     ghost use Rattle.lw_mapped.specs.declared.fault.MappedKind.{MappedKind};
 
     pub fn new(alloc: Global) -> Self
@@ -170,11 +170,12 @@ fn grow(labels: &mut Vec<Option<Micro>>, count: usize) -> Result<(), AllocError>
 
 // Sets the label of a class.
 fn set_label(labels: &mut Vec<Option<Micro>>, class: usize, label: Micro) -> Result<(), AllocError>
-    requires { class < 4194304 }
+    requires { class < most_classes }
     ensures labels { OnOk result ((c : ℕ) →
         slice_index_or labels.new.items c None
         ≡ (if c == class then Some label else slice_index_or labels.old.items c None)) }
-    ensures count { OnOk result (length labels.new.items ≤ max (length labels.old.items) 4194304) }
+    ensures count { OnOk result
+        (length labels.new.items ≤ max (length labels.old.items) most_classes) }
 {
     grow(labels, class + 1)?;
     labels[class] = Some(label);

@@ -1,7 +1,7 @@
 //! Laws over definitions: functions with empty bodies, whose clauses are the laws.
-ghost use Rattle.std.specs.Prelude.{ℕ, ◌≢◌, ◌<◌, ◌≤◌, ◌*◌, ◌^◌, ◌-◌, true, List, Option, Result, Ok, Err, length};
+ghost use Rattle.std.specs.Prelude.{ℕ, ◌≢◌, ◌<◌, ◌≤◌, true, List, Option, Result, Ok, Err, length};
 ghost use Rattle.lw_fixed.specs.declared.micro.Micro.{Micro};
-ghost use Rattle.lw_words.specs.Lines.{LogicalLine, lines_weight, logical_lines};
+ghost use Rattle.lw_words.specs.Lines.{LogicalLine, logical_lines};
 ghost use Rattle.lw_pool.specs.declared.latch.Frame.{Frame};
 ghost use Rattle.lw_genlib.specs.Cells.{CellParts, IsLibrary};
 ghost use Rattle.lw_netlist.specs.Netlists.{NetlistParts, IsNetlist};
@@ -11,7 +11,9 @@ ghost use Rattle.lw_mapped.specs.declared.closing.Mapped.{Mapped};
 ghost use Rattle.lw_mapped.specs.declared.fault.MappedFault.{MappedFault};
 ghost use Rattle.lw_mapped.specs.declared.fault.MappedFault.TheVariants.{Memory};
 ghost use Rattle.lw_mapped.specs.Alike.{AreSameMapped, AreSameOutcomes};
+ghost use Rattle.lw_mapped.specs.Closings.{HasFewGates};
 ghost use Rattle.lw_mapped.specs.Fitting.{IsMapped};
+ghost use Rattle.lw_mapped.specs.Limits.{word_limit};
 ghost use Rattle.lw_mapped.specs.Readable.{IsNamed, IsReadable, IsReadableCertificate, read_of};
 ghost use Rattle.lw_mapped.specs.Standing.{word_count};
 ghost use Rattle.lw_mapped.specs.Texts.{mapped_text};
@@ -49,13 +51,12 @@ pub fn written_texts_read_back()
 /// class. Those that it may have give no label, so that without them the same always fits.
 pub fn read_netlists_are_kept()
     ensures netlist { (cells : List CellParts) (lines : List LogicalLine) (mapped : Mapped) →
-        word_count lines < 2 ^ 32 - 1 → IsUnmapped cells lines (Ok mapped) →
+        word_count lines < word_limit → IsUnmapped cells lines (Ok mapped) →
         IsNetlist mapped.netlist }
     ensures over { (cells : List CellParts) (lines : List LogicalLine) (mapped : Mapped) →
         IsUnmapped cells lines (Ok mapped) → IsOver cells mapped.netlist }
     ensures gates { (cells : List CellParts) (lines : List LogicalLine) (mapped : Mapped) →
-        IsLibrary cells → IsUnmapped cells lines (Ok mapped) →
-        12 * length mapped.netlist.gates ≤ lines_weight lines }
+        IsLibrary cells → IsUnmapped cells lines (Ok mapped) → HasFewGates lines mapped }
     ensures certificate { (cells : List CellParts) (lines : List LogicalLine) (mapped : Mapped) →
         IsUnmapped cells lines (Ok mapped) →
         IsReadableCertificate (length mapped.netlist.gates) mapped.cert }

@@ -1,11 +1,13 @@
 // What the words of a line say.
-ghost use Rattle.std.specs.Prelude.{◌≡◌, ◌<◌, ◌^◌, [], min, length, drop, IsTrue, slice_index_or};
+ghost use Rattle.std.specs.Prelude.{◌≡◌, ◌<◌, [], min, length, drop, IsTrue, slice_index_or};
 ghost use Rattle.std.specs.List.{list_all};
 ghost use Rattle.std.specs.Char.{is_ascii_digit};
 ghost use Rattle.lw_fixed.specs.Decimals.{decimal_of};
 ghost use Rattle.std.specs.Str.Parse.{digits_value};
 ghost use Rattle.lw_mapped.specs.Sayings as says;
 ghost use Rattle.lw_mapped.specs.Parsed.{Says};
+ghost use Rattle.lw_mapped.specs.Limits.{label_units};
+ghost use Rattle.lw_laws.specs.Graphs.{most_classes};
 
 use crate::command::Command;
 use crate::naming::{is_name, name_at, names_fault, names_from};
@@ -128,7 +130,7 @@ fn default_arrival(words: &Words) -> Result<Saying, Refusal>
 // The value of digits, or the number of classes where it is greater.
 fn capped_value(digits: &[u8]) -> u32
     requires { IsTrue (list_all is_ascii_digit digits.now) }
-    ensures { result ≡ min (digits_value 10 digits.now) 4194304 }
+    ensures { result ≡ min (digits_value 10 digits.now) most_classes }
 {
     let mut value = 0;
     for digit in digits {
@@ -159,7 +161,7 @@ fn class_of(word: &[u8]) -> Option<u32>
 fn label(words: &Words) -> Result<Saying, Refusal>
     requires { length words.now ≡ 4 }
     ensures { Says result (says.label_of (says.class_said (slice_index_or words.now 2 []))
-        (decimal_of (slice_index_or words.now 3 []) (2 ^ 43))) }
+        (decimal_of (slice_index_or words.now 3 []) label_units)) }
 {
     let Some(class) = class_of(words.get(2)) else {
         return Err(Refusal::Broken(MappedKind::Certificate));
