@@ -6,16 +6,16 @@ use Rattle.std.proofs.lemmas.Grind.{get_or-set_at}
 use Rattle.std.proofs.lemmas.List.{get_or-set_other, length-set}
 use Rattle.lw_facts.proofs.Lists.{bytes_eq_is}
 use Rattle.lw_netlist.proofs.Chains.{same-or-not}
-use Rattle.lw_verilog.specs.Chains.{AreChains, bucket_at, bucket_from, bucket_of, name_at}
+use Rattle.lw_verilog.specs.Chains.{AreChains, bucket_at, bucket_from, bucket_of, known_width, name_at}
 use Rattle.lw_verilog.specs.Windows.{Raises}
 use Rattle.lw_verilog.proofs.Marks.{or-no}
 
-from-low : (hash : ℕ) (name : List ℕ) → hash < 32768 → bucket_from hash name < 32768
+from-low : (hash : ℕ) (name : List ℕ) → hash < known_width → bucket_from hash name < known_width
 from-low hash [] low = low
-from-low hash (b ∷ name) low = from-low ((hash * 31 + b) % 32768) name (omega arith)
+from-low hash (b ∷ name) low = from-low ((hash * 31 + b) % known_width) name (omega arith)
 
 -- there are so many buckets
-pub bucket_low : (name : List ℕ) → bucket_of name < 32768
+pub bucket_low : (name : List ℕ) → bucket_of name < known_width
 bucket_low name = from-low 0 name (omega arith)
 
 -- The chain of a name's bucket is walked down to a place.
@@ -34,7 +34,7 @@ other-bucket x name apart = by_test (bytes_eq x name) refl
     by_test true e = absurd (apart (ap bucket_of (bytes_eq_is x name e)))
     by_test false e = refl
 
-pub walked-first : (names : List (List ℕ)) (heads next : List ℕ) (name : List ℕ) (b : ℕ) (flags : List Bool) → AreChains bucket_of 32768 names (length names) heads next → b ≡ bucket_of name → b < 32768 → length flags ≡ length names → IsWalked names name (get_or heads b 0) flags flags
+pub walked-first : (names : List (List ℕ)) (heads next : List ℕ) (name : List ℕ) (b : ℕ) (flags : List Bool) → AreChains bucket_of known_width names (length names) heads next → b ≡ bucket_of name → b < known_width → length flags ≡ length names → IsWalked names name (get_or heads b 0) flags flags
 walked-first names heads next name b flags c own in_heads many = record {
   many = refl;
   low = c.low b in_heads;
@@ -48,7 +48,7 @@ walked-first names heads next name b flags c own in_heads many = record {
         let head : get_or heads (bucket_at names i) 0 ≡ get_or heads b 0 = ap (λ x. get_or heads x 0) (same ∙ sym own) in
         omega (arith, c.first i (omega (arith, lt, many)), head, past)
 
-module _ (names : List (List ℕ)) (heads next : List ℕ) (name : List ℕ) (left j : ℕ) (old new : List Bool) (c : AreChains bucket_of 32768 names (length names) heads next) (is : left ≡ suc j) (many : length old ≡ length names) (w : IsWalked names name left old new) where
+module _ (names : List (List ℕ)) (heads next : List ℕ) (name : List ℕ) (left j : ℕ) (old new : List Bool) (c : AreChains bucket_of known_width names (length names) heads next) (is : left ≡ suc j) (many : length old ≡ length names) (w : IsWalked names name left old new) where
   hit : Bool
   hit = bytes_eq (name_at names j) name
 

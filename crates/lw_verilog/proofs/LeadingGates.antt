@@ -1,5 +1,5 @@
 -- The instances and the assignments of a written text are read as gates and wires.
-use Rattle.std.proofs.Common.{ℕ, ◌≡◌, ◌<◌, ◌≤◌, ◌+◌, ◌-◌, ◌^◌, ◌&&◌, ◌||◌, Bool, true, false, not, cond, List, [], ◌∷◌, ◌++◌, length, map, Some, None, refl, ap, ap₂, sym, ◌∙◌, subst, arith, append_assoc}
+use Rattle.std.proofs.Common.{ℕ, ◌≡◌, ◌<◌, ◌≤◌, ◌+◌, ◌-◌, ◌&&◌, ◌||◌, Bool, true, false, not, cond, List, [], ◌∷◌, ◌++◌, length, map, Some, None, refl, ap, ap₂, sym, ◌∙◌, subst, arith, append_assoc}
 use Rattle.std.specs.Prelude.{codes, option_map, position, slice_get}
 use Rattle.std.specs.List.{flat_map, list_all, list_any, IsDistinct, AllByRecursion as Each}
 use Rattle.std.specs.Str.{bytes_eq}
@@ -28,6 +28,7 @@ use Rattle.lw_verilog.specs.Grammar.{move_at, moved}
 use Rattle.lw_verilog.specs.Readings.{Reading, cell_fault, cell_in, cell_numbered, formal_fault, gives_all, is_done, missing_fault, rule_fault}
 use Rattle.lw_verilog.specs.Statements.{Statement, Tie, gate_at, gate_by, gate_if, gate_of, is_for, net_for, pairs, ties_in}
 use Rattle.lw_verilog.specs.Texts.{assignment, assignment_text, escaped, gate_line, gate_text, gates_text, instance_name, passed, pins_text, tie_text}
+use Rattle.lw_verilog.specs.Windows.{number_limit}
 use Rattle.lw_verilog.proofs.Leading.{IsGood, Says, assignment-says, at, comma, ends, opens, says-both, says-none, skips, statement, words}
 use Rattle.lw_verilog.proofs.Named.{among-at}
 use Rattle.lw_verilog.proofs.PutParts.{passed-le}
@@ -224,7 +225,7 @@ module _ (cells : List CellParts) (lib : IsLibrary cells) (names : List (List �
     ties-are cell pins nets shown.1 among.1 good.1,
   )
 
-  gate-says : (declared : List (List ℕ)) (number : ℕ) (gate : Gate) → number < 2 ^ 64 → IsSayable cells names gate → Says cells declared declared (gate_text cells names number gate) [] [] (named_gate names gate ∷ []) []
+  gate-says : (declared : List (List ℕ)) (number : ℕ) (gate : Gate) → number < number_limit → IsSayable cells names gate → Says cells declared declared (gate_text cells names number gate) [] [] (named_gate names gate ∷ []) []
   unfolding move_at rule_fault
   gate-says declared number gate lt is =
       let cell : CellParts = is.cell in
@@ -279,7 +280,7 @@ module _ (cells : List CellParts) (lib : IsLibrary cells) (names : List (List �
         front us (before ++ u ∷ []) out (subst (λ l. IsDistinct bytes_eq (map formal_in l)) (sym (append_assoc before (u ∷ []) (us ++ out ∷ []))) distinct),
       )
 
-  pub gates-say : (declared taken : List (List ℕ)) (most number : ℕ) (gates : List Gate) → (number + most) + length gates < 2 ^ 64 → Each (IsSayable cells names) gates →
+  pub gates-say : (declared taken : List (List ℕ)) (most number : ℕ) (gates : List Gate) → (number + most) + length gates < number_limit → Each (IsSayable cells names) gates →
       Says cells declared declared (gates_text cells names taken most number gates) [] [] (map (named_gate names) gates) []
   unfolding gates_text
   gates-say declared taken most number [] lt each = says-none cells declared

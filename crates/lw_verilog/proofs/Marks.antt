@@ -1,5 +1,5 @@
 -- Flags that are raised, and the numbers of instances.
-use Rattle.std.proofs.Common.{ℕ, ◌≡◌, ◌≢◌, ◌<◌, ◌≤◌, ◌+◌, ◌^◌, ◌⊎◌, inl, inr, Bool, true, false, ◌||◌, List, [], ◌∷◌, ◌++◌, length, take, set, get_or, refl, ap, sym, ◌∙◌, arith}
+use Rattle.std.proofs.Common.{ℕ, ◌≡◌, ◌≢◌, ◌<◌, ◌≤◌, ◌+◌, ◌⊎◌, inl, inr, Bool, true, false, ◌||◌, List, [], ◌∷◌, ◌++◌, length, take, set, get_or, refl, ap, sym, ◌∙◌, arith}
 use Rattle.std.specs.Prelude.{decimal}
 use Rattle.std.specs.Str.{bytes_eq}
 use Rattle.std.specs.Cmp.Lexicographic.{bytes_decides}
@@ -12,7 +12,7 @@ use Rattle.std.proofs.lemmas.List.{get_or-set_other, length-set, take_more}
 use Rattle.std.proofs.lemmas.List.Folds.{list_any-append}
 use Rattle.lw_netlist.specs.Closing.{is_among}
 use Rattle.lw_verilog.specs.Texts.{instance_name}
-use Rattle.lw_verilog.specs.Windows.{Raises}
+use Rattle.lw_verilog.specs.Windows.{Raises, most_flagged}
 use Rattle.lw_frame.proofs.GoodWords.{numerals}
 
 pub or-no : (a b : Bool) → b ≡ false → a ≡ (a || b)
@@ -44,7 +44,7 @@ among-more names k name x lt here =
 
 -- Numbers of instances.
 
-pub decimal-once : (j k : ℕ) → j ≤ 2 ^ 60 → k ≤ 2 ^ 60 → decimal j ≡ decimal k → j ≡ k
+pub decimal-once : (j k : ℕ) → j ≤ most_flagged → k ≤ most_flagged → decimal j ≡ decimal k → j ≡ k
 decimal-once j k a b same = sym (digits_value-decimal numerals j (omega arith)) ∙ (ap (digits_value 10) same ∙ digits_value-decimal numerals k (omega arith))
 
 pub instance-tail : (j k : ℕ) → instance_name j ≡ instance_name k → decimal j ≡ decimal k
@@ -63,5 +63,5 @@ told-apart x y never = by_test (bytes_eq x y) refl
     by_test false e = refl
 
 -- an instance of another number has another name
-pub other-instance : (j k : ℕ) (name : List ℕ) → j ≤ 2 ^ 60 → k ≤ 2 ^ 60 → name ≡ instance_name k → j ≢ k → bytes_eq (instance_name j) name ≡ false
+pub other-instance : (j k : ℕ) (name : List ℕ) → j ≤ most_flagged → k ≤ most_flagged → name ≡ instance_name k → j ≢ k → bytes_eq (instance_name j) name ≡ false
 other-instance j k name a b is apart = told-apart (instance_name j) name (λ same. apart (decimal-once j k a b (instance-tail j k (sym same ∙ is))))

@@ -1,5 +1,5 @@
 -- What was written is read back.
-use Rattle.std.proofs.Common.{ℕ, ◌≡◌, ◌<◌, ◌≤◌, ◌+◌, ◌^◌, List, [], ◌∷◌, ◌++◌, length, map, drop, None, Ok, refl, ap, ap₂, sym, ◌∙◌, subst, arith, append_assoc, append-nil, length-append}
+use Rattle.std.proofs.Common.{ℕ, ◌≡◌, ◌<◌, ◌≤◌, ◌+◌, List, [], ◌∷◌, ◌++◌, length, map, drop, None, Ok, refl, ap, ap₂, sym, ◌∙◌, subst, arith, append_assoc, append-nil, length-append}
 use Rattle.std.specs.Prelude.{codes}
 use Rattle.std.specs.List.{flat_map}
 use Rattle.std.proofs.lemmas.Grind.{flat_map-append}
@@ -24,6 +24,7 @@ use Rattle.lw_verilog.specs.Statements.{Statement, all_in, draft_of, gates_in, h
 use Rattle.lw_verilog.specs.Texts.{assignment_text, declaration, gates_text, header_text, taken_names, verilog_text, wire_text}
 use Rattle.lw_verilog.specs.Tokens.{last_line, tokens, tokens_from}
 use Rattle.lw_verilog.specs.Verdicts.{ComesTo, IsRead}
+use Rattle.lw_verilog.specs.Windows.{number_limit}
 use Rattle.lw_verilog.specs.Writable.{IsWritable}
 use Rattle.lw_verilog.proofs.Leading.{Says, at, header-reads, inputs-say, outputs-say, says-both, statement, wires-say}
 use Rattle.lw_verilog.proofs.LeadingGates.{assignments-say, gates-say}
@@ -72,7 +73,7 @@ module _ (cells : List CellParts) (n : NetlistParts) (w : IsWritable cells n) wh
   abbrev body : List ℕ
   body = input_text ++ (output_text ++ (nets_text ++ (instances ++ assigned)))
 
-  few : (1 + length (taken_names n)) + length n.gates < 2 ^ 64
+  few : (1 + length (taken_names n)) + length n.gates < number_limit
   few = omega (arith, w.netlist.few, w.netlist.named, w.few, length-append n.names outputs, length-map n.outputs port_name)
 
   -- what the statements behind the header say

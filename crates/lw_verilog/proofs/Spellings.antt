@@ -1,5 +1,5 @@
 -- The tokens of a written text: names, keywords and signs.
-use Rattle.std.proofs.Common.{ℕ, zero, suc, ◌≡◌, ◌≤◌, ◌<◌, ◌+◌, ◌-◌, ◌^◌, ◌==◌, ◌&&◌, ◌||◌, Bool, true, false, not, cond, nat_eq, List, [], ◌∷◌, ◌++◌, length, take, drop, Some, None, refl, ap, ap₂, sym, ◌∙◌, subst, arith, length-append, append_assoc}
+use Rattle.std.proofs.Common.{ℕ, zero, suc, ◌≡◌, ◌≤◌, ◌<◌, ◌+◌, ◌-◌, ◌==◌, ◌&&◌, ◌||◌, Bool, true, false, not, cond, nat_eq, List, [], ◌∷◌, ◌++◌, length, take, drop, Some, None, refl, ap, ap₂, sym, ◌∙◌, subst, arith, length-append, append_assoc}
 use Rattle.std.specs.Char.{is_ascii_digit}
 use Rattle.std.specs.Cmp.Lexicographic.{pointwise}
 use Rattle.std.specs.Prelude.{codes, decimal, nat_le}
@@ -20,6 +20,7 @@ use Rattle.lw_verilog.specs.Readings.{Reading, after, has_hash, is_done, name_fa
 use Rattle.lw_verilog.specs.Statements.{ports_of}
 use Rattle.lw_verilog.specs.Texts.{escaped, instance_name}
 use Rattle.lw_verilog.specs.Tokens.{is_gap, is_strange, name_of}
+use Rattle.lw_verilog.specs.Windows.{number_limit}
 use Rattle.lw_verilog.proofs.Stepping.{Leads, Reads, leads-both, leads-gap, leads-token, some-piece}
 use Rattle.lw_frame.proofs.GoodWords.{Digits, numerals}
 
@@ -169,7 +170,7 @@ name-run (b ∷ word) rest e =
     let next : 1 + name_bytes (word ++ 32 ∷ rest) ≡ suc (length word) = omega (arith, later) in
     ap (λ t. cond (not (not t)) (1 + name_bytes (word ++ 32 ∷ rest)) 0) parts.0 ∙ next
 
-instance-bytes : (number : ℕ) → number < 2 ^ 64 → list_all is_name_byte (decimal number) ≡ true
+instance-bytes : (number : ℕ) → number < number_limit → list_all is_name_byte (decimal number) ≡ true
 instance-bytes number lt = digit-bytes (decimal number) (digits_decimal numerals number lt)
 
 instance-piece : (word rest : List ℕ) → list_all is_name_byte word ≡ true → first_piece (117 ∷ word ++ 32 ∷ rest) ≡ piece kind.Name (suc (length word))
@@ -180,7 +181,7 @@ instance-piece word rest e =
     some-piece 117 (word ++ 32 ∷ rest)
     ∙ (ap (λ n. piece (word_kind (take n text)) n) next ∙ ap (λ l. piece (word_kind (117 ∷ l)) (suc (length word))) (take_at word (32 ∷ rest) (length word) refl))
 
-pub reads-instance : (cells : List CellParts) (r : Reading) (m : Move) (number : ℕ) → number < 2 ^ 64 → IsStep cells r kind.Name m (instance_name number) → is_done m.next ≡ false → Reads cells r (instance_name number ++ 32 ∷ []) (after m (instance_name number) r)
+pub reads-instance : (cells : List CellParts) (r : Reading) (m : Move) (number : ℕ) → number < number_limit → IsStep cells r kind.Name m (instance_name number) → is_done m.next ≡ false → Reads cells r (instance_name number ++ 32 ∷ []) (after m (instance_name number) r)
 reads-instance cells r m number lt s opened rest =
     let digits : List ℕ = decimal number in
     let text : List ℕ = 117 ∷ digits ++ 32 ∷ rest in
@@ -208,7 +209,7 @@ no-hash (b ∷ word) e =
     let other : (b == 35) ≡ false = grind (arith, nat_tests) in
     ap₂ (λ p q. p || q) other (no-hash word parts.1)
 
-pub instance-named : (number : ℕ) → number < 2 ^ 64 → name_fault (instance_name number) ≡ None
+pub instance-named : (number : ℕ) → number < number_limit → name_fault (instance_name number) ≡ None
 instance-named number lt =
     let word : List ℕ = instance_name number in
     let bytes : list_all is_name_byte word ≡ true = instance-bytes number lt in

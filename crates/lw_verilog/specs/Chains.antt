@@ -3,9 +3,13 @@ use Rattle.std.specs.Prelude.{ℕ, ◌≡◌, ◌<◌, ◌≤◌, ◌+◌, ◌*�
 pub use Rattle.lw_netlist.specs.Chains.{AreChains, name_at}
 use Rattle.lw_netlist.specs.Closing.{is_among}
 
+-- how many nets have flags at a time, and how many buckets there are
+abbrev pub known_width : ℕ
+known_width = 32768
+
 abbrev pub bucket_from : ℕ → List ℕ → ℕ
 bucket_from hash [] = hash
-bucket_from hash (b ∷ bytes) = bucket_from ((hash * 31 + b) % 32768) bytes
+bucket_from hash (b ∷ bytes) = bucket_from ((hash * 31 + b) % known_width) bytes
 
 -- the bucket of a name
 abbrev pub bucket_of : List ℕ → ℕ
@@ -15,14 +19,18 @@ bucket_of name = bucket_from 0 name
 abbrev pub bucket_at : List (List ℕ) → ℕ → ℕ
 bucket_at names place = bucket_of (name_at names place)
 
--- Chains for all of these names, which are no more than there are flags, in as many buckets.
+-- There is room for these names: they are no more than there are flags, in as many buckets.
+pub record HasRoom (names : List (List ℕ)) (heads next : List ℕ) : Type 0 where
+  pub few : length names ≤ known_width
+  pub buckets : length heads ≡ known_width
+  pub places : length next ≡ known_width
+
+-- Chains for all of these names.
 pub record AreChained (names : List (List ℕ)) (heads next : List ℕ) : Type 0 where
-  pub chains : AreChains bucket_of 32768 names (length names) heads next
-  pub few : length names ≤ 32768
-  pub buckets : length heads ≡ 32768
-  pub places : length next ≡ 32768
+  pub chains : AreChains bucket_of known_width names (length names) heads next
+  pub room : HasRoom names heads next
 
 -- Each flag tells whether an output has the name of its net, counted from the base.
 pub record AreKnown (names outputs : List (List ℕ)) (base : ℕ) (flags : List Bool) : Type 0 where
-  pub many : length flags ≡ 32768
-  pub each : (i : ℕ) → i < 32768 → base + i < length names → slice_index_or flags i false ≡ is_among outputs (name_at names (base + i))
+  pub many : length flags ≡ known_width
+  pub each : (i : ℕ) → i < known_width → base + i < length names → slice_index_or flags i false ≡ is_among outputs (name_at names (base + i))

@@ -1,5 +1,5 @@
 -- The names of nets and of outputs.
-use Rattle.std.specs.Prelude.{ℕ, ◌≡◌, List, ◌++◌, map}
+use Rattle.std.specs.Prelude.{ℕ, ◌≡◌, ◌^◌, List, ◌++◌, map}
 use Rattle.std.specs.List.{list_any}
 use Rattle.lw_netlist.specs.declared.gate.Port.{Port}
 use Rattle.lw_verilog.specs.Chains.{AreKnown}
@@ -9,6 +9,10 @@ use Rattle.lw_verilog.specs.declared.taken.Taken.{Taken}
 use Rattle.lw_verilog.specs.Texts.{begins_u}
 use Rattle.lw_verilog.specs.Windows.{AreTaken}
 use Rattle.lw_netlist.specs.Plain.{port_name}
+
+-- there are fewer nets
+abbrev pub net_limit : ℕ
+net_limit = 2 ^ 32
 
 abbrev pub names_in : AllNames → List (List ℕ)
 names_in all = all.names.now ++ map port_name all.outputs.now

@@ -7,9 +7,17 @@ use Rattle.lw_verilog.specs.Texts.{instance_name}
 abbrev pub width : ℕ
 width = 65536
 
--- The number whose text this is, if it is no more than 2 ^ 60, or none where no smaller one has this text.
+-- numbers from here on are looked up one by one
+abbrev pub most_flagged : ℕ
+most_flagged = 2 ^ 60
+
+-- numbers of instances are less
+abbrev pub number_limit : ℕ
+number_limit = 2 ^ 64
+
+-- The number whose text this is, if it is no more than the most, or none where no smaller one has this text.
 abbrev pub IsNumberBy : (ℕ → List ℕ) → List ℕ → Option ℕ → Type 0
-IsNumberBy text_of text o = MatchOption o ((k : ℕ) → k < 2 ^ 60 → text ≢ text_of k) (λ k. (text ≡ text_of k) × (k ≤ 2 ^ 60))
+IsNumberBy text_of text o = MatchOption o ((k : ℕ) → k < most_flagged → text ≢ text_of k) (λ k. (text ≡ text_of k) × (k ≤ most_flagged))
 
 -- flags after those were raised whose places pass a test
 pub record Raises (test : ℕ → Bool) (old new : List Bool) : Type 0 where
@@ -20,5 +28,5 @@ pub record Raises (test : ℕ → Bool) (old new : List Bool) : Type 0 where
 -- names.
 pub record AreTaken (names : List (List ℕ)) (base : ℕ) (flags : List Bool) : Type 0 where
   pub many : length flags ≡ width
-  pub few : base + width ≤ 2 ^ 60
+  pub few : base + width ≤ most_flagged
   pub each : (i : ℕ) → i < width → slice_index_or flags i false ≡ is_among names (instance_name (base + i))

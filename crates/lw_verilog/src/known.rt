@@ -2,7 +2,7 @@
 ghost use Rattle.std.specs.Prelude.{◌≡◌, ◌<◌, ◌≤◌, ◌+◌, ℕ, false, length, map, slice_index_or};
 ghost use Rattle.std.specs.Str.{bytes_eq};
 ghost use Rattle.lw_netlist.specs.Closing.{is_among};
-ghost use Rattle.lw_verilog.specs.Chains.{AreChained, bucket_of, name_at};
+ghost use Rattle.lw_verilog.specs.Chains.{AreChained, HasRoom, bucket_of, known_width, name_at};
 ghost use Rattle.lw_verilog.specs.Named.{Knows};
 ghost use Rattle.lw_verilog.specs.Windows.{Raises};
 ghost use Rattle.lw_netlist.specs.Plain.{port_name};
@@ -36,9 +36,7 @@ fn bucket_of(name: &[u8]) -> usize
 // Chains for these names.
 #[tactic(auto, using(crate::proofs::Chains::bucket_low))]
 fn link(names: &[Name], heads: &mut [u16], next: &mut [u16])
-    requires few { length names.now ≤ 32768 }
-    requires buckets { length heads.old ≡ 32768 }
-    requires places { length next.old ≡ 32768 }
+    requires { HasRoom names.now heads.old next.old }
     ensures { AreChained names.now heads.new next.new }
 {
     heads.fill(0);
@@ -80,8 +78,9 @@ fn mark_known(names: &[Name], heads: &[u16], next: &[u16], flags: &mut [bool], o
 // The names from a place on, as many as have flags.
 fn window(names: &[Name], base: usize) -> &[Name]
     requires { base ≤ length names.now }
-    ensures few { length result.now ≤ 32768 }
-    ensures enough { (i : ℕ) → i < 32768 → base + i < length names.now → i < length result.now }
+    ensures few { length result.now ≤ known_width }
+    ensures enough { (i : ℕ) → i < known_width → base + i < length names.now →
+        i < length result.now }
     ensures each { (i : ℕ) → i < length result.now → name_at result.now i
         ≡ name_at names.now (base + i) }
 {
@@ -91,11 +90,9 @@ fn window(names: &[Name], base: usize) -> &[Name]
 
 // Flags for these names.
 fn fill(names: &[Name], outputs: &[Port], heads: &mut [u16], next: &mut [u16], flags: &mut [bool])
-    requires few { length names.now ≤ 32768 }
-    requires buckets { length heads.old ≡ 32768 }
-    requires places { length next.old ≡ 32768 }
-    requires many { length flags.old ≡ 32768 }
-    ensures many { length flags.new ≡ 32768 }
+    requires room { HasRoom names.now heads.old next.old }
+    requires many { length flags.old ≡ known_width }
+    ensures many { length flags.new ≡ known_width }
     ensures each { (i : ℕ) → i < length names.now → slice_index_or flags.new i false
         ≡ is_among (map port_name outputs.now) (name_at names.now i) }
 {
@@ -142,7 +139,7 @@ impl Known {
         requires stands { Knows self.old names.now outputs.now }
         ensures stands { Knows self.new names.now outputs.now }
         ensures low { self.new.base ≤ place }
-        ensures high { place < self.new.base + 32768 }
+        ensures high { place < self.new.base + known_width }
     {
         if self.base <= place && place - self.base < WIDTH {
             return;

@@ -1,9 +1,9 @@
 // A text, token by token.
-ghost use Rattle.std.specs.Prelude.{◌≡◌, ◌<◌, ◌≤◌, ◌+◌, ◌^◌, false, length, drop, if◌then◌else◌, IfOk, IfErr, OnOk};
+ghost use Rattle.std.specs.Prelude.{◌≡◌, ◌<◌, ◌≤◌, ◌+◌, false, length, drop, if◌then◌else◌, IfOk, IfErr, OnOk};
 ghost use Rattle.lw_netlist.specs.Plain.{IsOver};
 ghost use Rattle.lw_verilog.specs.Keeping.{IsParsed, Keeps, TellsParse, refused_at};
 ghost use Rattle.lw_verilog.specs.Readings.{nothing_read};
-ghost use Rattle.lw_verilog.specs.Tokens.{is_end, is_gap, last_line, line_feeds};
+ghost use Rattle.lw_verilog.specs.Tokens.{is_end, is_gap, last_line, line_feeds, line_limit};
 ghost use Rattle.lw_verilog.specs.Verdicts.{IsRead};
 ghost use Rattle.lw_words.specs.Limits.{most_bytes};
 
@@ -16,7 +16,7 @@ use lw_pool::Bytes;
 use std::alloc::Global;
 
 fn line_feeds(bytes: &[u8]) -> u32
-    requires { length bytes.now < 2 ^ 32 }
+    requires { length bytes.now < line_limit }
     ensures count { result ≡ line_feeds bytes.now }
     ensures few { result ≤ length bytes.now }
 {
@@ -31,7 +31,7 @@ fn line_feeds(bytes: &[u8]) -> u32
 
 // The line behind a piece of this kind that begins in a line. Only gaps have line feeds.
 fn line_behind(kind: Kind, line: u32, bytes: &[u8]) -> u32
-    requires few { line + length bytes.now < 2 ^ 32 }
+    requires few { line + length bytes.now < line_limit }
     requires one { is_gap kind ≡ false → line_feeds bytes.now ≡ 0 }
     ensures { result ≡ line + line_feeds bytes.now }
 {

@@ -1,5 +1,5 @@
 // Which numbers make names of instances that are taken.
-ghost use Rattle.std.specs.Prelude.{◌≡◌, ◌<◌, ◌≤◌, ◌+◌, ◌^◌, min, length, map, decimal, IsTrue};
+ghost use Rattle.std.specs.Prelude.{◌≡◌, ◌<◌, ◌≤◌, ◌+◌, min, length, map, decimal, IsTrue};
 ghost use Rattle.std.specs.Char.{is_ascii_digit};
 ghost use Rattle.std.specs.List.{list_all, list_any};
 ghost use Rattle.std.specs.Str.{bytes_eq};
@@ -7,7 +7,7 @@ ghost use Rattle.std.specs.Str.Parse.{digits_value};
 ghost use Rattle.lw_netlist.specs.Closing.{is_among};
 ghost use Rattle.lw_verilog.specs.Texts.{begins_u, instance_name, passed};
 ghost use Rattle.lw_verilog.specs.Named.{names_in, Fits};
-ghost use Rattle.lw_verilog.specs.Windows.{AreTaken, IsNumberBy, Raises, width};
+ghost use Rattle.lw_verilog.specs.Windows.{AreTaken, IsNumberBy, Raises, most_flagged, number_limit, width};
 ghost use Rattle.lw_netlist.specs.Plain.{port_name};
 
 use crate::putting::is_output;
@@ -41,7 +41,7 @@ pub(crate) struct Taken {
 // The value of digits, or the greatest where it is greater.
 fn capped_value(digits: &[u8]) -> u64
     requires { IsTrue (list_all is_ascii_digit digits.now) }
-    ensures { result ≡ min (digits_value 10 digits.now) 1152921504606846976 }
+    ensures { result ≡ min (digits_value 10 digits.now) most_flagged }
 {
     let mut value = 0;
     for digit in digits {
@@ -77,7 +77,7 @@ fn number_of(name: &[u8]) -> Option<u64>
 
 // Raises the flag of the number whose instance has the name.
 fn mark(flags: &mut [bool], base: u64, name: &[u8])
-    requires { base + length flags.old ≤ 2 ^ 60 }
+    requires { base + length flags.old ≤ most_flagged }
     ensures { Raises (λ i. bytes_eq (instance_name (base + i)) name.now) flags.old flags.new }
 {
     let Some(number) = number_of(name) else {
@@ -94,7 +94,7 @@ fn mark(flags: &mut [bool], base: u64, name: &[u8])
 }
 
 fn mark_names(flags: &mut [bool], base: u64, names: &[Name])
-    requires { base + length flags.old ≤ 2 ^ 60 }
+    requires { base + length flags.old ≤ most_flagged }
     ensures { Raises (λ i. is_among names.now (instance_name (base + i))) flags.old flags.new }
 {
     for name in names {
@@ -103,7 +103,7 @@ fn mark_names(flags: &mut [bool], base: u64, names: &[Name])
 }
 
 fn mark_outputs(flags: &mut [bool], base: u64, outputs: &[Port])
-    requires { base + length flags.old ≤ 2 ^ 60 }
+    requires { base + length flags.old ≤ most_flagged }
     ensures { Raises (λ i. is_among (map port_name outputs.now) (instance_name (base + i)))
         flags.old flags.new }
 {
@@ -115,7 +115,7 @@ fn mark_outputs(flags: &mut [bool], base: u64, outputs: &[Port])
 // Flags for the numbers from the base on.
 fn mark_taken(flags: &mut [bool], base: u64, all: &AllNames)
     requires many { length flags.old ≡ width }
-    requires few { base + width ≤ 2 ^ 60 }
+    requires few { base + width ≤ most_flagged }
     ensures { AreTaken (names_in all.now) base flags.new }
 {
     flags.fill(false);
@@ -159,7 +159,7 @@ impl Taken {
 
     // Moves the flags to where they have the number.
     fn reach(&mut self, all: &AllNames, number: u64)
-        requires few { number + width ≤ 2 ^ 60 }
+        requires few { number + width ≤ most_flagged }
         requires stands { Fits all.now self.old }
         ensures stands { Fits all.now self.new }
         ensures low { self.new.base ≤ number }
@@ -188,7 +188,7 @@ impl Taken {
 
 // How many numbers from this one on are passed over, at most so many.
 fn passed(taken: &mut Taken, all: &AllNames, most: u64, number: u64) -> u64
-    requires few { number + most < 2 ^ 64 }
+    requires few { number + most < number_limit }
     requires stands { Fits all.now taken.old }
     ensures stands { Fits all.now taken.new }
     ensures passed { result ≡ passed (names_in all.now) most number }
@@ -222,7 +222,7 @@ fn has_begun(all: &AllNames) -> bool
 
 /// The same as `passed`, at once where no name begins as those of instances do.
 pub(crate) fn skipped(taken: &mut Taken, all: &AllNames, most: u64, number: u64) -> u64
-    requires few { number + most < 2 ^ 64 }
+    requires few { number + most < number_limit }
     requires stands { Fits all.now taken.old }
     ensures stands { Fits all.now taken.new }
     ensures skipped { result ≡ passed (names_in all.now) most number }

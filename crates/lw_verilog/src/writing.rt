@@ -1,10 +1,10 @@
 // The Verilog text of a netlist.
-ghost use Rattle.std.specs.Prelude.{◌≡◌, ◌<◌, ◌+◌, ◌^◌, drop, length, Some, All};
+ghost use Rattle.std.specs.Prelude.{◌≡◌, ◌<◌, ◌+◌, drop, length, Some, All};
 ghost use Rattle.lw_io.specs.Waitings.{IsTaken};
 ghost use Rattle.lw_io.specs.Writers.{Writes};
 ghost use Rattle.lw_netlist.specs.Plain.{HasCell, IsOver};
 ghost use Rattle.lw_mapped.specs.Texts.{HasNames, names_of_inputs};
-ghost use Rattle.lw_verilog.specs.Named.{names_in};
+ghost use Rattle.lw_verilog.specs.Named.{names_in, net_limit};
 ghost use Rattle.lw_verilog.specs.Texts.{tie_text, pins_text, instance_name, gate_line, gate_text, gates_text, header_text, verilog_text};
 
 use crate::putting::{
@@ -79,7 +79,7 @@ fn put_gate_of<S: Sink>(
 
 // How many names and gates there are together, and one more.
 fn room(all: &AllNames, gates: &[Gate]) -> u64
-    requires { length all.now.names.now < 2 ^ 32 }
+    requires { length all.now.names.now < net_limit }
     ensures { result
         ≡ length all.now.names.now + length all.now.outputs.now + length gates.now + 1 }
 {
@@ -89,7 +89,7 @@ fn room(all: &AllNames, gates: &[Gate]) -> u64
 fn put_gates<S: Sink>(out: &mut Writer<'_, S>, all: &AllNames, lib: &Library, gates: &[Gate])
     requires over { All (HasCell lib.now) gates.now }
     requires named { All (HasNames all.now.names.now) gates.now }
-    requires few { length all.now.names.now < 2 ^ 32 }
+    requires few { length all.now.names.now < net_limit }
     ensures { Writes S.taken S.faults out.old out.new (gates_text lib.now all.now.names.now
         (names_in all.now) (length (names_in all.now)) 1 gates.now) }
 {

@@ -1,12 +1,12 @@
 use Rattle.std.proofs.Common.{suc, ◌≡◌, ◌<◌, ◌||◌, false, [], length, set, get_or, ap, sym, ◌∙◌, subst, arith}
 use Rattle.std.specs.Str.{bytes_eq}
 use Rattle.std.proofs.lemmas.List.{get_or_default}
-use Rattle.lw_verilog.specs.Chains.{name_at}
+use Rattle.lw_verilog.specs.Chains.{known_width, name_at}
 use Rattle.lw_verilog.proofs.Chains.{IsWalked, bucket_low, walked-all, walked-first, walked-more}
 use Rattle.lw_verilog.proofs.known.mark_equal.Goals as goal
 
 pub places-init : goal.places-init
-places-init c = walked-first c.args.names.now c.args.heads.now c.args.next.now c.args.name.now c.bucket_of.result c.args.flags.now c.requires.chained.chains c.bucket_of.ensures (subst (λ b. b < 32768) (sym c.bucket_of.ensures) (bucket_low c.args.name.now)) c.requires.one_each
+places-init c = walked-first c.args.names.now c.args.heads.now c.args.next.now c.args.name.now c.bucket_of.result c.args.flags.now c.requires.chained.chains c.bucket_of.ensures (subst (λ b. b < known_width) (sym c.bucket_of.ensures) (bucket_low c.args.name.now)) c.requires.one_each
 
 pub places-preserved : goal.places-preserved
 places-preserved c =
