@@ -17,8 +17,10 @@ use Rattle.lw_mapped.specs.declared.fault.MappedKind.{MappedKind}
 use Rattle.lw_mapped.specs.declared.fault.MappedKind.TheVariants as kind
 use Rattle.lw_mapped.specs.declared.saying.Saying.{Saying}
 use Rattle.lw_mapped.specs.declared.saying.Saying.TheVariants as saying
+use Rattle.lw_mapped.specs.Closings.{HasFewGates}
 use Rattle.lw_mapped.specs.Commands.{command_of, point_command, port_command, other_command}
 use Rattle.lw_mapped.specs.GateLines.{is_equals, formal_of, actual_of, is_tie, ties_fault, gate_of}
+use Rattle.lw_mapped.specs.Limits.{gate_weight}
 use Rattle.lw_mapped.specs.Said.{gates_in}
 use Rattle.lw_mapped.specs.Sayings.{said, words_say, gate_says, gate_says_in, gate_says_at}
 use Rattle.lw_mapped.specs.LineFaults.{line_says, lines_say, lines_read, what_is_said, goes_on, ends}
@@ -102,13 +104,13 @@ tie-long word e =
 -- A line.
 
 abbrev few_gates : Result Saying MappedKind → ℕ → Type 0
-few_gates result n = 12 * length (flat_map gates_in (what_is_said result)) ≤ n
+few_gates result n = gate_weight * length (flat_map gates_in (what_is_said result)) ≤ n
 
-weigh-said : (cell : CellParts) (number : ℕ) (ties : List (List ℕ)) (n : ℕ) → (ties_fault cell ties ≡ None → 12 ≤ n) → (o : Option MappedKind) → ties_fault cell ties ≡ o → few_gates (said o (saying.Gate (gate_of number cell ties))) n
+weigh-said : (cell : CellParts) (number : ℕ) (ties : List (List ℕ)) (n : ℕ) → (ties_fault cell ties ≡ None → gate_weight ≤ n) → (o : Option MappedKind) → ties_fault cell ties ≡ o → few_gates (said o (saying.Gate (gate_of number cell ties))) n
 weigh-said cell number ties n some None e = some e
 weigh-said cell number ties n some (Some k) e = omega arith
 
-weigh-in : (cells : List CellParts) (ties : List (List ℕ)) (n : ℕ) (o : Option ℕ) → ((cell : CellParts) → ties_fault cell ties ≡ None → 12 ≤ n) → few_gates (gate_says_in cells ties o) n
+weigh-in : (cells : List CellParts) (ties : List (List ℕ)) (n : ℕ) (o : Option ℕ) → ((cell : CellParts) → ties_fault cell ties ≡ None → gate_weight ≤ n) → few_gates (gate_says_in cells ties o) n
 weigh-in cells ties n None some = omega arith
 weigh-in cells ties n (Some number) some = by_cell (slice_get cells number)
   where
@@ -123,7 +125,7 @@ weigh-gate cells lib word (name ∷ tie ∷ ties) five =
     let long : nat_lt (length (name ∷ tie ∷ ties)) 2 ≡ false = grind (arith, nat_tests) in
     subst (λ b. few_gates (cond b (Err kind.Shape) (gate_says_in cells (tie ∷ ties) (position (bytes_eq name) (names_of cells)))) (weight (word ∷ name ∷ tie ∷ ties))) (sym long) (by_found (position (bytes_eq name) (names_of cells)) refl)
   where
-    enough : (k : ℕ) → position (bytes_eq name) (names_of cells) ≡ Some k → (cell : CellParts) → ties_fault cell (tie ∷ ties) ≡ None → 12 ≤ weight (word ∷ name ∷ tie ∷ ties)
+    enough : (k : ℕ) → position (bytes_eq name) (names_of cells) ≡ Some k → (cell : CellParts) → ties_fault cell (tie ∷ ties) ≡ None → gate_weight ≤ weight (word ∷ name ∷ tie ∷ ties)
     enough k found cell whole =
         let at = found-some (names_of cells) name k found in
         let some : 0 < length name = subst (λ n. 0 < length n) at.2 (named-some cells at.0 name lib.each at.1) in
@@ -134,15 +136,15 @@ weigh-gate cells lib word (name ∷ tie ∷ ties) five =
     by_found None e = omega arith
     by_found (Some k) e = weigh-in cells (tie ∷ ties) (weight (word ∷ name ∷ tie ∷ ties)) (Some k) (enough k e)
 
-none-weigh : (n : ℕ) → 12 * 0 ≤ n
+none-weigh : (n : ℕ) → gate_weight * 0 ≤ n
 none-weigh n = omega arith
 
 weigh-words : (cells : List CellParts) → IsLibrary cells → (words : List (List ℕ)) → few_gates (words_say cells words) (weight words)
 unfolding words_say
-weigh-words cells lib [] = gates-alone cells (command_of []) [] (λ gs. 12 * length gs ≤ 0) (none-weigh 0) (λ e. let five : 0 ≡ 5 = gate-word [] e in absurd (omega (arith, five)))
-weigh-words cells lib (word ∷ words) = gates-alone cells (command_of word) words (λ gs. 12 * length gs ≤ weight (word ∷ words)) (none-weigh (weight (word ∷ words))) (λ e. weigh-gate cells lib word words (gate-word word e))
+weigh-words cells lib [] = gates-alone cells (command_of []) [] (λ gs. gate_weight * length gs ≤ 0) (none-weigh 0) (λ e. let five : 0 ≡ 5 = gate-word [] e in absurd (omega (arith, five)))
+weigh-words cells lib (word ∷ words) = gates-alone cells (command_of word) words (λ gs. gate_weight * length gs ≤ weight (word ∷ words)) (none-weigh (weight (word ∷ words))) (λ e. weigh-gate cells lib word words (gate-word word e))
 
-weigh-lines : (cells : List CellParts) → IsLibrary cells → (lines : List LogicalLine) → 12 * length (flat_map gates_in (lines_say cells lines)) ≤ lines_weight lines
+weigh-lines : (cells : List CellParts) → IsLibrary cells → (lines : List LogicalLine) → gate_weight * length (flat_map gates_in (lines_say cells lines)) ≤ lines_weight lines
 unfolding lines_say
 weigh-lines cells lib [] = omega arith
 weigh-lines cells lib (line ∷ lines) =
@@ -166,7 +168,7 @@ read-weighs (line ∷ lines) = by_case (ends true (faults.command line)) (front-
     by_case false e = omega (arith, e)
 
 -- The gates of a netlist that was read are bounded by the words of its lines.
-pub few-gates : (cells : List CellParts) (lines : List LogicalLine) (r : Result Mapped MappedFault) → IsLibrary cells → ClosesTo (lines_say cells (lines_read lines)) r → IfOk r (λ mapped. 12 * length mapped.netlist.gates ≤ lines_weight lines)
+pub few-gates : (cells : List CellParts) (lines : List LogicalLine) (r : Result Mapped MappedFault) → IsLibrary cells → ClosesTo (lines_say cells (lines_read lines)) r → IfOk r (HasFewGates lines)
 few-gates cells lines (Ok mapped) lib closes =
     omega (arith, no-more-gates _ mapped.netlist closes.netlist, weigh-lines cells lib (lines_read lines), read-weighs lines)
 few-gates cells lines (Err f) lib closes = tt

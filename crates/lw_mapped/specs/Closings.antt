@@ -11,6 +11,7 @@ use Rattle.lw_mapped.specs.declared.fault.MappedFault.{MappedFault}
 use Rattle.lw_mapped.specs.declared.saying.Saying.{Saying}
 use Rattle.lw_mapped.specs.Fitting.{IsMapped}
 use Rattle.lw_mapped.specs.Keeping.{Keeps}
+use Rattle.lw_mapped.specs.Limits.{gate_weight}
 use Rattle.lw_mapped.specs.Unmapped.{ClosesTo, starts_said}
 
 -- the starts of the inputs, all of them early
@@ -31,4 +32,4 @@ pub record IsReadOver (cells : List CellParts) (mapped : Mapped) : Type 0 where
 
 -- at most a gate for each twelve of the weight of the lines
 abbrev pub HasFewGates : List LogicalLine → Mapped → Type 0
-HasFewGates lines mapped = 12 * length mapped.netlist.gates ≤ lines_weight lines
+HasFewGates lines mapped = gate_weight * length mapped.netlist.gates ≤ lines_weight lines

@@ -1,4 +1,4 @@
--- What labels and words are limited to.
+-- What labels, words and gates are limited to.
 use Rattle.std.specs.Prelude.{ℕ, ◌-◌, ◌^◌}
 
 -- labels have fewer units
@@ -8,3 +8,7 @@ label_units = 2 ^ 43
 -- a reader is given fewer words
 abbrev pub word_limit : ℕ
 word_limit = 2 ^ 32 - 1
+
+-- the words of a gate's line weigh so much or more
+abbrev pub gate_weight : ℕ
+gate_weight = 12
