@@ -8,6 +8,7 @@ use Rattle.lw_netlist.specs.declared.draft.DraftGate.{DraftGate}
 use Rattle.lw_netlist.specs.declared.draft.GateDraft.{GateDraft}
 use Rattle.lw_netlist.specs.declared.draft.Wire.{Wire}
 use Rattle.lw_netlist.specs.Closing.{IsGateDraft, IsOfCell}
+use Rattle.lw_words.specs.Limits.{most_bytes}
 use Rattle.lw_verilog.specs.declared.contents.Contents.{Contents}
 use Rattle.lw_verilog.specs.declared.place.Task.{Task}
 use Rattle.lw_verilog.specs.declared.place.Task.TheVariants as task
@@ -65,7 +66,7 @@ of-all cells [] = none cells
 of-all cells (s ∷ said) = All-append (IsOfCell cells) (gates_in cells s.task s.names) (all_in (gates_in cells) said) (of-task cells s.task s.names) (of-all cells said)
 
 -- A draft of what is read may be closed.
-pub draft-fits : (cells : List CellParts) (text : List ℕ) (c : Contents) (d : GateDraft) → IsParsed cells text c → length text ≤ 67108864 → d ≡ draft_in c → IsGateDraft cells d
+pub draft-fits : (cells : List CellParts) (text : List ℕ) (c : Contents) (d : GateDraft) → IsParsed cells text c → length text ≤ most_bytes → d ≡ draft_in c → IsGateDraft cells d
 draft-fits cells text c d p few e = subst (IsGateDraft cells) (sym e) (record {
   gates = subst (All (IsOfCell cells)) (sym p.keeps.gates) (of-all cells p.reading.said);
   few = omega (arith, p.few, few);

@@ -7,6 +7,11 @@ use Rattle.lw_verilog.specs.Texts.{instance_name}
 abbrev pub width : ℕ
 width = 65536
 
+-- There is a flag for the number: it is one of so many from the base on.
+pub record HasFlag (width base number : ℕ) : Type 0 where
+  pub low : base ≤ number
+  pub high : number < base + width
+
 -- numbers from here on are looked up one by one
 abbrev pub most_flagged : ℕ
 most_flagged = 2 ^ 60

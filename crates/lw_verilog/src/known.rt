@@ -4,7 +4,7 @@ ghost use Rattle.std.specs.Str.{bytes_eq};
 ghost use Rattle.lw_netlist.specs.Closing.{is_among};
 ghost use Rattle.lw_verilog.specs.Chains.{AreChained, HasRoom, bucket_of, known_width, name_at};
 ghost use Rattle.lw_verilog.specs.Named.{Knows};
-ghost use Rattle.lw_verilog.specs.Windows.{Raises};
+ghost use Rattle.lw_verilog.specs.Windows.{HasFlag, Raises};
 ghost use Rattle.lw_netlist.specs.Plain.{port_name};
 
 use lw_netlist::Port;
@@ -138,8 +138,7 @@ impl Known {
         requires place { place < length names.now }
         requires stands { Knows self.old names.now outputs.now }
         ensures stands { Knows self.new names.now outputs.now }
-        ensures low { self.new.base ≤ place }
-        ensures high { place < self.new.base + known_width }
+        ensures reached { HasFlag known_width self.new.base place }
     {
         if self.base <= place && place - self.base < WIDTH {
             return;

@@ -7,7 +7,7 @@ ghost use Rattle.std.specs.Str.Parse.{digits_value};
 ghost use Rattle.lw_netlist.specs.Closing.{is_among};
 ghost use Rattle.lw_verilog.specs.Texts.{begins_u, instance_name, passed};
 ghost use Rattle.lw_verilog.specs.Named.{names_in, Fits};
-ghost use Rattle.lw_verilog.specs.Windows.{AreTaken, IsNumberBy, Raises, most_flagged, number_limit, width};
+ghost use Rattle.lw_verilog.specs.Windows.{AreTaken, HasFlag, IsNumberBy, Raises, most_flagged, number_limit, width};
 ghost use Rattle.lw_netlist.specs.Plain.{port_name};
 
 use crate::putting::is_output;
@@ -162,8 +162,7 @@ impl Taken {
         requires few { number + width ≤ most_flagged }
         requires stands { Fits all.now self.old }
         ensures stands { Fits all.now self.new }
-        ensures low { self.new.base ≤ number }
-        ensures high { number < self.new.base + width }
+        ensures reached { HasFlag width self.new.base number }
     {
         if self.base <= number && number - self.base < WIDTH as u64 {
             return;
