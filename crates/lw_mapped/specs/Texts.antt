@@ -20,6 +20,10 @@ use Rattle.lw_frame.specs.Latches.{latch_line}
 abbrev pub net_name : List (List ℕ) → NetId → List ℕ
 net_name names net = slice_index_or names net.0 []
 
+-- a space and then these bytes
+abbrev pub spaced_word : List ℕ → List ℕ
+spaced_word bytes = 32 ∷ bytes
+
 -- a pin or an output, and its net
 abbrev pub tie : List ℕ → List ℕ → List ℕ
 tie formal net = formal ++ 61 ∷ net
@@ -43,7 +47,7 @@ gate_text cells names gate = gate_line names gate (slice_get cells gate.cell.0)
 
 -- a node that hands a net on to an output
 abbrev pub wire : List ℕ → List ℕ → List ℕ
-wire net output = codes ".names" ++ 32 ∷ net ++ 32 ∷ output ++ codes "\n1 1\n"
+wire net output = codes ".names" ++ spaced_word net ++ spaced_word output ++ codes "\n1 1\n"
 
 -- an output whose net has another name has a wire
 abbrev pub wire_text : List (List ℕ) → Port → List ℕ

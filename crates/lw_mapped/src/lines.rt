@@ -1,7 +1,7 @@
 // Lines of words.
-ghost use Rattle.std.specs.Prelude.{◌≡◌, ◌<◌, ◌∷◌, length, map};
+ghost use Rattle.std.specs.Prelude.{◌≡◌, ◌<◌, length, map};
 ghost use Rattle.lw_frame.specs.Texts.{spaced};
-ghost use Rattle.lw_mapped.specs.Texts.{tie, net_name};
+ghost use Rattle.lw_mapped.specs.Texts.{spaced_word, tie, net_name};
 ghost use Rattle.lw_io.specs.Writers.{Writes};
 ghost use Rattle.lw_words.specs.Texts.{line};
 ghost use Rattle.lw_netlist.specs.Plain.{port_name};
@@ -20,7 +20,7 @@ pub fn name_of(names: &[Name], net: NetId) -> &[u8]
 
 // A space and a word.
 pub(crate) fn put_word<S: Sink>(out: &mut Writer<'_, S>, word: &[u8])
-    ensures { Writes S.taken S.faults out.old out.new (32 ∷ word.now) }
+    ensures { Writes S.taken S.faults out.old out.new (spaced_word word.now) }
 {
     out.put(b" ");
     out.put(word);
@@ -45,7 +45,7 @@ pub(crate) fn put_line<S: Sink>(out: &mut Writer<'_, S>, first: &[u8], others: &
 
 // A space, and a pin or an output with its net.
 pub(crate) fn put_tie<S: Sink>(out: &mut Writer<'_, S>, formal: &[u8], net: &[u8])
-    ensures { Writes S.taken S.faults out.old out.new (32 ∷ tie formal.now net.now) }
+    ensures { Writes S.taken S.faults out.old out.new (spaced_word (tie formal.now net.now)) }
 {
     put_word(out, formal);
     out.put(b"=");
