@@ -14,9 +14,13 @@ use Rattle.lw_mapped.specs.Texts.{net_name, names_of_inputs, names_of_outputs}
 abbrev pub escaped : List ℕ → List ℕ
 escaped name = 92 ∷ name ++ 32 ∷ []
 
+-- a further name of a list: a comma, a space and the name
+abbrev pub next_name : List ℕ → List ℕ
+next_name name = 44 ∷ 32 ∷ escaped name
+
 -- further names of a list
 abbrev pub further : List (List ℕ) → List ℕ
-further names = flat_map (λ name. 44 ∷ 32 ∷ escaped name) names
+further names = flat_map (λ name. next_name name) names
 
 -- names with commas between
 abbrev pub joined : List (List ℕ) → List ℕ

@@ -4,7 +4,7 @@ ghost use Rattle.std.specs.List.{flat_map, list_any};
 ghost use Rattle.std.specs.Str.{bytes_eq};
 ghost use Rattle.lw_netlist.specs.Closing.{is_among};
 ghost use Rattle.lw_io.specs.Writers.{Writes};
-ghost use Rattle.lw_verilog.specs.Texts.{escaped, further, joined, declaration, wire_text, assignment, assignment_text};
+ghost use Rattle.lw_verilog.specs.Texts.{escaped, further, joined, next_name, declaration, wire_text, assignment, assignment_text};
 ghost use Rattle.lw_netlist.specs.Plain.{port_name};
 
 use crate::known::Known;
@@ -23,7 +23,7 @@ pub(crate) fn put_escaped<S: Sink>(out: &mut Writer<'_, S>, name: &[u8])
 
 // A further name of a list.
 fn put_next<S: Sink>(out: &mut Writer<'_, S>, name: &[u8])
-    ensures { Writes S.taken S.faults out.old out.new (44 ∷ 32 ∷ escaped name.now) }
+    ensures { Writes S.taken S.faults out.old out.new (next_name name.now) }
 {
     out.put(b", ");
     put_escaped(out, name);
