@@ -7,6 +7,23 @@ use Rattle.lw_verilog.specs.declared.kind.Kind.TheVariants as kind
 use Rattle.lw_verilog.specs.declared.kind.Piece.{Piece}
 use Rattle.lw_words.specs.Lines.{is_line_feed}
 
+-- the backslash before an escaped name
+abbrev pub stroke : ℕ
+stroke = 92
+
+-- the bytes that comments begin and end with
+abbrev pub slash : ℕ
+slash = 47
+
+abbrev pub star : ℕ
+star = 42
+
+abbrev pub open_bracket : ℕ
+open_bracket = 40
+
+abbrev pub close_bracket : ℕ
+close_bracket = 41
+
 -- a byte of the text, and 0 behind its end
 abbrev pub byte_at : List ℕ → ℕ → ℕ
 byte_at bytes i = slice_index_or bytes i 0
@@ -62,8 +79,8 @@ word_kind word =
 -- the signs, and bytes with which no token begins
 unfoldable pub sign_kind : ℕ → Kind
 sign_kind b =
-    if b == 40 then kind.Open
-    else (if b == 41 then kind.Close
+    if b == open_bracket then kind.Open
+    else (if b == close_bracket then kind.Close
     else (if b == 44 then kind.Comma
     else (if b == 59 then kind.Semicolon
     else (if b == 46 then kind.Point
@@ -87,9 +104,9 @@ word bytes n = piece (word_kind (take n bytes)) n
 -- what begins with a slash or an opening bracket is a comment, or else a sign
 unfoldable pub comment_or_sign : List ℕ → Piece
 comment_or_sign bytes =
-    if byte_at bytes 0 == 47 && byte_at bytes 1 == 47 then piece kind.Gap (2 + line_bytes (drop 2 bytes))
-    else (if byte_at bytes 0 == 47 && byte_at bytes 1 == 42 then closed (drop 2 bytes) (before_pair 42 47 (drop 2 bytes))
-    else (if byte_at bytes 0 == 40 && byte_at bytes 1 == 42 then closed (drop 2 bytes) (before_pair 42 41 (drop 2 bytes))
+    if byte_at bytes 0 == slash && byte_at bytes 1 == slash then piece kind.Gap (2 + line_bytes (drop 2 bytes))
+    else (if byte_at bytes 0 == slash && byte_at bytes 1 == star then closed (drop 2 bytes) (before_pair star slash (drop 2 bytes))
+    else (if byte_at bytes 0 == open_bracket && byte_at bytes 1 == star then closed (drop 2 bytes) (before_pair star close_bracket (drop 2 bytes))
     else piece (sign_kind (byte_at bytes 0)) 1))
 
 -- The piece with which a text begins.
@@ -97,5 +114,5 @@ unfoldable pub first_piece : List ℕ → Piece
 first_piece bytes =
     if length bytes == 0 then piece kind.End 0
     else (if is_separator (byte_at bytes 0) then piece kind.Gap (1 + separators (drop 1 bytes))
-    else (if byte_at bytes 0 == 92 then escaped (visibles (drop 1 bytes))
+    else (if byte_at bytes 0 == stroke then escaped (visibles (drop 1 bytes))
     else (if begins_name (byte_at bytes 0) then word bytes (1 + name_bytes (drop 1 bytes)) else comment_or_sign bytes)))

@@ -8,11 +8,12 @@ use Rattle.lw_netlist.specs.declared.gate.Gate.{Gate}
 use Rattle.lw_netlist.specs.declared.gate.Port.{Port}
 use Rattle.lw_netlist.specs.Closing.{is_among}
 use Rattle.lw_netlist.specs.Netlists.{NetlistParts}
+use Rattle.lw_verilog.specs.Pieces.{stroke}
 use Rattle.lw_mapped.specs.Texts.{net_name, names_of_inputs, names_of_outputs}
 
 -- a name: a backslash, its bytes and a space
 abbrev pub escaped : List ℕ → List ℕ
-escaped name = 92 ∷ name ++ 32 ∷ []
+escaped name = stroke ∷ name ++ 32 ∷ []
 
 -- a further name of a list: a comma, a space and the name
 abbrev pub next_name : List ℕ → List ℕ
@@ -49,12 +50,16 @@ pins_text names [] nets = []
 pins_text names (pin ∷ pins) [] = []
 pins_text names (pin ∷ pins) (net ∷ nets) = (tie_text pin (net_name names net) ++ 44 ∷ 32 ∷ []) ++ pins_text names pins nets
 
+-- the first byte of each name of an instance
+abbrev pub letter_u : ℕ
+letter_u = 117
+
 abbrev pub instance_name : ℕ → List ℕ
-instance_name number = 117 ∷ decimal number
+instance_name number = letter_u ∷ decimal number
 
 -- a name that begins as those of instances do
 abbrev pub begins_u : List ℕ → Bool
-begins_u name = slice_index_or name 0 0 == 117
+begins_u name = slice_index_or name 0 0 == letter_u
 
 abbrev pub gate_line : List (List ℕ) → ℕ → Gate → Option CellParts → List ℕ
 gate_line names number gate None = []

@@ -3,7 +3,7 @@ use Rattle.std.specs.Prelude.{ℕ, zero, suc, ◌+◌, ◌-◌, ◌^◌, ◌≡�
 use Rattle.lw_verilog.specs.declared.kind.Kind.{Kind}
 use Rattle.lw_verilog.specs.declared.kind.Kind.TheVariants as kind
 use Rattle.lw_verilog.specs.declared.kind.Piece.{Piece}
-use Rattle.lw_verilog.specs.Pieces.{byte_at, first_piece}
+use Rattle.lw_verilog.specs.Pieces.{byte_at, first_piece, stroke}
 use Rattle.lw_words.specs.Lines.{is_line_feed}
 
 -- what a token is, its name, and the line in which it begins
@@ -47,7 +47,7 @@ last_line text = 1 + line_feeds (take (length text - 1) text)
 
 -- a name without the backslash before it
 abbrev pub name_of : List ℕ → List ℕ
-name_of bytes = if byte_at bytes 0 == 92 then drop 1 bytes else bytes
+name_of bytes = if byte_at bytes 0 == stroke then drop 1 bytes else bytes
 
 -- the token of a piece in this line; the end of the text is in the last one
 abbrev pub token : ℕ → ℕ → Piece → List ℕ → Token
