@@ -11,8 +11,12 @@ use Rattle.lw_words.specs.Words.{is_among, is_name}
 
 -- Words `FORMAL=ACTUAL`.
 
+-- the sign between the two
+abbrev pub equals_sign : ℕ
+equals_sign = 61
+
 abbrev pub is_equals : ℕ → Bool
-is_equals b = b == 61
+is_equals b = b == equals_sign
 
 -- the pin or the output, which ends at the first `=`
 abbrev pub formal_of : List ℕ → List ℕ

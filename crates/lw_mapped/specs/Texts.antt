@@ -13,6 +13,7 @@ use Rattle.lw_netlist.specs.declared.gate.Gate.{Gate}
 use Rattle.lw_netlist.specs.declared.gate.Port.{Port}
 use Rattle.lw_netlist.specs.Netlists.{NetlistParts}
 use Rattle.lw_mapped.specs.declared.certificate.Certificate.{Certificate}
+use Rattle.lw_mapped.specs.GateLines.{equals_sign}
 use Rattle.lw_words.specs.Texts.{line}
 use Rattle.lw_netlist.specs.Plain.{IsOver, port_name}
 use Rattle.lw_frame.specs.Latches.{latch_line}
@@ -26,7 +27,7 @@ spaced_word bytes = 32 ∷ bytes
 
 -- a pin or an output, and its net
 abbrev pub tie : List ℕ → List ℕ → List ℕ
-tie formal net = formal ++ 61 ∷ net
+tie formal net = formal ++ equals_sign ∷ net
 
 -- the pins and their nets
 abbrev pub ties : List (List ℕ) → List (List ℕ) → List NetId → List (List ℕ)
