@@ -5,7 +5,7 @@ use std::alloc::AllocError;
 pub enum GraphFault {
     /// There are more than 16,777,216 splits.
     Limit,
-    /// Want of memory.
+    /// Out of memory.
     Memory,
 }
 

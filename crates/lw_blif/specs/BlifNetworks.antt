@@ -16,19 +16,19 @@ use Rattle.lw_blif.specs.declared.fault.BlifFault.TheVariants as fault
 use Rattle.lw_blif.specs.LineFaults.{FaultAt, first_fault, lines_read}
 use Rattle.lw_blif.specs.Drafts.{draft_of, frame_on, starts_on}
 
--- the fault of a network as a whole, or want of memory
+-- the fault of a network as a whole, or that memory ran out
 abbrev pub whole_fault : NetFault → BlifFault
 whole_fault whole.Memory = fault.Memory
 whole_fault other = fault.Whole other
 
--- The line is told. Want of memory is free.
+-- The line is told. Running out of memory is always allowed.
 abbrev pub TellsLine : FaultAt → Result Parsed BlifFault → Type 0
 TellsLine first (Ok model) = ⊥
 TellsLine first (Err (fault.Line number kind)) = first ≡ record { number = number; kind = kind }
 TellsLine first (Err (fault.Whole other)) = ⊥
 TellsLine first (Err fault.Memory) = ⊤
 
--- The fault of the whole, which is never want of memory.
+-- The fault of the whole, which is never that memory ran out.
 abbrev pub HasWholeFault : Draft → NetFault → Type 0
 HasWholeFault draft (whole.Undefined name) = HasFault draft (whole.Undefined name)
 HasWholeFault draft (whole.Cycle name) = HasFault draft (whole.Cycle name)
@@ -40,7 +40,7 @@ pub record IsModelOf (lines : List LogicalLine) (model : Parsed) : Type 0 where
   pub frame : model.frame ≡ frame_on lines
   pub starts : model.starts ≡ starts_on lines
 
--- The model of the lines, or the fault of the whole. Want of memory is free.
+-- The model of the lines, or the fault of the whole. Running out of memory is always allowed.
 abbrev pub ClosesTo : List LogicalLine → Result Parsed BlifFault → Type 0
 ClosesTo lines (Ok model) = IsModelOf lines model
 ClosesTo lines (Err (fault.Line number kind)) = ⊥

@@ -8,7 +8,7 @@ use Rattle.lw_blif.specs.LineFaults.{FaultAt, first_fault, lines_read, has_ended
 use Rattle.lw_blif.specs.Keeping.{Keeps}
 use Rattle.lw_frame.specs.Ending.{is_first}
 
--- The reader stopped at this first fault. Want of memory is free.
+-- The reader stopped at this first fault. Running out of memory is always allowed.
 abbrev pub Stops : Option Stop → Option FaultAt → Type 0
 Stops None first = first ≡ None
 Stops (Some (why.Broken number kind)) first = first ≡ Some (record { number = number; kind = kind })

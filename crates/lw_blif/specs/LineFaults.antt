@@ -142,6 +142,10 @@ differs_from words rows = list_any (λ other. not (bytes_eq (last_word other.wor
 abbrev pub most_rows : ℕ
 most_rows = 4096
 
+-- the most fan-ins of a node
+abbrev pub most_fanins : ℕ
+most_fanins = 256
+
 -- a test, and the kind of the rule that is broken where it is true
 pub record Rule : Type 0 where
   pub broken : Bool
@@ -163,7 +167,7 @@ row_rules node rows words =
 abbrev pub name_rules : List (List ℕ) → Command → List (List ℕ) → List Rule
 name_rules defined c words =
     record { broken = not (list_all is_name (names_for c words)); kind = kind.BadName }
-    ∷ record { broken = is_names_command c && nat_lt 256 (length (words_before_last (other_words words))); kind = kind.LimitFanin }
+    ∷ record { broken = is_names_command c && nat_lt most_fanins (length (words_before_last (other_words words))); kind = kind.LimitFanin }
     ∷ record { broken = nat_lt most_signals (length defined + length (defined_for c words)); kind = kind.LimitSignals }
     ∷ record { broken = has_twice (defined_for c words) || list_any (is_among defined) (defined_for c words); kind = kind.Redefined } ∷ []
 

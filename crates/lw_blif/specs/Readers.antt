@@ -5,7 +5,7 @@ use Rattle.lw_net.specs.declared.draft.DraftNode.{DraftNode}
 use Rattle.lw_words.specs.Lines.{LogicalLine, has_some}
 use Rattle.lw_blif.specs.declared.fault.BlifKind.{BlifKind}
 use Rattle.lw_blif.specs.declared.fault.BlifKind.TheVariants as kind
-use Rattle.lw_blif.specs.LineFaults.{most_rows, defined_by, last_word, has_shape, nearest, rows_before, node_before, wants_words, names_for, defined_for, is_names_command, words_before_last, other_words, times_for, start_in}
+use Rattle.lw_blif.specs.LineFaults.{most_rows, most_fanins, defined_by, last_word, has_shape, nearest, rows_before, node_before, wants_words, names_for, defined_for, is_names_command, words_before_last, other_words, times_for, start_in}
 use Rattle.lw_blif.specs.declared.command.Command.{Command}
 use Rattle.std.specs.List.{list_all, flat_map}
 use Rattle.lw_blif.specs.Drafts.{nodes_of, node_of, columns_of, model_on, inputs_on, outputs_on, latches_on, arrivals_on}
@@ -54,7 +54,7 @@ unfoldable pub names_fault_of : ℕ → Command → List (List ℕ) → Option B
 names_fault_of count c words =
     if not (wants_words c words) then Some kind.WordCount
     else (if not (list_all is_name (names_for c words)) then Some kind.BadName
-    else (if is_names_command c && nat_lt 256 (length (words_before_last (other_words words))) then Some kind.LimitFanin
+    else (if is_names_command c && nat_lt most_fanins (length (words_before_last (other_words words))) then Some kind.LimitFanin
     else (if nat_lt most_signals (count + length (defined_for c words)) then Some kind.LimitSignals else None)))
 
 -- a decimal's fault as a rule that is broken

@@ -17,7 +17,7 @@ abbrev pub fault_of : Stop → BlifFault
 fault_of (stop.Broken number kind) = fault.Line number kind
 fault_of stop.Memory = fault.Memory
 
--- The answer tells the first fault. Want of memory is free.
+-- The answer tells the first fault. Running out of memory is always allowed.
 abbrev pub Tells : Result (Unit {0}) BlifFault → Option FaultAt → Type 0
 Tells (Ok u) first = first ≡ None
 Tells (Err (fault.Line number kind)) first = first ≡ Some (record { number = number; kind = kind })

@@ -63,7 +63,7 @@ fn with_outputs(alloc: Global, inputs: Names, latches: &[Latch]) -> Result<Names
     Ok(names)
 }
 
-// A count of names. More than there is room for are taken for want of memory.
+// A count of names. More than there is room for count as out of memory.
 fn count(names: usize) -> Result<u32, AllocError>
     ensures { IfOk result (λ n. n ≡ names) }
 {

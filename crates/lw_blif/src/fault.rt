@@ -47,7 +47,7 @@ pub enum BlifFault {
     /// memory.
     #[error("network")]
     Whole(NetFault),
-    /// Want of memory.
+    /// Out of memory.
     #[error("out of memory")]
     Memory,
 }

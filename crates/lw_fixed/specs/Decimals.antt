@@ -1,11 +1,23 @@
 -- What a text means as a decimal: a number of millionths, or the first rule that it breaks.
-use Rattle.std.specs.Prelude.{ℕ, ◌+◌, ◌*◌, Bool, not, ◌&&◌, ◌||◌, ◌==◌, nat_lt, nat_le, nat_eq, List, [], ◌∷◌, ◌++◌, length, take, drop, replicate, Result, Ok, Err, if◌then◌else◌, codes}
+use Rattle.std.specs.Prelude.{ℕ, ◌+◌, ◌*◌, ◌^◌, Bool, not, ◌&&◌, ◌||◌, ◌==◌, nat_lt, nat_le, nat_eq, List, [], ◌∷◌, ◌++◌, length, take, drop, replicate, Result, Ok, Err, if◌then◌else◌, codes}
 use Rattle.std.specs.List.{before_first, after_first, list_all, list_any, starts_with}
 use Rattle.std.specs.Char.{is_ascii_digit}
 use Rattle.std.specs.Str.Parse.{digits_value}
 use Rattle.lw_fixed.specs.declared.micro.Micro.{Micro}
 use Rattle.lw_fixed.specs.declared.fault.DecimalFault.{DecimalFault}
 use Rattle.lw_fixed.specs.declared.fault.DecimalFault.TheVariants.{Shape, Large, Fine, Negative}
+
+-- a unit, in millionths
+abbrev pub one_unit : ℕ
+one_unit = 1000000
+
+-- what is read has fewer units than a limit, which is at most this
+abbrev pub most_units : ℕ
+most_units = 2 ^ 43
+
+-- an area, a delay or a time that is given has fewer units
+abbrev pub given_units : ℕ
+given_units = 1000000
 
 abbrev pub is_point : ℕ → Bool
 is_point b = b == 46
@@ -40,7 +52,7 @@ unfoldable pub value_of_decimals : List ℕ → ℕ
 value_of_decimals part = digits_value 10 (take 6 (part ++ replicate 6 48))
 
 abbrev pub millionths_of : List ℕ → ℕ
-millionths_of text = 1000000 * units_of text + value_of_decimals (decimals text)
+millionths_of text = one_unit * units_of text + value_of_decimals (decimals text)
 
 -- a digit other than 0 stands past the sixth decimal
 abbrev pub is_finer : List ℕ → Bool

@@ -1,4 +1,4 @@
-ghost use Rattle.std.specs.Prelude.{◌≡◌, ◌≤◌, ◌<◌, ◌^◌, min, IsTrue, slice_index, ◌++◌, replicate};
+ghost use Rattle.std.specs.Prelude.{◌≡◌, ◌≤◌, ◌<◌, min, IsTrue, slice_index, ◌++◌, replicate};
 ghost use Rattle.std.specs.List.{list_all};
 ghost use Rattle.std.specs.Char.{is_ascii_digit};
 ghost use Rattle.std.specs.Str.Parse.{digits_value};
@@ -21,7 +21,7 @@ pub fn are_digits(bytes: &[u8]) -> bool
 /// The value of the digits, or the cap where it is greater.
 pub(crate) fn capped_value(digits: &[u8], cap: u64) -> u64
     requires digits { IsTrue (list_all is_ascii_digit digits.now) }
-    requires limit { cap ≤ 2 ^ 43 }
+    requires limit { cap ≤ decimal.most_units }
     ensures { result ≡ min (digits_value 10 digits.now) cap }
 {
     let mut value = 0;
@@ -42,7 +42,7 @@ pub(crate) fn is_finer(decimals: &[u8]) -> bool
 pub(crate) fn value_of_decimals(decimals: &[u8]) -> u64
     requires { IsTrue (list_all is_ascii_digit decimals.now) }
     ensures value { result ≡ decimal.value_of_decimals decimals.now }
-    ensures below_one { result < 1000000 }
+    ensures below_one { result < decimal.one_unit }
 {
     let mut value = 0;
     for place in 0..6 {

@@ -1,11 +1,11 @@
 ghost use Rattle.std.specs.Prelude.{◌≡◌, ◌≤◌, ◌+◌, ◌-◌, ◌/◌, ◌%◌, ◌==◌, ◌∷◌, ◌++◌, take, drop, length, decimal};
 ghost use Rattle.std.specs.List.{suffix_len};
+ghost use Rattle.lw_fixed.specs.Decimals.{one_unit};
 ghost use Rattle.lw_fixed.specs.Printed.{decimal_text, six_decimals};
 
 use crate::Micro;
+use crate::micro::UNIT;
 use itoa::write_digits;
-
-const UNIT: u64 = 1_000_000;
 
 /// Writes the value to the front of `out`, and tells the length of the text: the whole part without
 /// leading zeros, and where the rest is not 0, a point and the decimals without trailing zeros.
@@ -25,9 +25,9 @@ pub fn print(value: Micro, out: &mut [u8; 21]) -> usize
 // Writes the whole part, the point and six decimals to the end of `text`, and tells where they
 // start.
 fn write_in_full(value: u64, text: &mut [u8; 21]) -> usize
-    ensures start { result + length (decimal (value / 1000000)) ≡ 14 }
-    ensures text { drop result text.new ≡ decimal (value / 1000000) ++ 46
-        ∷ six_decimals (value % 1000000) }
+    ensures start { result + length (decimal (value / one_unit)) ≡ 14 }
+    ensures text { drop result text.new ≡ decimal (value / one_unit) ++ 46
+        ∷ six_decimals (value % one_unit) }
 {
     write_digits(UNIT + value % UNIT, text, 21);
     text[14] = b'.';

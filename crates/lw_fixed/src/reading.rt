@@ -1,8 +1,9 @@
-ghost use Rattle.std.specs.Prelude.{◌≡◌, ◌≤◌, ◌<◌, ◌*◌, ◌^◌, ◌&&◌, nat_lt, length, IfOk};
+ghost use Rattle.std.specs.Prelude.{◌≡◌, ◌≤◌, ◌<◌, ◌*◌, ◌&&◌, nat_lt, length, IfOk};
 ghost use Rattle.std.specs.List.{before_first, after_first, position, position_or_len};
-ghost use Rattle.lw_fixed.specs.Decimals.{decimal_of, is_negative, without_sign, is_point};
+ghost use Rattle.lw_fixed.specs.Decimals.{one_unit, most_units, decimal_of, is_negative, without_sign, is_point};
 
 use crate::digits::{capped_value, has_digits, is_finer, value_of_decimals};
+use crate::micro::UNIT;
 use crate::{DecimalFault, Micro};
 
 /// Reads a decimal: an optional `+` or `-`, then digits with at most one point and at least one
@@ -10,9 +11,9 @@ use crate::{DecimalFault, Micro};
 /// follows a `-` must be 0. A text may be of any length.
 pub fn read(text: &[u8], units: u64) -> Result<Micro, DecimalFault>
     requires some { 1 ≤ units }
-    requires limit { units ≤ 2 ^ 43 }
+    requires limit { units ≤ most_units }
     ensures value { result ≡ decimal_of text.now units }
-    ensures below { IfOk result (λ value. value.0 < units * 1000000) }
+    ensures below { IfOk result (λ value. value.0 < units * one_unit) }
 {
     let (whole, decimals) = around_point(after_sign(text));
     if !has_digits(whole, decimals) {
@@ -25,7 +26,7 @@ pub fn read(text: &[u8], units: u64) -> Result<Micro, DecimalFault>
     if is_finer(decimals) {
         return Err(DecimalFault::Fine);
     }
-    let millionths = whole * 1_000_000 + value_of_decimals(decimals);
+    let millionths = whole * UNIT + value_of_decimals(decimals);
     if is_below_zero(text, millionths) {
         return Err(DecimalFault::Negative);
     }

@@ -63,7 +63,7 @@ bases_after [] bases = bases
 bases_after (add_of f ∷ steps) bases = bases_after steps (add_form f bases)
 bases_after (parts_of fs ∷ steps) bases = bases_after steps (append_parts (sublists fs) bases)
 
--- a fault is want of memory, or the list is too long
+-- a fault is that memory ran out, or that the list is too long
 abbrev pub IsTooLong : List Form → FormFault → Type 0
 IsTooLong bases Limit = most_bases < length bases
 IsTooLong bases Memory = Unit {0}

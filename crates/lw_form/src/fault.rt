@@ -5,7 +5,7 @@ use std::alloc::AllocError;
 pub enum FormFault {
     /// More than 2,097,152 base forms occur.
     Limit,
-    /// Want of memory.
+    /// Out of memory.
     Memory,
 }
 

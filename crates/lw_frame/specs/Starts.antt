@@ -3,7 +3,7 @@ use Rattle.std.specs.Prelude.{ℕ, ◌≡◌, ◌*◌, ◌<◌, max, Bool, true,
 use Rattle.std.specs.Str.{bytes_eq}
 use Rattle.lw_fixed.specs.declared.micro.Micro.{Micro}
 use Rattle.lw_fixed.specs.declared.fault.DecimalFault.{DecimalFault}
-use Rattle.lw_fixed.specs.Decimals.{decimal_of}
+use Rattle.lw_fixed.specs.Decimals.{one_unit, given_units, decimal_of}
 use Rattle.lw_pool.specs.declared.latch.Frame.{Frame}
 
 -- What an arrival line says: the start of the input of this name, or, without a name, that of each input that has no line of its own.
@@ -21,7 +21,7 @@ start_at (Err fault) fall = Err fault
 
 -- The start that the words for the rise and for the fall say, in decimals of fewer than a million units, or the first fault of the two.
 unfoldable pub start_said : List ℕ → List ℕ → Result Micro DecimalFault
-start_said rise fall = start_at (decimal_of rise 1000000) (decimal_of fall 1000000)
+start_said rise fall = start_at (decimal_of rise given_units) (decimal_of fall given_units)
 
 -- Starts.
 
@@ -54,7 +54,7 @@ starts_of arrivals inputs latches = map (start_of arrivals) inputs ++ replicate 
 
 -- below a million units
 abbrev pub IsEarly : Micro → Type 0
-IsEarly start = start.0 < 1000000 * 1000000
+IsEarly start = start.0 < given_units * one_unit
 
 -- The starts fit the frame of a combinational part with so many inputs.
 pub record StartsFit (frame : Frame) (inputs : ℕ) (starts : List Micro) : Type 0 where

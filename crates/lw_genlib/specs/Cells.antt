@@ -1,9 +1,10 @@
 -- Cells and libraries: what they are seen as, and what their types keep.
-use Rattle.std.specs.Prelude.{ℕ, ◌*◌, ◌<◌, ◌≤◌, ◌≡◌, ◌==◌, Bool, not, ◌||◌, false, IsTrue, List, [], ◌∷◌, length, map, sum_by, All, Contains}
+use Rattle.std.specs.Prelude.{ℕ, ◌+◌, ◌*◌, ◌<◌, ◌≤◌, ◌≡◌, ◌==◌, Bool, not, ◌||◌, false, IsTrue, List, [], ◌∷◌, length, map, sum_by, All, Contains}
 use Rattle.std.specs.List.{IsDistinct, list_all, list_any}
 use Rattle.std.specs.Str.{bytes_eq}
 use Rattle.std.specs.Global.{Vec}
 use Rattle.lw_fixed.specs.declared.micro.Micro.{Micro}
+use Rattle.lw_fixed.specs.Decimals.{one_unit, given_units}
 use Rattle.lw_laws.specs.Expressions.{Expr, expr_value}
 use Rattle.lw_laws.specs.Networks.{given}
 use Rattle.lw_genlib.specs.Postfix.{literals, IsWide, IsOver, first_expr}
@@ -66,6 +67,10 @@ ends_in_stroke (b ∷ next ∷ bytes) = ends_in_stroke (next ∷ bytes)
 abbrev pub longest_function : ℕ
 longest_function = 2048
 
+-- a blank is counted before each word, and the first is no byte of the text
+abbrev pub function_room : ℕ
+function_room = longest_function + 1
+
 -- the most entries of a library
 abbrev pub most_entries : ℕ
 most_entries = 4096
@@ -80,7 +85,7 @@ pub record IsPinName (name : List ℕ) : Type 0 where
 
 -- below a million units
 abbrev pub IsSmall : Micro → Type 0
-IsSmall m = m.0 < 1000000 * 1000000
+IsSmall m = m.0 < given_units * one_unit
 
 abbrev pub form_count : CellParts → ℕ
 form_count cell = length cell.forms

@@ -5,7 +5,8 @@ use Rattle.std.specs.Str.{bytes_eq}
 use Rattle.std.specs.Char.{is_ascii_digit}
 use Rattle.lw_fixed.specs.declared.micro.Micro.{Micro}
 use Rattle.lw_fixed.specs.declared.fault.DecimalFault.{DecimalFault}
-use Rattle.lw_fixed.specs.Decimals.{decimal_of}
+use Rattle.lw_fixed.specs.Decimals.{given_units, decimal_of}
+use Rattle.lw_genlib.specs.Cells.{function_room}
 use Rattle.lw_genlib.specs.declared.token.Token.{Token}
 use Rattle.lw_genlib.specs.declared.token.Token.TheVariants.{Punct}
 use Rattle.lw_genlib.specs.declared.fault.LibKind.{LibKind}
@@ -39,7 +40,7 @@ in_library (Err fault) = Err (Decimal fault)
 
 -- a number below a million
 abbrev pub number_of : List ℕ → Result Micro LibKind
-number_of bytes = in_library (decimal_of bytes 1000000)
+number_of bytes = in_library (decimal_of bytes given_units)
 
 -- a word that is not used begins like a number
 abbrev pub is_like_number : List ℕ → Bool
@@ -60,9 +61,9 @@ pub record FunctionText : Type 0 where
   pub lines : List ℕ
   pub room : ℕ
 
--- The blank before the first word is no byte of the text, which has at most 2,048.
+-- no words
 abbrev pub no_text : FunctionText
-no_text = record { tokens = []; lines = []; room = 2049 }
+no_text = record { tokens = []; lines = []; room = function_room }
 
 -- one more word, or a part of one
 abbrev pub with_word : FunctionText → ℕ → List ℕ → FunctionText

@@ -6,7 +6,7 @@ use Rattle.lw_fixed.specs.declared.micro.Micro.{Micro}
 use Rattle.lw_laws.specs.Expressions.{Expr}
 use Rattle.lw_genlib.specs.declared.token.Token.{Token}
 use Rattle.lw_genlib.specs.declared.token.Token.TheVariants.{Name, Punct}
-use Rattle.lw_genlib.specs.Cells.{CellParts, IsWord, IsPart, IsPinName, IsSmall, IsForm, IsLibrary, form_count, is_punct_byte, longest_function}
+use Rattle.lw_genlib.specs.Cells.{CellParts, IsWord, IsPart, IsPinName, IsSmall, IsForm, IsLibrary, form_count, is_punct_byte, longest_function, function_room}
 use Rattle.lw_genlib.specs.Entries.{FunctionText, is_end}
 use Rattle.lw_genlib.specs.Grammar.{is_punct, go_on, names_in}
 use Rattle.lw_genlib.specs.Functions.{pins_in}
@@ -28,7 +28,7 @@ AreRuns tokens = AreRunsWithin longest_function tokens
 -- the tokens of a function before its `;`, the lines of them, and how many bytes there is room for
 pub record IsOpenText (tokens : List Token) (lines : List ℕ) (room : ℕ) : Type 0 where
   pub paired : length lines ≡ length tokens
-  pub few : length tokens + room ≤ 2049
+  pub few : length tokens + room ≤ function_room
   pub no_end : list_any (is_punct 59) tokens ≡ false
   pub runs : AreRuns tokens
 
@@ -44,7 +44,7 @@ pub record IsFunction (tokens : List Token) (output : List ℕ) (pins : List (Li
   pub whole : tokens ≡ Name output ∷ Punct 61 ∷ (inner ++ Punct 59 ∷ [])
   pub goes_on : go_on true 0 inner ≡ true
   pub names : names_in inner ≤ 64
-  pub short : length inner ≤ 2049
+  pub short : length inner ≤ function_room
   pub few_pins : length pins ≤ 16
   pub pins_are : pins ≡ pins_in tokens
   pub form_is : form ≡ expression_of pins inner

@@ -40,7 +40,7 @@ reads_on piece = library.after piece library.outcome_from
 unfoldable pub resume : ReaderState → List StreamItem → library.Outcome
 resume state stream = reads_on (piece_at state.so_far state.expect stream)
 
--- The words stop at this fault. Want of memory is free.
+-- The words stop at this fault. Running out of memory is always allowed.
 abbrev pub BreaksAt : library.Outcome → LibFault → Type 0
 BreaksAt outcome (Line line kind) = outcome.fault ≡ Some (Line line kind)
 BreaksAt outcome Memory = ⊤
@@ -51,12 +51,12 @@ abbrev pub ReadsOn : streams.Reading library.CellsSoFar → Result ReaderState L
 ReadsOn step result rest =
     MatchResult result (λ (new : ReaderState). reads_on (library.piece_by step) ≡ resume new rest) (BreaksAt (reads_on (library.piece_by step)))
 
--- These items were read, whatever follows them.
+-- These items were read, whatever follows them, or they break at this fault.
 abbrev pub ReadsMore : ReaderState → List StreamItem → Result ReaderState LibFault → Type 0
 ReadsMore state items result =
     (rest : List StreamItem) → MatchResult result (λ (new : ReaderState). resume state (items ++ rest) ≡ resume new rest) (BreaksAt (resume state (items ++ rest)))
 
--- One more word.
+-- One more word. Each says too what the fault is where it breaks a rule.
 
 abbrev pub item_of : Given → StreamItem
 item_of given = streams.word_on given.line given.word.now
@@ -110,7 +110,7 @@ stop_of reader = stop_by reader.status
 abbrev pub HasNoHash : LogicalLine → Type 0
 HasNoHash line = All (All IsNoHash) line.words
 
--- The answer tells the first fault. Want of memory is free.
+-- The answer tells the first fault. Running out of memory is always allowed.
 abbrev pub Tells : Result (Unit {0}) LibFault → Option LibFault → Type 0
 Tells (Ok u) first = first ≡ None
 Tells (Err (Line line kind)) first = first ≡ Some (Line line kind)

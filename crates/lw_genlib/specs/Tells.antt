@@ -11,6 +11,6 @@ abbrev pub TellsErr : {A : Type 0} → Result A LibFault → LibFault → Type 0
 TellsErr said (Line line kind) = said ≡ Err (Line line kind)
 TellsErr said Memory = Unit {0}
 
--- The result is the one that is said. Want of memory is free.
+-- The result is the one that is said. Running out of memory is always allowed.
 abbrev pub Gives : {A : Type 0} → Result A LibFault → Result A LibFault → Type 0
 Gives said result = MatchResult result (λ x. said ≡ Ok x) (TellsErr said)

@@ -1,6 +1,5 @@
 // Entries of cells.
-ghost use Rattle.std.specs.Prelude.{◌≡◌, ◌<◌, MatchResult, MatchOption, IfOk, true, false, None, Ok, replicate, map};
-ghost use Rattle.std.specs.List.{list_any};
+ghost use Rattle.std.specs.Prelude.{◌≡◌, ◌<◌, IfOk, None, Ok, replicate};
 ghost use Rattle.lw_genlib.specs.Entries as words;
 ghost use Rattle.lw_genlib.specs.Merging as merging;
 ghost use Rattle.lw_genlib.specs.Tells.{Gives};
@@ -65,8 +64,7 @@ pub(crate) fn with_delay(entry: Entry, pin: PinDelay) -> Entry
 }
 
 impl Entry {
-    ghost use Rattle.std.specs.Prelude.{◌≡◌, ◌<◌, ◌≤◌, length, IfOk};
-    ghost use Rattle.lw_genlib.specs.Cells.{IsSmall};
+    ghost use Rattle.std.specs.Prelude.{◌≡◌, ◌<◌, IfOk};
     ghost use Rattle.lw_genlib.specs.Entries as words;
     ghost use Rattle.lw_genlib.specs.Merging as merging;
     ghost use Rattle.lw_genlib.specs.Libraries as library;

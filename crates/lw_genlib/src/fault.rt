@@ -37,7 +37,7 @@ pub enum LibKind {
 pub enum LibFault {
     /// On a line.
     Line(u32, LibKind),
-    /// For want of memory.
+    /// Out of memory.
     Memory,
 }
 

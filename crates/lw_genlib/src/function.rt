@@ -1,5 +1,5 @@
 // What the text of a function says.
-ghost use Rattle.std.specs.Prelude.{◌≡◌, ◌<◌, ◌^◌, [], None, length, MatchResult};
+ghost use Rattle.std.specs.Prelude.{◌≡◌, ◌<◌, [], None, MatchResult};
 ghost use Rattle.lw_genlib.specs.Functions.{AreLined, IsText, Says, first_fault};
 ghost use Rattle.lw_genlib.specs.Spelled.{inner_of};
 ghost use Rattle.lw_genlib.specs.Tells.{TellsFault};

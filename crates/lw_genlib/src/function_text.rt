@@ -1,7 +1,6 @@
 // The text of a function, word by word, as tokens.
-ghost use Rattle.std.specs.Prelude.{◌≡◌, ◌+◌, ◌≤◌, ◌++◌, IfOk, OnOk, length, replicate, false, true, IfSome, IfNone};
+ghost use Rattle.std.specs.Prelude.{◌≡◌, ◌+◌, ◌++◌, IfOk, OnOk, replicate, false, true, IfSome, IfNone};
 ghost use Rattle.std.specs.List.{list_any, before_first, after_first, position};
-ghost use Rattle.lw_genlib.specs.Cells.{IsPart};
 ghost use Rattle.lw_genlib.specs.Entries as words;
 ghost use Rattle.lw_genlib.specs.Kept.{IsOpenText, MayJoin};
 
@@ -11,14 +10,17 @@ use crate::state_parts::FunctionText;
 use crate::tokenize::push_tokens;
 use std::alloc::{AllocError, Global};
 
-/// No words. The blank before the first word is no byte of the text, which has at most 2,048.
+// The most bytes of a function, with the blank before its first word, which is none of them.
+const ROOM: usize = 2049;
+
+/// No words.
 pub(crate) fn no_text(alloc: Global) -> FunctionText
     ensures { result ≡ words.no_text }
 {
     FunctionText {
         tokens: Vec::new(alloc),
         lines: Vec::new(alloc),
-        room: 2049,
+        room: ROOM,
     }
 }
 

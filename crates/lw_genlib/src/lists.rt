@@ -60,7 +60,7 @@ impl Exprs {
         &self.items[place]
     }
 
-    /// Appends an entry. For want of memory nothing is changed.
+    /// Appends an entry. If memory runs out, nothing is changed.
     pub fn push(&mut self, item: Expr) -> Result<(), AllocError>
         ensures { MatchResult result (λ _. self.new ≡ self.old ++ item ∷ [])
             (λ _. self.new ≡ self.old) }

@@ -1,5 +1,5 @@
 // Reads one word, by what is expected next.
-ghost use Rattle.std.specs.Prelude.{[], ◌∷◌, Some, List};
+ghost use Rattle.std.specs.Prelude.{[], ◌∷◌, Some};
 ghost use Rattle.lw_genlib.specs.Cells.{IsWord};
 ghost use Rattle.lw_genlib.specs.declared.state_parts.Expect.TheVariants as expects;
 ghost use Rattle.lw_genlib.specs.Standing.{ReadsMore, ReadsWord, BeginsPiece, BeginsEntry, EndsFunction, EndsField, item_of};

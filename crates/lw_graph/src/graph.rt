@@ -80,7 +80,7 @@ impl Graph {
         })
     }
 
-    /// Makes the index by which `holder` finds pairs, unless it is there. For want of memory there
+    /// Makes the index by which `holder` finds pairs, unless it is there. If memory runs out, there
     /// is none.
     pub fn make_index(&mut self) -> Result<(), AllocError>
         ensures { self.new ≡ self.old }

@@ -1,9 +1,10 @@
 -- What labels, words and gates are limited to.
 use Rattle.std.specs.Prelude.{ℕ, ◌-◌, ◌^◌}
+use Rattle.lw_fixed.specs.Decimals.{most_units}
 
 -- labels have fewer units
 abbrev pub label_units : ℕ
-label_units = 2 ^ 43
+label_units = most_units
 
 -- a reader is given fewer words
 abbrev pub word_limit : ℕ

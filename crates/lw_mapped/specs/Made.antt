@@ -20,7 +20,7 @@ pub record IsMade (draft : GateDraft) (frame : Frame) (starts : List Micro) (lab
   pub the_labels : mapped.cert.labels ≡ labels
   pub classes : mapped.cert.nets ≡ map (λ (gate : Gate). class (net_name mapped.netlist.names gate.out)) mapped.netlist.gates
 
--- The fault of the whole is told. Want of memory is free.
+-- The fault of the whole is told. Running out of memory is always allowed.
 abbrev pub TellsWhole : GateDraft → MappedFault → Type 0
 TellsWhole draft (fault.Line number kind) = ⊥
 TellsWhole draft (fault.Whole other) = HasWholeFault draft other

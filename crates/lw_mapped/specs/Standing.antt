@@ -33,7 +33,7 @@ abbrev pub stop_at : ℕ → Refusal → Stop
 stop_at number (refusal.Broken kind) = stop.Broken number kind
 stop_at number refusal.Memory = stop.Memory
 
--- The answer tells the first fault. Want of memory is free.
+-- The answer tells the first fault. Running out of memory is always allowed.
 abbrev pub Tells : Result (Unit {0}) MappedFault → Option FaultAt → Type 0
 Tells (Ok u) first = first ≡ None
 Tells (Err (fault.Line number kind)) first = first ≡ Some (record { number = number; kind = kind })
@@ -54,7 +54,7 @@ pub record StaysStopped (old new : MappedReader) (result : Result (Unit {0}) Map
 
 -- What is kept of the lines.
 
--- The reader stopped at this first fault. Want of memory is free.
+-- The reader stopped at this first fault. Running out of memory is always allowed.
 abbrev pub Stops : Option Stop → Option FaultAt → Type 0
 Stops None first = first ≡ None
 Stops (Some (stop.Broken number kind)) first = first ≡ Some (record { number = number; kind = kind })

@@ -23,7 +23,7 @@ use Rattle.lw_mapped.specs.LineFaults.{FaultAt, text_fault, lines_read, lines_sa
 use Rattle.lw_mapped.specs.Texts.{net_name}
 use Rattle.lw_words.specs.Words.{first_word}
 
--- the fault of a netlist as a whole, or want of memory
+-- the fault of a netlist as a whole, or that memory ran out
 abbrev pub whole_fault : NetlistFault → MappedFault
 whole_fault whole.Memory = fault.Memory
 whole_fault other = fault.Whole other
@@ -59,19 +59,19 @@ pub record IsSaid (said : List Saying) (mapped : Mapped) : Type 0 where
   pub labels : (class : ℕ) → slice_index_or mapped.cert.labels class None ≡ label_among (flat_map labels_in said) class
   pub nets : mapped.cert.nets ≡ classes_said said mapped.netlist
 
--- The line is told. Want of memory is free.
+-- The line is told. Running out of memory is always allowed.
 abbrev pub TellsLine : FaultAt → Result Mapped MappedFault → Type 0
 TellsLine first (Ok mapped) = ⊥
 TellsLine first (Err (fault.Line number kind)) = first ≡ record { number = number; kind = kind }
 TellsLine first (Err (fault.Whole other)) = ⊥
 TellsLine first (Err fault.Memory) = ⊤
 
--- The fault of the whole, which is never want of memory.
+-- The fault of the whole, which is never that memory ran out.
 abbrev pub HasWholeFault : GateDraft → NetlistFault → Type 0
 HasWholeFault draft whole.Memory = ⊥
 HasWholeFault draft other = HasFault draft other
 
--- What is said, or the fault of the whole. Want of memory is free.
+-- What is said, or the fault of the whole. Running out of memory is always allowed.
 abbrev pub ClosesTo : List Saying → Result Mapped MappedFault → Type 0
 ClosesTo said (Ok mapped) = IsSaid said mapped
 ClosesTo said (Err (fault.Line number kind)) = ⊥

@@ -71,7 +71,7 @@ impl DraftNodes {
         &names[self.nodes[place].out as usize]
     }
 
-    /// Appends an entry. For want of memory nothing is changed.
+    /// Appends an entry. If memory runs out, nothing is changed.
     pub fn push(&mut self, item: DraftNode) -> Result<(), AllocError>
         ensures { MatchResult result (λ _. self.new ≡ self.old ++ item ∷ [])
             (λ _. self.new ≡ self.old) }

@@ -11,7 +11,7 @@ pub enum NetFault {
     /// This node reaches itself through fan-ins.
     #[error("cycle")]
     Cycle(Name),
-    /// Want of memory.
+    /// Out of memory.
     #[error("out of memory")]
     Memory,
 }

@@ -138,7 +138,7 @@ impl Cubes {
         &self.items[place]
     }
 
-    /// Appends an entry. For want of memory nothing is changed. The first takes no more room than
+    /// Appends an entry. If memory runs out, nothing is changed. The first takes no more room than
     /// its own, since many nodes have one row.
     pub fn push(&mut self, item: Cube) -> Result<(), AllocError>
         ensures { MatchResult result (λ _. self.new ≡ self.old ++ item ∷ [])
@@ -227,7 +227,7 @@ impl Nodes {
         &self.items[place]
     }
 
-    /// Appends an entry. For want of memory nothing is changed.
+    /// Appends an entry. If memory runs out, nothing is changed.
     pub fn push(&mut self, item: Node) -> Result<(), AllocError>
         ensures { MatchResult result (λ _. self.new ≡ self.old ++ item ∷ [])
             (λ _. self.new ≡ self.old) }

@@ -2,6 +2,7 @@
 use Rattle.std.specs.Prelude.{ℕ, ◌*◌, Bool, List, map, slice_index_or}
 use Rattle.lw_pool.specs.declared.id.NetId.{NetId}
 use Rattle.lw_fixed.specs.declared.micro.Micro.{Micro}
+use Rattle.lw_fixed.specs.Decimals.{one_unit, given_units}
 use Rattle.lw_laws.specs.Covers.{latest, delays_of}
 use Rattle.lw_genlib.specs.Cells.{CellParts}
 use Rattle.lw_netlist.specs.declared.gate.Gate.{Gate}
@@ -26,4 +27,4 @@ arrival_at arrivals net = (slice_index_or arrivals net (record { 0 = 0 })).0
 
 -- a million units, which each delay is below
 abbrev pub one_step : ℕ
-one_step = 1000000 * 1000000
+one_step = given_units * one_unit

@@ -82,7 +82,7 @@ impl Latches {
         &self.items
     }
 
-    /// Appends an entry. For want of memory nothing is changed.
+    /// Appends an entry. If memory runs out, nothing is changed.
     pub fn push(&mut self, item: Latch) -> Result<(), AllocError>
         ensures { MatchResult result (λ _. self.new ≡ self.old ++ item ∷ [])
             (λ _. self.new ≡ self.old) }

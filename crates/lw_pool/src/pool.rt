@@ -33,7 +33,7 @@ impl<I: Id, T> Pool<I, T> {
         }
     }
 
-    /// Appends a value, and answers its number. For want of memory it hands the value back and
+    /// Appends a value, and answers its number. If memory runs out, it hands the value back and
     /// changes nothing.
     pub fn push(&mut self, value: T) -> Result<I, T>
         requires { length self.old.items < 2 ^ 32 - 1 }
@@ -50,7 +50,7 @@ impl<I: Id, T> Pool<I, T> {
         Ok(I::of(number))
     }
 
-    /// Makes room for `n` more entries. For want of memory it changes nothing.
+    /// Makes room for `n` more entries. If memory runs out, it changes nothing.
     pub fn reserve(&mut self, n: usize) -> Result<(), AllocError>
         ensures spare { OnOk result (n ≤ self.new.spare) }
         ensures items { self.new.items ≡ self.old.items }

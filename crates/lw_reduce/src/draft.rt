@@ -64,7 +64,8 @@ impl Draft {
         })
     }
 
-    /// Appends a base form with this sample, and answers it. For want of memory nothing is changed.
+    /// Appends a base form with this sample, and answers it. If memory runs out, nothing is
+    /// changed.
     pub fn add(&mut self, sample: bool) -> Result<FormId, AllocError>
         requires { length self.old.samples < 2 ^ 31 - 1 }
         ensures ok { OnOk result (self.new
@@ -89,7 +90,7 @@ impl Draft {
         self.nands.len() >= 0xffff_fffe
     }
 
-    /// Appends the fact that a form is the NAND of two. For want of memory nothing is changed.
+    /// Appends the fact that a form is the NAND of two. If memory runs out, nothing is changed.
     pub fn nand(&mut self, form: FormId, left: FormId, right: FormId) -> Result<(), AllocError>
         requires form { IsKnown self.old.samples form.0 }
         requires left { IsKnown self.old.samples left.0 }
@@ -115,7 +116,7 @@ impl Draft {
         Ok(())
     }
 
-    /// Appends a link: these are the two forms of one signal. For want of memory nothing is
+    /// Appends a link: these are the two forms of one signal. If memory runs out, nothing is
     /// changed.
     pub fn link(&mut self, left: FormId, right: FormId) -> Result<(), AllocError>
         requires left { IsKnown self.old.samples left.0 }

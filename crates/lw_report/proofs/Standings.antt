@@ -52,7 +52,7 @@ pub bad_more : (fault : VectorFault) (inputs : ℕ) (lines : List LogicalLine) (
 bad_more (Line number) inputs lines line good refuses = fault_more inputs lines line ∙ (ap (λ o. option_or o (fault_at (is_vector inputs line) line.number)) good ∙ (ap (λ b. fault_at b line.number) refuses.0 ∙ ap (λ n. Some n) (sym refuses.1)))
 bad_more Memory inputs lines line good refuses = refuses
 
--- want of memory is no line
+-- out of memory has no line
 pub memory_refuses : (inputs : ℕ) (line : LogicalLine) (result : Result (Unit {0}) VectorFault) → IsErrAnd result (λ e. e ≡ Memory) → IfErr result (Refuses inputs line)
 memory_refuses inputs line (Ok u) is = tt
 memory_refuses inputs line (Err e) is = subst (Refuses inputs line) (sym is) tt

@@ -16,7 +16,7 @@ inputs_of vectors = vectors.inputs
 abbrev pub stop_of : Vectors → Option VectorFault
 stop_of vectors = vectors.stop
 
--- The answer tells the first line that is no vector. Want of memory is free.
+-- The answer tells the first line that is no vector. Running out of memory is always allowed.
 abbrev pub Tells : Result (Unit {0}) VectorFault → Option ℕ → Type 0
 Tells (Ok u) first = first ≡ None
 Tells (Err (Line number)) first = first ≡ Some number
@@ -27,13 +27,14 @@ abbrev pub Stopped : Result (Unit {0}) VectorFault → Option VectorFault → Ty
 Stopped (Ok u) stopped = stopped ≡ None
 Stopped (Err fault) stopped = stopped ≡ Some fault
 
--- No more is taken behind this first line that is no vector. Want of memory is free.
+-- No more is taken behind this first line that is no vector. Running out of memory is always
+-- allowed.
 abbrev pub Stops : Option VectorFault → Option ℕ → Type 0
 Stops None first = first ≡ None
 Stops (Some (Line number)) first = first ≡ Some number
 Stops (Some Memory) first = ⊤
 
--- The line is no vector, and is told. Want of memory is free.
+-- The line is no vector, and is told. Running out of memory is always allowed.
 abbrev pub Refuses : ℕ → LogicalLine → VectorFault → Type 0
 Refuses inputs line (Line number) = (is_vector inputs line ≡ false) × (number ≡ line.number)
 Refuses inputs line Memory = ⊤

@@ -1,5 +1,5 @@
 // Marks of classes by stored matches.
-ghost use Rattle.std.specs.Prelude.{◌≡◌, ◌+◌, ◌^◌, ◌<◌, ℕ, [], None, IfOk, OnErr, length, map, replicate};
+ghost use Rattle.std.specs.Prelude.{◌≡◌, ◌+◌, ◌^◌, ◌<◌, None, IfOk, OnErr, length, map, replicate};
 ghost use Rattle.lw_laws.specs.Rounds.{labels_in};
 ghost use Rattle.lw_label.specs.Labels.{costs_of};
 ghost use Rattle.lw_match.specs.Values.{marks_in, plain_mark};

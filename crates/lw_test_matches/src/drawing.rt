@@ -36,13 +36,13 @@ impl Dice {
     }
 }
 
-/// How many inputs a drawn graph has, how many base forms after them, NAND facts and links.
+// How many inputs a drawn graph has, how many base forms after them, NAND facts and links.
 #[derive(Clone, Copy)]
-pub(crate) struct Size {
-    pub(crate) inputs: u32,
-    pub(crate) forms: u32,
-    pub(crate) facts: u32,
-    pub(crate) links: u32,
+struct Size {
+    inputs: u32,
+    forms: u32,
+    facts: u32,
+    links: u32,
 }
 
 impl Size {
@@ -137,8 +137,8 @@ fn drawn_links(
     Ok(links)
 }
 
-/// The graph of a draft that is drawn.
-pub(crate) fn drawn_graph(alloc: Global, dice: &mut Dice, size: Size) -> Result<Graph, Fail> {
+// The graph of a draft that is drawn.
+fn drawn_graph(alloc: Global, dice: &mut Dice, size: Size) -> Result<Graph, Fail> {
     let samples = drawn_samples(alloc, dice, size)?;
     let facts = drawn_facts(alloc, dice, size, &samples)?;
     let links = drawn_links(alloc, dice, size, &samples)?;
@@ -149,6 +149,28 @@ pub(crate) fn drawn_graph(alloc: Global, dice: &mut Dice, size: Size) -> Result<
         links: &links,
     };
     graph_of(alloc, sketch)
+}
+
+/// Graphs that are drawn, by rows: inputs, further base forms, facts and links, and how many graphs.
+pub(crate) fn drawn_graphs(
+    alloc: Global,
+    dice: &mut Dice,
+    rows: &[(u32, u32, u32, u32, u32)],
+) -> Result<Vec<Graph>, Fail> {
+    let mut graphs = Vec::new(alloc);
+    for row in rows {
+        let (inputs, forms, facts, links, count) = *row;
+        let size = Size {
+            inputs,
+            forms,
+            facts,
+            links,
+        };
+        for _graph in 0..count {
+            graphs.push(drawn_graph(alloc, dice, size)?)?;
+        }
+    }
+    Ok(graphs)
 }
 
 // A mark that is drawn, with a low cost and height or with nearly the greatest, and none in one of

@@ -6,7 +6,7 @@ ghost use Rattle.lw_genlib.specs.Cells.{IsSmall};
 ghost use Rattle.lw_test_matches.specs.Fitting.{Fits};
 ghost use Rattle.lw_label.specs.Delays.{most_time};
 
-use crate::drawing::{Dice, Size, drawn_graph, drawn_marks};
+use crate::drawing::{Dice, drawn_graphs, drawn_marks};
 use crate::libraries::{Cells, library_of, no_starts, patterns_of};
 use crate::plain::{
     MOST_MATCHES, all_matches, are_once_and_rising, is_same, least_of, marks_by_rounds,
@@ -30,9 +30,8 @@ pub(crate) const LIBRARIES: [&str; 5] = [
     "GATE first 1 O=!(a*b);PIN * INV 1 999 1 0 1 0\nGATE second 1 O=!(a*b);PIN * INV 1 999 1 0 1 0\nGATE inv 1 O=!a;PIN * INV 1 999 0 0 0 0\nGATE nor2 1 O=!(a+b);PIN a INV 1 999 1 0 1 0 PIN b INV 1 999 .5 0 1 0\nGATE wire 1 O=a;PIN * NONINV 1 999 .5 0 .5 0\n",
 ];
 
-/// What is drawn with each library: inputs, further base forms, facts and links, and how many
-/// graphs.
-const SIZES: [(u32, u32, u32, u32, u32); 4] = [
+/// The graphs that are drawn with each library.
+const GRAPHS: [(u32, u32, u32, u32, u32); 4] = [
     (1, 3, 4, 0, 12),
     (3, 6, 9, 1, 12),
     (4, 8, 16, 2, 8),
@@ -214,49 +213,16 @@ fn check_graph(
     check_case(rt, alloc, &case, dice)
 }
 
-fn check_graphs(
-    rt: &impl Abort,
-    alloc: Global,
-    cells: Cells<'_>,
-    size: Size,
-    count: u32,
-    dice: &mut Dice,
-) -> Result<(), Fail>
-    requires { Fits cells.lib.now cells.pats.now }
-{
-    for _graph in 0..count {
-        let graph = drawn_graph(alloc, dice, size)?;
-        check_graph(rt, alloc, cells, &graph, dice)?;
-    }
-    Ok(())
-}
-
 // Looks at graphs that are drawn, by the patterns of a library.
-fn check_sizes(
-    rt: &impl Abort,
-    alloc: Global,
-    cells: Cells<'_>,
-    dice: &mut Dice,
-) -> Result<(), Fail>
-    requires { Fits cells.lib.now cells.pats.now }
-{
-    for (inputs, forms, facts, links, count) in SIZES {
-        let size = Size {
-            inputs,
-            forms,
-            facts,
-            links,
-        };
-        check_graphs(rt, alloc, cells, size, count, dice)?;
-    }
-    Ok(())
-}
-
 fn check_library(rt: &impl Abort, alloc: Global, text: &str, dice: &mut Dice) -> Result<(), Fail> {
     let lib = library_of(alloc, text)?;
     let pats = patterns_of(alloc, &lib)?;
     let (lib, pats) = (&lib, &pats);
-    check_sizes(rt, alloc, Cells { lib, pats }, dice)
+    let graphs = drawn_graphs(alloc, dice, &GRAPHS)?;
+    for graph in &graphs {
+        check_graph(rt, alloc, Cells { lib, pats }, graph, dice)?;
+    }
+    Ok(())
 }
 
 #[test]

@@ -4,7 +4,7 @@ ghost use Rattle.std.specs.Prelude.{◌≡◌, ◌<◌, ℕ, length, OnOk};
 ghost use Rattle.lw_match.specs.Least.{AreOfCells};
 ghost use Rattle.lw_test_matches.specs.Fitting.{Fits};
 
-use crate::drawing::{Dice, Size, drawn_graph};
+use crate::drawing::{Dice, drawn_graphs};
 use crate::finding::LIBRARIES;
 use crate::libraries::{Cells, library_of, no_starts, patterns_of};
 use crate::plain::all_matches;
@@ -20,9 +20,8 @@ use std::alloc::{AllocError, Global};
 use std::process::Abort;
 use std::test::Fail;
 
-/// What is drawn with each library: inputs, further base forms, facts and links, and how many
-/// graphs.
-const SIZES: [(u32, u32, u32, u32, u32); 3] = [(1, 3, 4, 0, 8), (3, 6, 9, 1, 4), (4, 8, 16, 2, 2)];
+/// The graphs that are drawn with each library.
+const GRAPHS: [(u32, u32, u32, u32, u32); 3] = [(1, 3, 4, 0, 8), (3, 6, 9, 1, 4), (4, 8, 16, 2, 2)];
 
 /// A class, and the classes of the pins of a match at it, in order.
 type Line = (usize, Vec<u32>);
@@ -141,50 +140,16 @@ fn check_graph(rt: &impl Abort, alloc: Global, cells: Cells<'_>, graph: &Graph) 
     Ok(())
 }
 
-// Looks at some graphs of one size that are drawn.
-fn check_graphs(
-    rt: &impl Abort,
-    alloc: Global,
-    cells: Cells<'_>,
-    size: Size,
-    count: u32,
-    dice: &mut Dice,
-) -> Result<(), Fail>
-    requires { Fits cells.lib.now cells.pats.now }
-{
-    for _graph in 0..count {
-        let graph = drawn_graph(alloc, dice, size)?;
-        check_graph(rt, alloc, cells, &graph)?;
-    }
-    Ok(())
-}
-
 // Looks at graphs that are drawn, by the patterns of a library.
-fn check_drawn(
-    rt: &impl Abort,
-    alloc: Global,
-    cells: Cells<'_>,
-    dice: &mut Dice,
-) -> Result<(), Fail>
-    requires { Fits cells.lib.now cells.pats.now }
-{
-    for (inputs, forms, facts, links, count) in SIZES {
-        let size = Size {
-            inputs,
-            forms,
-            facts,
-            links,
-        };
-        check_graphs(rt, alloc, cells, size, count, dice)?;
-    }
-    Ok(())
-}
-
 fn check_library(rt: &impl Abort, alloc: Global, text: &str, dice: &mut Dice) -> Result<(), Fail> {
     let lib = library_of(alloc, text)?;
     let pats = patterns_of(alloc, &lib)?;
     let (lib, pats) = (&lib, &pats);
-    check_drawn(rt, alloc, Cells { lib, pats }, dice)
+    let graphs = drawn_graphs(alloc, dice, &GRAPHS)?;
+    for graph in &graphs {
+        check_graph(rt, alloc, Cells { lib, pats }, graph)?;
+    }
+    Ok(())
 }
 
 #[test]

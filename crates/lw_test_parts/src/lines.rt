@@ -1,5 +1,6 @@
 // Logical lines of small texts, in every cutting.
 ghost use Rattle.std.specs.Prelude.{◌≡◌, ◌≤◌, ◌+◌, false, length, OnOk};
+ghost use Rattle.lw_words.specs.Limits.{most_bytes};
 ghost use Rattle.lw_words.specs.Standing.{is_finished, fed_count};
 
 use lw_words::{Line, Lines, Words};
@@ -27,7 +28,7 @@ fn collect(lines: &mut Lines, all: &mut Vec<Line>) -> Result<(), AllocError>
 // Feeds a piece, and takes the lines that are finished.
 fn feed(lines: &mut Lines, all: &mut Vec<Line>, piece: &[u8]) -> Result<(), AllocError>
     requires unfinished { is_finished lines.old ≡ false }
-    requires room { fed_count lines.old + length piece.now ≤ 67108865 }
+    requires room { fed_count lines.old + length piece.now ≤ most_bytes + 1 }
     ensures count { OnOk result (fed_count lines.new ≡ fed_count lines.old + length piece.now) }
     ensures unfinished { OnOk result (is_finished lines.new ≡ false) }
 {
@@ -228,7 +229,7 @@ fn marks_are_kept(rt: HostRuntime) -> Result<(), Fail> {
 // Feeds the two pieces of a text.
 fn feed_two(lines: &mut Lines, one: &[u8], other: &[u8]) -> Result<(), AllocError>
     requires unfinished { is_finished lines.old ≡ false }
-    requires room { fed_count lines.old + length one.now + length other.now ≤ 67108865 }
+    requires room { fed_count lines.old + length one.now + length other.now ≤ most_bytes + 1 }
 {
     lines.feed(one)?;
     lines.feed(other)?;

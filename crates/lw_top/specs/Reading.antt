@@ -41,7 +41,7 @@ Known told step outcome = (files : List File) → told ≡ Some files → step (
 -- Why a call refused: a file was not read because the count of faults rose, or because known files lack it.
 abbrev pub HasReason : {A : Type 0} → Option (List File) → ℕ → ℕ → Step A → Refusal → Type 0
 HasReason told before now step (Unread w) = Rose before now ⊎ ((files : List File) × (told ≡ Some files) × step (bytes_of files) (Err (Unread w)))
--- want of memory needs no reason
+-- running out of memory needs no reason
 HasReason told before now step Memory = Unit {0}
 HasReason told before now step other = Known told step (Err other)
 

@@ -4,9 +4,10 @@ use Rattle.std.specs.List.{list_all, starts_with}
 use Rattle.std.specs.Char.{is_ascii_digit}
 use Rattle.std.specs.Str.{bytes_eq}
 use Rattle.std.specs.Str.Parse.{digits_value}
-use Rattle.lw_fixed.specs.Decimals.{decimal_of}
+use Rattle.lw_fixed.specs.Decimals.{given_units, decimal_of}
 use Rattle.lw_fixed.specs.declared.fault.DecimalFault.{DecimalFault}
 use Rattle.lw_fixed.specs.declared.micro.Micro.{Micro}
+use Rattle.lw_big.specs.Generated.{most_nodes}
 use Rattle.lw_genlib.specs.Cells.{IsSmall}
 use Rattle.lw_laws.specs.Modes.Mode.{plain, idempotent}
 use Rattle.lw_map.specs.Options.{Options, IsWide}
@@ -121,7 +122,7 @@ seed_of word = if nat_le (length word) 20 then number_of word else None
 
 abbrev pub count_in : Option ℕ → Option ℕ
 count_in None = None
-count_in (Some n) = if nat_le 1 n && nat_le n 20000 then Some n else None
+count_in (Some n) = if nat_le 1 n && nat_le n most_nodes then Some n else None
 
 -- without leading zero, from 1 to 20000
 abbrev pub count_of : List ℕ → Option ℕ
@@ -214,7 +215,7 @@ time_read (Err fault) = None
 
 -- `none`, or a decimal below 1000000
 abbrev pub deadline_of : List ℕ → Option (Option Micro)
-deadline_of word = if bytes_eq word (codes "none") then Some None else time_read (decimal_of word 1000000)
+deadline_of word = if bytes_eq word (codes "none") then Some None else time_read (decimal_of word given_units)
 
 abbrev pub trading_of : Options → Option (Option Micro) → Option Two → Option Command
 trading_of options (Some deadline) (Some files) = Some (trading deadline options files.first files.second)
@@ -250,7 +251,7 @@ command_of (name ∷ words) = named name words
 -- a network of so many nodes is drawn
 pub record IsCount (count : ℕ) : Type 0 where
   pub least : 1 ≤ count
-  pub most : count ≤ 20000
+  pub most : count ≤ most_nodes
 
 -- a command's numbers are those that words may say
 abbrev pub IsInRange : Command → Type 0

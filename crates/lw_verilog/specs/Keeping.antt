@@ -70,7 +70,7 @@ pub record TakesToken (cells : List CellParts) (what : Kind) (next : Reading →
   pub ended : is_end what ≡ false
   pub keeps : (r : Reading) → Keeps cells old r → Keeps cells new (next r)
 
--- The rule that is told, or none. Want of memory is free.
+-- The rule that is told, or none. Running out of memory is always allowed.
 abbrev pub TellsFault : Result (Unit {0}) Refusal → Option VerilogKind → Type 0
 TellsFault (Ok u) o = o ≡ None
 TellsFault (Err (refusal.Broken kind)) o = o ≡ Some kind
@@ -88,7 +88,7 @@ pub record IsParsed (cells : List CellParts) (text : List ℕ) (c : Contents) : 
   pub is : read cells nothing_read (tokens text) ≡ Ok reading
   pub few : length c.inputs + length c.gates ≤ length text
 
--- The first token that breaks a rule is told. Want of memory is free.
+-- The first token that breaks a rule is told. Running out of memory is always allowed.
 abbrev pub TellsParse : List CellParts → List ℕ → VerilogFault → Type 0
 TellsParse cells text (fault.Line line kind) = read cells nothing_read (tokens text) ≡ Err (record { line = line; kind = kind })
 TellsParse cells text (fault.Whole other) = ⊥

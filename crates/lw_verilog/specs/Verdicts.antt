@@ -13,19 +13,19 @@ use Rattle.lw_verilog.specs.Statements.{draft_of}
 use Rattle.lw_verilog.specs.Tokens.{tokens}
 use Rattle.lw_mapped.specs.Unmapped.{HasWholeFault}
 
--- the fault of a netlist as a whole, or want of memory
+-- the fault of a netlist as a whole, or that memory ran out
 abbrev pub whole_fault : NetlistFault → VerilogFault
 whole_fault whole.Memory = fault.Memory
 whole_fault other = fault.Whole other
 
--- The draft's netlist, or the fault of the whole. Want of memory is free.
+-- The draft's netlist, or the fault of the whole. Running out of memory is always allowed.
 abbrev pub ClosesTo : GateDraft → Result NetlistParts VerilogFault → Type 0
 ClosesTo draft (Ok n) = IsClosed draft n
 ClosesTo draft (Err (fault.Line line kind)) = ⊥
 ClosesTo draft (Err (fault.Whole other)) = HasWholeFault draft other
 ClosesTo draft (Err fault.Memory) = ⊤
 
--- The token is told. Want of memory is free.
+-- The token is told. Running out of memory is always allowed.
 abbrev pub Tells : FaultAt → Result NetlistParts VerilogFault → Type 0
 Tells first (Ok n) = ⊥
 Tells first (Err (fault.Line line kind)) = first ≡ record { line = line; kind = kind }

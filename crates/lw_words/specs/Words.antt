@@ -3,6 +3,7 @@ use Rattle.std.specs.Prelude.{ℕ, Bool, false, not, ◌&&◌, ◌≡◌, ◌==�
 use Rattle.std.specs.List.{list_any, ends_with}
 use Rattle.std.specs.Str.{bytes_eq}
 use Rattle.lw_words.specs.Gathering.{IsWord, IsNoHash}
+use Rattle.lw_words.specs.Limits.{longest_name}
 
 -- Lists of words.
 
@@ -40,7 +41,7 @@ is_ignored_word word = is_among ignored_words word
 
 -- at most 2,000 bytes, the last of which is no `\`
 abbrev pub is_name : List ℕ → Bool
-is_name word = nat_le (length word) 2000 && not (ends_with nat_eq word (92 ∷ []))
+is_name word = nat_le (length word) longest_name && not (ends_with nat_eq word (92 ∷ []))
 
 -- a name of the format: a word without `#`, of at most 2,000 bytes, that does not end in `\`
 pub record IsSignalName (name : List ℕ) : Type 0 where

@@ -20,8 +20,8 @@ pub struct Gathering {
 }
 
 impl Model for Gathering {
-    ghost use Rattle.std.specs.Prelude.{length, drop};
-    ghost use Rattle.lw_words.specs.Gathering.{Gathered, IsGathered, IsKept};
+    ghost use Rattle.std.specs.Prelude.{drop};
+    ghost use Rattle.lw_words.specs.Gathering.{Gathered, IsKept};
     ghost use Rattle.lw_words.specs.Arenas.{words_at};
 
     ghost Value = { Gathered };

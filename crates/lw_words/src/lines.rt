@@ -1,5 +1,6 @@
 // Lines of the bytes that are fed.
 ghost use Rattle.std.specs.Prelude.{◌≡◌, ◌+◌, ◌≤◌, ◌<◌, false, true, [], ◌++◌, List, ℕ, length, take, OnOk, IfOk, slice_get, option_to_list};
+ghost use Rattle.lw_words.specs.Limits.{most_bytes};
 
 use crate::gathering::Gathering;
 use crate::line::Line;
@@ -23,7 +24,7 @@ pub struct Lines {
     gathering: Gathering,
     // The lines that are finished and were not taken.
     ready: VecDeque<Line>,
-    ghost few: { fed ≤ 67108865 },
+    ghost few: { fed ≤ most_bytes + 1 },
     ghost counted: { at ≤ fed + 1 },
 }
 
@@ -53,7 +54,7 @@ impl Lines {
     /// More bytes of the text. After an error the value is only dropped.
     pub fn feed(&mut self, piece: &[u8]) -> Result<(), AllocError>
         requires unfinished { is_finished self.old ≡ false }
-        requires room { fed_count self.old + length piece.now ≤ 67108865 }
+        requires room { fed_count self.old + length piece.now ≤ most_bytes + 1 }
         ensures stands { OnOk result
             ((fed : List ℕ) (taken : ℕ) → StandsFor self.old fed taken →
             StandsFor self.new (fed ++ piece.now) taken) }
@@ -100,7 +101,7 @@ impl Lines {
     // Some of these bytes, and how many.
     fn read_some(&mut self, bytes: &[u8]) -> Result<usize, AllocError>
         requires some { 0 < length bytes.now }
-        requires room { self.old.fed + length bytes.now ≤ 67108865 }
+        requires room { self.old.fed + length bytes.now ≤ most_bytes + 1 }
         ensures some { IfOk result (λ n. 0 < n) }
         ensures within { IfOk result (λ n. n ≤ length bytes.now) }
         ensures reads { IfOk result (λ n. ReadsAll self.old (take n bytes.now) self.new) }
@@ -115,7 +116,7 @@ impl Lines {
 
     // The bytes before the first that needs a look at its own, and how many.
     fn read_run(&mut self, bytes: &[u8]) -> Result<usize, AllocError>
-        requires { self.old.fed + length bytes.now ≤ 67108865 }
+        requires { self.old.fed + length bytes.now ≤ most_bytes + 1 }
         ensures within { IfOk result (λ n. n ≤ length bytes.now) }
         ensures reads { IfOk result (λ n. ReadsAll self.old (take n bytes.now) self.new) }
     {
@@ -129,7 +130,7 @@ impl Lines {
     // Blanks and the bytes of words.
     fn read_plain(&mut self, bytes: &[u8]) -> Result<usize, AllocError>
         requires text { self.old.place ≡ Place.Text }
-        requires room { self.old.fed + length bytes.now ≤ 67108865 }
+        requires room { self.old.fed + length bytes.now ≤ most_bytes + 1 }
         ensures within { IfOk result (λ n. n ≤ length bytes.now) }
         ensures reads { IfOk result (λ n. ReadsAll self.old (take n bytes.now) self.new) }
     {
@@ -141,7 +142,7 @@ impl Lines {
     // The bytes of a comment.
     fn skip_comment(&mut self, bytes: &[u8]) -> usize
         requires comment { IsComment self.old.place }
-        requires room { self.old.fed + length bytes.now ≤ 67108865 }
+        requires room { self.old.fed + length bytes.now ≤ most_bytes + 1 }
         ensures within { result ≤ length bytes.now }
         ensures reads { ReadsAll self.old (take result bytes.now) self.new }
     {
@@ -152,7 +153,7 @@ impl Lines {
 
     // One more byte.
     fn read(&mut self, b: u8) -> Result<(), AllocError>
-        requires { self.old.fed < 67108865 }
+        requires { self.old.fed ≤ most_bytes }
         ensures { OnOk result (ReadsByte self.old b self.new) }
     {
         self.fed += 1;
