@@ -5,7 +5,7 @@
 #
 #   sh tests/memory.sh         by limits on its memory (ulimit -v), less and less in steps of STEP KB (4), from where all is there to
 #                              where the program cannot be loaded. The system ends by a signal a program whose stack it cannot
-#                              enlarge, so within STACK KB (256) of that place a run that ends so is told and not judged
+#                              enlarge, so within STACK KB (384) of that place a run that ends so is told and not judged
 #   sh tests/memory.sh -a      each allocation refused in turn: a library that is loaded before the C library's (by LD_PRELOAD) counts
 #                              what the program asks of malloc and realloc, and refuses the one of a number. It takes a C compiler, cc
 #
@@ -16,7 +16,7 @@ tests=$(dirname -- "$(readlink -f -- "$0")")
 # shellcheck source=tests/cases.sh
 . "$tests/cases.sh"
 step=${STEP:-4}
-stack=${STACK:-256}
+stack=${STACK:-384}
 row=$tests/rows/certificate_of_a_full_adder
 cd "$room" || exit 1
 cp "$row/LIB" "$row/IN" . && cp "$row/stdout" MAPPED && printf '%s\n' 000 111 101 >VECTORS
