@@ -1,5 +1,5 @@
--- What a mapping owes: the network's ports and values, and least arrivals.
-use Rattle.std.specs.Prelude.{ℕ, ◌≤◌, ◌≡◌, Bool, List, length, map, slice_get, slice_index_or}
+-- What a mapping owes: the network's ports and values, least arrivals, and names of its nets that tell them apart.
+use Rattle.std.specs.Prelude.{ℕ, ◌+◌, ◌≤◌, ◌≡◌, Bool, List, length, map, Some, slice_get, slice_index_or}
 use Rattle.std.specs.List.{AllZip}
 use Rattle.lw_laws.specs.Modes.{Mode}
 use Rattle.lw_laws.specs.Networks.{Network, AreValues}
@@ -64,3 +64,14 @@ pub record MapsForms (mode : Mode) (width : ℕ) (signals : List Signal) (form :
 -- The netlist is such a one for the sums of products of the network's nets, by the trees that the laws derive for them.
 abbrev pub IsMapping : Mode → ℕ → Network → Ports → List Pattern → Timing → CellTruth → Netlist → Ports → Type 0
 IsMapping mode width net ports pats timing truth n mapped = MapsForms mode width (signals_of width net) (sop_at (signals_of width net)) net ports pats timing truth n mapped
+
+-- no name stands twice
+abbrev pub AreDifferent : List (List ℕ) → Type 0
+AreDifferent names = (i j : ℕ) (name : List ℕ) → slice_get names i ≡ Some name → slice_get names j ≡ Some name → i ≡ j
+
+-- There is a name for each net, the nets' names differ and the outputs' do, and a net with an output's name is that output's.
+pub record AreNetNames (n : Netlist) (names : List (List ℕ)) (mapped : Ports) : Type 0 where
+  pub one_each : length names ≡ n.inputs + length n.gates
+  pub nets_differ : AreDifferent names
+  pub outputs_differ : AreDifferent (map (λ p. p.name) mapped.outputs)
+  pub owned : (j k : ℕ) (p : Port) → slice_get mapped.outputs k ≡ Some p → slice_get names j ≡ Some p.name → j ≡ p.net

@@ -18,6 +18,7 @@ use Rattle.lw_laws.specs.Extracts.{AreGateClasses, IsNetOf, IsExtracted}
 use Rattle.lw_laws.specs.Mapped.{root_class}
 use Rattle.lw_laws.specs.Names.{AreDifferent, net_names}
 use Rattle.lw_laws.specs.Headline.{Port, Ports}
+pub use Rattle.lw_laws.specs.Headline.{AreNetNames}
 
 -- each output's net is one of the network's
 abbrev pub HasPorts : Network → Ports → Type 0
@@ -30,13 +31,6 @@ pub record ArePortNames (net : Network) (ports : Ports) : Type 0 where
   pub inputs_differ : AreDifferent ports.inputs
   pub outputs_differ : AreDifferent (map (λ p. p.name) ports.outputs)
   pub tied : (i k : ℕ) (p : Port) → slice_get ports.outputs k ≡ Some p → slice_get ports.inputs i ≡ Some p.name → p.net ≡ i
-
--- There is a name for each net, the nets' names differ and the outputs' do, and a net with an output's name is that output's.
-pub record AreNetNames (n : Netlist) (names : List (List ℕ)) (mapped : Ports) : Type 0 where
-  pub one_each : length names ≡ n.inputs + length n.gates
-  pub nets_differ : AreDifferent names
-  pub outputs_differ : AreDifferent (map (λ p. p.name) mapped.outputs)
-  pub owned : (j k : ℕ) (p : Port) → slice_get mapped.outputs k ≡ Some p → slice_get names j ≡ Some p.name → j ≡ p.net
 
 -- the classes of the outputs' sums of products
 abbrev pub root_classes : ℕ → Network → Graph → List Port → List ℕ
