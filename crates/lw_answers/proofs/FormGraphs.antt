@@ -7,7 +7,7 @@ use Rattle.lw_laws.specs.Flip.{flip}
 use Rattle.lw_laws.specs.Modes.{Mode}
 use Rattle.lw_laws.specs.Trees.{leaf, const_one}
 use Rattle.lw_laws.specs.Networks.{Network}
-use Rattle.lw_laws.specs.Decompositions.{listing_of}
+use Rattle.lw_laws.specs.Listings.{listing_of}
 use Rattle.lw_laws.specs.Numbering.{number}
 use Rattle.lw_laws.specs.Graphs.{Graph, Pair, class_of, pair_count}
 use Rattle.lw_laws.specs.Classes.{IsGraphOf}

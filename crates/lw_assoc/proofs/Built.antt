@@ -8,7 +8,7 @@ use Rattle.lw_laws.specs.NumberedForms.{NumberedForms, family_of}
 use Rattle.lw_laws.specs.NumberedValues.{AreNumberedValues}
 use Rattle.lw_laws.specs.Laws.{HasNumberedTrees, HasNumberedTruth}
 use Rattle.lw_laws.specs.Classes.{IsGraphOf}
-use Rattle.lw_laws.specs.Decompositions.{listing_of}
+use Rattle.lw_laws.specs.Listings.{listing_of}
 use Rattle.lw_laws.specs.Mapped.{forms_of}
 use Rattle.lw_laws.specs.Drafts.{Draft, IsReduced, HaveSameFacts, facts_of}
 use Rattle.lw_laws.proofs.Drafts.{Encodes-same, IsReduced-encodes}

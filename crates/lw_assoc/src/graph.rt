@@ -6,7 +6,7 @@ ghost use Rattle.lw_laws.specs.NumberedForms.{family_of};
 ghost use Rattle.lw_laws.specs.NumberedValues.{AreNumberedValues};
 ghost use Rattle.lw_laws.specs.Laws.{HasNumberedTrees, HasNumberedTruth};
 ghost use Rattle.lw_laws.specs.Classes.{IsGraphOf};
-ghost use Rattle.lw_laws.specs.Decompositions.{listing_of};
+ghost use Rattle.lw_laws.specs.Listings.{listing_of};
 ghost use Rattle.lw_laws.specs.Occurring.{occurring_forms, split_count};
 ghost use Rattle.lw_laws.specs.Mapped.{forms_of};
 ghost use Rattle.lw_assoc.specs.Modes.{law_mode};

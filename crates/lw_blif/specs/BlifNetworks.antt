@@ -5,7 +5,7 @@ use Rattle.lw_net.specs.declared.draft.Draft.{Draft}
 use Rattle.lw_net.specs.declared.fault.NetFault.{NetFault}
 use Rattle.lw_net.specs.declared.fault.NetFault.TheVariants as whole
 use Rattle.lw_net.specs.Networks.{IsNetwork, input_names, output_names}
-use Rattle.lw_net.specs.Closing.{IsClosed, HasFault}
+use Rattle.lw_net.specs.Closing.{HasFault}
 use Rattle.std.specs.List.{IsDistinct}
 use Rattle.std.specs.Str.{bytes_eq}
 use Rattle.lw_frame.specs.Frames.{Fits}
@@ -14,7 +14,8 @@ use Rattle.lw_blif.specs.declared.parsed.Parsed.{Parsed}
 use Rattle.lw_blif.specs.declared.fault.BlifFault.{BlifFault}
 use Rattle.lw_blif.specs.declared.fault.BlifFault.TheVariants as fault
 use Rattle.lw_blif.specs.LineFaults.{FaultAt, first_fault, lines_read}
-use Rattle.lw_blif.specs.Drafts.{draft_of, frame_on, starts_on}
+use Rattle.lw_blif.specs.Drafts.{draft_of}
+pub use Rattle.lw_blif.specs.Drafts.{IsModelOf}
 
 -- the fault of a network as a whole, or that memory ran out
 abbrev pub whole_fault : NetFault → BlifFault
@@ -33,12 +34,6 @@ abbrev pub HasWholeFault : Draft → NetFault → Type 0
 HasWholeFault draft (whole.Undefined name) = HasFault draft (whole.Undefined name)
 HasWholeFault draft (whole.Cycle name) = HasFault draft (whole.Cycle name)
 HasWholeFault draft whole.Memory = ⊥
-
--- The model that the lines say: the network of their combinational part, its frame and the starts of its inputs.
-pub record IsModelOf (lines : List LogicalLine) (model : Parsed) : Type 0 where
-  pub network : IsClosed (draft_of lines) model.network
-  pub frame : model.frame ≡ frame_on lines
-  pub starts : model.starts ≡ starts_on lines
 
 -- The model of the lines, or the fault of the whole. Running out of memory is always allowed.
 abbrev pub ClosesTo : List LogicalLine → Result Parsed BlifFault → Type 0

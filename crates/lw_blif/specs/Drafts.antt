@@ -1,10 +1,12 @@
 -- What lines that break no rule say.
-use Rattle.std.specs.Prelude.{ℕ, Bool, not, List, [], ◌∷◌, ◌++◌, length, map, filter, Option, Some, None, Result, Ok, Err, if◌then◌else◌, codes}
+use Rattle.std.specs.Prelude.{ℕ, ◌≡◌, Bool, not, List, [], ◌∷◌, ◌++◌, length, map, filter, Option, Some, None, Result, Ok, Err, if◌then◌else◌, codes}
 use Rattle.std.specs.List.{list_any, flat_map}
 use Rattle.std.specs.Str.{bytes_eq}
 use Rattle.lw_words.specs.Lines.{LogicalLine}
+use Rattle.lw_net.specs.Closing.{IsClosed}
 use Rattle.lw_net.specs.declared.draft.Draft.{Draft}
 use Rattle.lw_net.specs.declared.draft.DraftNode.{DraftNode}
+use Rattle.lw_blif.specs.declared.parsed.Parsed.{Parsed}
 use Rattle.lw_blif.specs.declared.command.Command.{Command}
 use Rattle.lw_blif.specs.declared.command.Command.TheVariants as asks
 use Rattle.lw_blif.specs.declared.command.Command.TheVariants.{Model, Inputs, Outputs}
@@ -106,3 +108,9 @@ frame_on lines = frame_of (flat_map inputs_on lines) (flat_map outputs_on lines)
 -- the starts of the inputs of the combinational part
 unfoldable pub starts_on : List LogicalLine → List Micro
 starts_on lines = starts_of (flat_map arrivals_on lines) (flat_map inputs_on lines) (length (flat_map latches_on lines))
+
+-- The model that the lines say: the network of their combinational part, its frame and the starts of its inputs.
+pub record IsModelOf (lines : List LogicalLine) (model : Parsed) : Type 0 where
+  pub network : IsClosed (draft_of lines) model.network
+  pub frame : model.frame ≡ frame_on lines
+  pub starts : model.starts ≡ starts_on lines

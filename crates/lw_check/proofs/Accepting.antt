@@ -9,7 +9,7 @@ use Rattle.lw_fixed.specs.declared.micro.Micro.{Micro}
 use Rattle.lw_pool.specs.declared.id.NetId.{NetId}
 use Rattle.lw_laws.specs.Costs.{Cost}
 use Rattle.lw_laws.specs.Covers.{Pattern, tree_of}
-use Rattle.lw_laws.specs.Decompositions.{listing_of}
+use Rattle.lw_laws.specs.Listings.{listing_of}
 use Rattle.lw_laws.specs.Delays.{delay_cost}
 use Rattle.lw_laws.specs.Choices.{IsPotential, Labels}
 use Rattle.lw_laws.specs.Extracts.{AreGateClasses, HaveLeafLabels, IsExtracted, IsNetOf, class_at}

@@ -124,15 +124,17 @@ module _ (mode : Mode) (width : ℕ) (truth : CellTruth) (k : Claim) (kept : IsK
 
   mapped_over : IsMappedOver mode width net' k.graph k.pats (timing_in k) most_time (plain_labels k.mapped.cert) n class
   mapped_over = record {
-    labelled = record {
-      wide = over.wide;
-      encodes = over.encodes;
-      few = (let a = over.one_leaf in let b = kept.network.named in let c = kept.network.few in omega arith);
-      patterns = over.patterns;
-      potential = yes'.3;
+    wide = over.wide;
+    over = record {
+      labelled = record {
+        encodes = over.encodes;
+        few = (let a = over.one_leaf in let b = kept.network.named in let c = kept.network.few in omega arith);
+        patterns = over.patterns;
+        potential = yes'.3;
+      };
+      ordered = ordered;
+      mapped = gates_mapped;
     };
-    ordered = ordered;
-    mapped = gates_mapped;
   }
 
   -- the label of a class as a plain number
@@ -154,9 +156,11 @@ module _ (mode : Mode) (width : ℕ) (truth : CellTruth) (k : Claim) (kept : IsK
         let at_time = class_is port.net time.class time.has_class in
         record {
           of_network = (let a = kept.network.named in let b = length-map k.net.nodes network.plain_node in let c = within k.net.outputs (length k.net.names) kept.network.outputs j output at in omega arith);
-          of_netlist = (let a = kept.netlist.named in let b = length-map k.mapped.netlist.gates netlist.plain_gate in let c = port_within j port here in omega arith);
-          at_class = at_root ∙ same;
-          at_label = ap (labels_in (plain_labels k.mapped.cert)) at_time ∙ (plain_label time.class time.label time.has_label ∙ ap Some (sym (arrives_then port.net time.label.0 time.arrives)));
+          rooted = record {
+            of_netlist = (let a = kept.netlist.named in let b = length-map k.mapped.netlist.gates netlist.plain_gate in let c = port_within j port here in omega arith);
+            at_class = at_root ∙ same;
+            at_label = ap (labels_in (plain_labels k.mapped.cert)) at_time ∙ (plain_label time.class time.label time.has_label ∙ ap Some (sym (arrives_then port.net time.label.0 time.arrives)));
+          };
         }
       where
         within : (outputs : List NetId) (m : ℕ) → All (λ (o : NetId). o.0 < m) outputs → (j : ℕ) (o : NetId) → slice_get outputs j ≡ Some o → o.0 < m

@@ -3,7 +3,7 @@ ghost use Rattle.std.specs.Prelude.{ℕ, ◌≤◌, List, Option, All};
 ghost use Rattle.lw_fixed.specs.declared.micro.Micro.{Micro};
 ghost use Rattle.lw_laws.specs.Modes.{Mode};
 ghost use Rattle.lw_laws.specs.Networks.{Network};
-ghost use Rattle.lw_laws.specs.Decompositions.{listing_of};
+ghost use Rattle.lw_laws.specs.Listings.{listing_of};
 ghost use Rattle.lw_laws.specs.Classes.{IsGraphOf};
 ghost use Rattle.lw_laws.specs.Graphs.{Graph};
 ghost use Rattle.lw_laws.specs.Covers.{Pattern};

@@ -4,7 +4,7 @@ use Rattle.std.proofs.lemmas.List.{length-map}
 use Rattle.lw_net.specs.Networks.{NetworkParts, IsNetwork}
 use Rattle.lw_net.specs.Plain.{plain, plain_node}
 use Rattle.lw_laws.specs.Networks.{Network}
-use Rattle.lw_laws.specs.Decompositions.{Listing, listing_of, Occurs}
+use Rattle.lw_laws.specs.Listings.{Listing, listing_of, IsListed as IsListedForm}
 use Rattle.lw_laws.specs.Forms.{Form}
 use Rattle.lw_laws.specs.Listings.{IsListing}
 use Rattle.lw_laws.specs.Mapped.{forms_of}
@@ -33,23 +33,23 @@ same_record i j a b s t f g ei ea es ef =
     ∙ (ap {B = NumberedForms} (λ x. record { inputs = j; bases = b; sops = x; facs = f }) es ∙ ap {B = NumberedForms} (λ x. record { inputs = j; bases = b; sops = t; facs = x }) ef))
 
 module _ (forms : List Form) (are : AreMade forms) (listed places : List ℕ) (is : IsListed forms listed places) (o : Listing) (lists : IsListing o) (bases : o.bases ≡ bases_of forms listed) where
-  pub sops_placed : (sops facs : List ℕ) → AreBelow (length forms) sops → length sops ≡ length facs → ((s : ℕ) (x : Signal) → slice_get (signals_at forms sops facs) s ≡ Some x → Occurs o x.sop × Occurs o x.fac) → ArePlaced places sops
+  pub sops_placed : (sops facs : List ℕ) → AreBelow (length forms) sops → length sops ≡ length facs → ((s : ℕ) (x : Signal) → slice_get (signals_at forms sops facs) s ≡ Some x → IsListedForm o x.sop × IsListedForm o x.fac) → ArePlaced places sops
   sops_placed [] facs b e h = tt
   sops_placed (s ∷ sops) [] b e h = absurd (omega arith)
   sops_placed (s ∷ sops) (f ∷ facs) (p, b) e h = let (k, at) = (h 0 _ refl).0 in (is_placed forms are listed places is o lists bases s k p at, sops_placed sops facs b (omega arith) (λ j x d. h (suc j) x d))
 
-  pub facs_placed : (sops facs : List ℕ) → AreBelow (length forms) facs → length sops ≡ length facs → ((s : ℕ) (x : Signal) → slice_get (signals_at forms sops facs) s ≡ Some x → Occurs o x.sop × Occurs o x.fac) → ArePlaced places facs
+  pub facs_placed : (sops facs : List ℕ) → AreBelow (length forms) facs → length sops ≡ length facs → ((s : ℕ) (x : Signal) → slice_get (signals_at forms sops facs) s ≡ Some x → IsListedForm o x.sop × IsListedForm o x.fac) → ArePlaced places facs
   facs_placed [] [] b e h = tt
   facs_placed [] (f ∷ facs) b e h = absurd (omega arith)
   facs_placed (s ∷ sops) [] b e h = tt
   facs_placed (s ∷ sops) (f ∷ facs) (p, b) e h = let (k, at) = (h 0 _ refl).1 in (is_placed forms are listed places is o lists bases f k p at, facs_placed sops facs b (omega arith) (λ j x d. h (suc j) x d))
 
-  pub sops_numbered : (sops facs : List ℕ) → AreBelow (length forms) sops → length sops ≡ length facs → ((s : ℕ) (x : Signal) → slice_get (signals_at forms sops facs) s ≡ Some x → Occurs o x.sop × Occurs o x.fac) → map (renumber places) sops ≡ map (sop_number o.bases) (signals_at forms sops facs)
+  pub sops_numbered : (sops facs : List ℕ) → AreBelow (length forms) sops → length sops ≡ length facs → ((s : ℕ) (x : Signal) → slice_get (signals_at forms sops facs) s ≡ Some x → IsListedForm o x.sop × IsListedForm o x.fac) → map (renumber places) sops ≡ map (sop_number o.bases) (signals_at forms sops facs)
   sops_numbered [] facs b e h = refl
   sops_numbered (s ∷ sops) [] b e h = absurd (omega arith)
   sops_numbered (s ∷ sops) (f ∷ facs) (p, b) e h = let (k, at) = (h 0 _ refl).0 in ap₂ (λ x xs. x ∷ xs) (renumbers forms are listed places is o lists bases s k p at) (sops_numbered sops facs b (omega arith) (λ j x d. h (suc j) x d))
 
-  pub facs_numbered : (sops facs : List ℕ) → AreBelow (length forms) facs → length sops ≡ length facs → ((s : ℕ) (x : Signal) → slice_get (signals_at forms sops facs) s ≡ Some x → Occurs o x.sop × Occurs o x.fac) → map (renumber places) facs ≡ map (fac_number o.bases) (signals_at forms sops facs)
+  pub facs_numbered : (sops facs : List ℕ) → AreBelow (length forms) facs → length sops ≡ length facs → ((s : ℕ) (x : Signal) → slice_get (signals_at forms sops facs) s ≡ Some x → IsListedForm o x.sop × IsListedForm o x.fac) → map (renumber places) facs ≡ map (fac_number o.bases) (signals_at forms sops facs)
   facs_numbered [] [] b e h = refl
   facs_numbered [] (f ∷ facs) b e h = absurd (omega arith)
   facs_numbered (s ∷ sops) [] b e h = absurd (omega arith)
@@ -65,7 +65,7 @@ module _ (width : ℕ) (wide : 2 ≤ width) (net : Network) (t : Table) (are : A
   pub of_listing : AreOfListing (made t) listed
   of_listing = (listing_of width net, lists, bases_are)
 
-  occur : (s : ℕ) (x : Signal) → slice_get (signals_at (made t) sops facs) s ≡ Some x → Occurs (listing_of width net) x.sop × Occurs (listing_of width net) x.fac
+  occur : (s : ℕ) (x : Signal) → slice_get (signals_at (made t) sops facs) s ≡ Some x → IsListedForm (listing_of width net) x.sop × IsListedForm (listing_of width net) x.fac
   occur s x e = lists.signals s x (ap (λ l. slice_get l s) (sym w.signals_are) ∙ e)
 
   pub all_sops_placed : ArePlaced places sops

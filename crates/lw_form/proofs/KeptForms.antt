@@ -9,14 +9,15 @@ use Rattle.lw_laws.specs.Forms.{Form, FormList, items, form_list, same_form, is_
 use Rattle.lw_laws.specs.Forms.Form.{var_form, true_form, not_form, and_form}
 use Rattle.lw_laws.specs.Signals.{Signal, signal_of_node, signals_after, input_signals, signal_of_input, signals_of}
 use Rattle.lw_laws.specs.Occurring.{occurring_forms, HasInputsFirst}
-use Rattle.lw_laws.specs.Decompositions.{Listing, listing_of, Occurs, base_form}
+use Rattle.lw_laws.specs.Listings.{Listing, listing_of, IsListed, base_form}
 use Rattle.lw_laws.specs.Listings.{IsListing, AreDistinct, sign_of}
 use Rattle.lw_laws.specs.Numbering.{number, numbered, numbered_base, sop_number, fac_number}
 use Rattle.lw_laws.specs.NumberedForms.{Base}
 use Rattle.lw_laws.specs.NumberedForms.Base.{base_and}
 use Rattle.lw_laws.specs.SignalValues.{number_value, SignalsAgree}
 use Rattle.lw_laws.specs.Mapped.{forms_of}
-use Rattle.lw_laws.proofs.Agreement.{operands_occur, numbered_are_forms}
+use Rattle.lw_laws.proofs.Occurrences.{operands_occur}
+use Rattle.lw_laws.proofs.Agreement.{numbered_are_forms}
 use Rattle.lw_laws.proofs.Equality.{same_form_refl, form_list-items}
 use Rattle.lw_laws.proofs.FormTruth.{signals_agree}
 use Rattle.lw_laws.proofs.Listed.{occurring_is_listing, true_and_inputs_first}
@@ -56,7 +57,7 @@ module _ (o : Listing) (is : IsListing o) where
   N f = number o.bases f
 
   -- numbers with one base form are of one form, or of complements
-  one_base : (f h : Form) → Occurs o f → Occurs o h → N f / 2 ≡ N h / 2 → base_form f ≡ base_form h
+  one_base : (f h : Form) → IsListed o f → IsListed o h → N f / 2 ≡ N h / 2 → base_form f ≡ base_form h
   one_base f h (a, d) (b, e) same =
       let (p, at, k) = number_is o.bases f a d in
       let (q, at', k') = number_is o.bases h b e in
@@ -68,10 +69,10 @@ module _ (o : Listing) (is : IsListing o) where
       inside : (x : Option Form) (f h : Form) → x ≡ Some f → x ≡ Some h → f ≡ h
       inside x f h d e = cc
 
-  base_sign_of : (f : Form) → Occurs o f → sign_of (base_form f) ≡ 0
+  base_sign_of : (f : Form) → IsListed o f → sign_of (base_form f) ≡ 0
   base_sign_of f (b, e) = is.signs b (base_form f) e
 
-  apart_one : (f : Form) (fs : List Form) → Occurs o f → AllByRecursion (Occurs o) fs → is_among f fs ≡ false → is_among (complement f) fs ≡ false → AllByRecursion (λ h. N f / 2 ≢ h / 2) (map N fs)
+  apart_one : (f : Form) (fs : List Form) → IsListed o f → AllByRecursion (IsListed o) fs → is_among f fs ≡ false → is_among (complement f) fs ≡ false → AllByRecursion (λ h. N f / 2 ≢ h / 2) (map N fs)
   apart_one f [] of a nf nc = tt
   apart_one f (h ∷ fs) of (oh, a) nf nc =
       let p = or_parts (same_form f h) (is_among f fs) nf in
@@ -83,7 +84,7 @@ module _ (o : Listing) (is : IsListing o) where
       differ p q (inr e) = not_both (same_form (complement f) h) (subst (λ g. same_form (complement f) g ≡ true) (sym e) (same_form_refl (complement f))) q
 
   -- the place 0 is that of true
-  not_true : (f : Form) → Occurs o f → slice_get o.bases 0 ≡ Some true_form → same_form f true_form ≡ false → same_form (not_form true_form) f ≡ false → 0 < N f / 2
+  not_true : (f : Form) → IsListed o f → slice_get o.bases 0 ≡ Some true_form → same_form f true_form ≡ false → same_form (not_form true_form) f ≡ false → 0 < N f / 2
   not_true f of first nt nn = positive (N f / 2) refl where
     positive : (k : ℕ) → N f / 2 ≡ k → 0 < k
     positive (suc k) e = omega arith
@@ -110,7 +111,7 @@ module _ (o : Listing) (is : IsListing o) where
       let p = or_parts (is_among (complement f) (h ∷ all)) (list_any (λ g. is_among (complement g) (h ∷ all)) fs) e in
       or_from (is_among (complement f) all) (list_any (λ g. is_among (complement g) all) fs) (among_tail (complement f) h all p.0) (weaker_any h all fs p.1)
 
-  are_apart : (fs : List Form) → AllByRecursion (Occurs o) fs → slice_get o.bases 0 ≡ Some true_form → AreDistinct fs → is_among (not_form true_form) fs ≡ false → list_any (λ f. is_among (complement f) fs) fs ≡ false → AreApart (map N fs)
+  are_apart : (fs : List Form) → AllByRecursion (IsListed o) fs → slice_get o.bases 0 ≡ Some true_form → AreDistinct fs → is_among (not_form true_form) fs ≡ false → list_any (λ f. is_among (complement f) fs) fs ≡ false → AreApart (map N fs)
   are_apart [] a first d n c = tt
   are_apart (f ∷ fs) (of, a) first (nt, nf, d) n c =
       let p = or_parts (same_form (not_form true_form) f) (is_among (not_form true_form) fs) n in
@@ -139,7 +140,7 @@ module _ (o : Listing) (is : IsListing o) where
       subst AreAndOperands a.numbers (record {
         two = let t = ops.two in omega arith;
         few = let t = ops.few in omega arith;
-        apart = are_apart (items a.fs) (operands_occur 0 o is b a.fs a.listed) first ops.distinct clash.0 clash.1;
+        apart = are_apart (items a.fs) (operands_occur o is b a.fs a.listed) first ops.distinct clash.0 clash.1;
       })
 
   -- the numbered base forms differ
@@ -158,7 +159,7 @@ module _ (o : Listing) (is : IsListing o) where
   same_base a b (and_form fs) true_form d e s = cc
   same_base a b (and_form fs) (and_form hs) d e s =
       let ns : map N (items fs) ≡ map N (items hs) = cc in
-      let all = numbers_injective o is (items fs) (items hs) (operands_occur 0 o is a fs d) (operands_occur 0 o is b hs e) ns in
+      let all = numbers_injective o is (items fs) (items hs) (operands_occur o is a fs d) (operands_occur o is b hs e) ns in
       ap and_form (sym (form_list-items fs) ∙ (ap form_list all ∙ form_list-items hs))
 
   pub once_kept : (a b : ℕ) (base : Base) → slice_get (map (numbered_base o.bases) o.bases) a ≡ Some base → slice_get (map (numbered_base o.bases) o.bases) b ≡ Some base → a ≡ b
@@ -227,11 +228,11 @@ forms_kept width net wide narrow few short =
 -- both forms of each net have the net's value
 
 module _ (x : ℕ → Bool) (o : Listing) (is : IsListing o) where
-  sops_valued : (signals : List Signal) → ((s : ℕ) (y : Signal) → slice_get signals s ≡ Some y → Occurs o y.sop × Occurs o y.fac) → map (number_value o x) (map (sop_number o.bases) signals) ≡ map (λ y. form_value x y.sop) signals
+  sops_valued : (signals : List Signal) → ((s : ℕ) (y : Signal) → slice_get signals s ≡ Some y → IsListed o y.sop × IsListed o y.fac) → map (number_value o x) (map (sop_number o.bases) signals) ≡ map (λ y. form_value x y.sop) signals
   sops_valued [] h = refl
   sops_valued (y ∷ signals) h = ap₂ (λ v vs. v ∷ vs) (value_of_number 0 o is x y.sop (h 0 y refl).0) (sops_valued signals (λ s z e. h (suc s) z e))
 
-  facs_valued : (signals : List Signal) → ((s : ℕ) (y : Signal) → slice_get signals s ≡ Some y → Occurs o y.sop × Occurs o y.fac) → SignalsAgree signals x → map (number_value o x) (map (fac_number o.bases) signals) ≡ map (λ y. form_value x y.sop) signals
+  facs_valued : (signals : List Signal) → ((s : ℕ) (y : Signal) → slice_get signals s ≡ Some y → IsListed o y.sop × IsListed o y.fac) → SignalsAgree signals x → map (number_value o x) (map (fac_number o.bases) signals) ≡ map (λ y. form_value x y.sop) signals
   facs_valued [] h a = refl
   facs_valued (y ∷ signals) h a = ap₂ (λ v vs. v ∷ vs) (value_of_number 0 o is x y.fac (h 0 y refl).1 ∙ sym (a 0 y refl)) (facs_valued signals (λ s z e. h (suc s) z e) (λ s z e. a (suc s) z e))
 

@@ -12,7 +12,7 @@ use Rattle.indexmap.specs.IndexSet.{insert_key}
 use Rattle.lw_laws.specs.Forms.{Form, FormList, items, form_list, and_of, same_form, is_among, complement}
 use Rattle.lw_laws.specs.Forms.Form.{var_form, true_form, not_form, and_form}
 use Rattle.lw_laws.specs.Listings.{sign_of}
-use Rattle.lw_laws.specs.Decompositions.{base_form}
+use Rattle.lw_laws.specs.Listings.{base_form}
 use Rattle.lw_laws.specs.Occurring.{appended}
 use Rattle.lw_laws.specs.SignalValues.{form_of}
 use Rattle.lw_laws.proofs.Equality.{same_form_refl, same_form_eq, items-form_list}

@@ -1,6 +1,6 @@
 -- Numbers of forms in the list, made of their numbers in the table.
 use Rattle.std.specs.Prelude.{ℕ, zero, suc, ◌+◌, ◌*◌, ◌/◌, ◌%◌, ◌^◌, ◌<◌, ◌≡◌, List, [], ◌∷◌, map, length, Some, slice_get}
-use Rattle.lw_laws.specs.Decompositions.{Listing}
+use Rattle.lw_laws.specs.Listings.{Listing}
 use Rattle.lw_laws.specs.Forms.{Form}
 use Rattle.lw_laws.specs.Forms.Form.{var_form, true_form}
 use Rattle.lw_laws.specs.Listings.{IsListing}

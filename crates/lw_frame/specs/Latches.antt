@@ -1,8 +1,8 @@
 -- Latches as lines of a text.
-use Rattle.std.specs.Prelude.{ℕ, ◌≤◌, List, ◌∷◌, length, All, codes}
+use Rattle.std.specs.Prelude.{◌≤◌, length, All}
 use Rattle.lw_pool.specs.declared.latch.Latch.{Latch}
-use Rattle.lw_words.specs.Texts.{line}
 use Rattle.lw_words.specs.Words.{IsSignalName}
+pub use Rattle.lw_frame.specs.Frames.{latch_line}
 
 -- two names, and up to three further ones
 pub record IsReadableLatch (latch : Latch) : Type 0 where
@@ -10,7 +10,3 @@ pub record IsReadableLatch (latch : Latch) : Type 0 where
   pub output : IsSignalName latch.output
   pub rest : All IsSignalName latch.rest
   pub few : length latch.rest ≤ 3
-
--- what a latch stores, what it gives, and its further words
-abbrev pub latch_line : Latch → List ℕ
-latch_line latch = line (codes ".latch") (latch.input ∷ latch.output ∷ latch.rest)

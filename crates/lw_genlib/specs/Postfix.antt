@@ -1,6 +1,7 @@
 -- Expressions as lists of steps in postfix order.
 use Rattle.std.specs.Prelude.{ℕ, ◌+◌, ◌-◌, ◌≤◌, ◌≡◌, ◌↔◌, ◌<◌, false, List, [], ◌∷◌, ◌++◌, length, take, drop}
 use Rattle.lw_laws.specs.Expressions.{Expr, Exprs, MentionsPin}
+pub use Rattle.lw_laws.specs.Expressions.{exprs_of, first_expr}
 use Rattle.lw_laws.specs.Expressions.Expr.{expr_const, expr_pin, expr_not, expr_and, expr_or}
 use Rattle.lw_laws.specs.Expressions.Exprs.{no_exprs, more_exprs}
 use Rattle.lw_genlib.specs.declared.op.ExprOp.{ExprOp}
@@ -56,14 +57,6 @@ arity (Pin k) = 0
 arity Not = 1
 arity (And n) = n
 arity (Or n) = n
-
-abbrev pub exprs_of : List Expr → Exprs
-exprs_of [] = no_exprs
-exprs_of (e ∷ es) = more_exprs e (exprs_of es)
-
-abbrev pub first_expr : List Expr → Expr
-first_expr [] = expr_const false
-first_expr (e ∷ es) = e
 
 -- what a step makes of the expressions that it takes
 abbrev pub expr_by : ExprOp → List Expr → Expr

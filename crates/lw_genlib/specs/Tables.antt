@@ -1,7 +1,9 @@
--- The cells of a library as tables: by the number of a cell, the delays of its pins, and its truth.
+-- The cells of a library as tables: by the number of a cell, the delays of its pins, and its truth; and the patterns of all cells.
 use Rattle.std.specs.Prelude.{ℕ, Bool, false, List, map, Option, Some, None, slice_get}
 use Rattle.lw_fixed.specs.declared.micro.Micro.{Micro}
-use Rattle.lw_laws.specs.Covers.{Timing}
+use Rattle.lw_laws.specs.Covers.{Timing, Pattern}
+use Rattle.lw_laws.specs.Expressions.{Expr}
+use Rattle.lw_laws.specs.Patterns.{patterns_of}
 use Rattle.lw_laws.specs.Netlists.{CellTruth}
 use Rattle.lw_genlib.specs.Cells.{CellParts, cell_value}
 
@@ -26,3 +28,11 @@ truth_in (Some cell) ys = cell_value cell ys
 
 abbrev pub truth_of_cells : List CellParts → CellTruth
 truth_of_cells cells cell ys = truth_in (slice_get cells cell) ys
+
+-- the forms of a cell's function
+abbrev pub forms_of : CellParts → List Expr
+forms_of cell = cell.forms
+
+-- the patterns of the cells: by cells, their forms, and the bracketings of a form
+abbrev pub library_patterns : List CellParts → List Pattern
+library_patterns cells = patterns_of (map forms_of cells)

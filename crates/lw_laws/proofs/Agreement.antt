@@ -1,9 +1,8 @@
 -- The laws over plain forms and the laws over numbers give each occurring form the same trees.
-use Rattle.std.proofs.Common.{ℕ, ◌+◌, ◌*◌, ◌/◌, ◌<◌, ◌≤◌, ◌≡◌, ◌≢◌, ◌⊎◌, inl, inr, List, [], ◌∷◌, length, map, Some, slice_get, refl, ap, sym, ◌∙◌, subst, subst₂, arith, add-zero, lt_of_not-le}
+use Rattle.std.proofs.Common.{ℕ, ◌+◌, ◌*◌, ◌/◌, ◌<◌, ◌≤◌, ◌≡◌, ◌≢◌, ◌⊎◌, inl, inr, List, [], ◌∷◌, length, map, Some, slice_get, refl, ap, sym, ◌∙◌, subst, subst₂, arith, add-zero}
 use Rattle.std.specs.List.{AllByRecursion}
 use Rattle.std.proofs.lemmas.Option.{same_Some, slice_get_within}
 use Rattle.std.proofs.lemmas.List.{length-map}
-use native.Mathlib.Decide.{dec_le}
 use Rattle.lw_laws.specs.Flip.{flip}
 use Rattle.lw_laws.specs.Trees.{Tree, leaf, const_one, const_zero, nand}
 use Rattle.lw_laws.specs.Families.{AreLinked, Derives}
@@ -14,18 +13,19 @@ use Rattle.lw_laws.specs.Modes.Mode.{plain, idempotent}
 use Rattle.lw_laws.specs.Forms.{Form, FormList, items, form_list, and_of, complement, conjunction}
 use Rattle.lw_laws.specs.Forms.Form.{var_form, true_form, not_form, and_form}
 use Rattle.lw_laws.specs.Signals.{Signal}
-use Rattle.lw_laws.specs.Decompositions.{Listing, Occurs, base_form, AreParts, AreOfOneSignal, HasTree}
+use Rattle.lw_laws.specs.Decompositions.{AreParts, AreOfOneSignal, HasTree}
 use Rattle.lw_laws.specs.Decompositions.AreParts.{parts_none, parts_left, parts_right}
 use Rattle.lw_laws.specs.Decompositions.HasTree.{input_law, true_law, false_law, inverter_law, split_law, sharing_law, factoring_law, overlap_law, tied_inverter_law}
 use Rattle.lw_laws.specs.Numbering.{number, numbered_base, sop_number, fac_number, numbered, HasSameTrees}
 use Rattle.lw_laws.specs.Modes.{Mode}
-use Rattle.lw_laws.specs.Listings.{IsListing, IsListedBefore, sign_of, IsSub}
+use Rattle.lw_laws.specs.Listings.{Listing, IsListed, base_form, IsListing, IsListedBefore, sign_of, IsSub}
 use Rattle.lw_laws.specs.Classes.{IsNandForm}
 use Rattle.lw_laws.specs.Classes.IsNandForm.{of_parts, of_overlap, of_complement}
 use Rattle.lw_laws.proofs.Flips.{flip-flip, flip_even, flip_odd, even_or_odd}
 use Rattle.lw_laws.proofs.Equality.{items-form_list, form_list-items}
-use Rattle.lw_laws.proofs.Sublists.{parts_subs, parts_turned, overlapping_subs, overlapping_turned, IsSub_all, IsSub_whole, conjunction_of_one, conjunction_of_more}
+use Rattle.lw_laws.proofs.Sublists.{parts_subs, parts_turned, overlapping_subs, overlapping_turned, IsSub_all, conjunction_of_one, conjunction_of_more}
 use Rattle.lw_laws.proofs.Numbers.{slice_get_map, slice_get_map_back, number_of, numbers_differ, occurs_complement, occurs_sign, number_complement, occurs_number, number_occurs, numbers_injective, complement_twice, sign_two}
+use Rattle.lw_laws.proofs.Occurrences.{operands_occur, and_sub_listed, occurring_listed, listed_occurs}
 use Rattle.lw_laws.proofs.Lists.{slice_get_some}
 use Rattle.lw_laws.proofs.CutParts.{cut_of_parts, covering_of_overlapping, parts_of_cut, overlap_of_covering}
 use Rattle.lw_laws.proofs.Words.{IsNumber}
@@ -69,28 +69,13 @@ module _ (inputs : ℕ) (o : Listing) (is : IsListing o) where
   true_of_base b (not_form f) e s = let z = is.signs b (not_form f) e in absurd (omega arith)
   true_of_base b (and_form fs) e s = cc
 
-  -- the operands of a listed And occur
-  pub operands_occur : (b : ℕ) (fs : FormList) → slice_get o.bases b ≡ Some (and_form fs) → AllByRecursion (Occurs o) (items fs)
-  operands_occur b fs e = all_occur (items fs) (is.ands b fs e).before where
-    all_occur : (hs : List Form) → AllByRecursion (IsListedBefore o.bases b) hs → AllByRecursion (Occurs o) hs
-    all_occur [] a = tt
-    all_occur (h ∷ hs) ((k, e, lt), a) = ((k, e), all_occur hs a)
-
   -- the And of a sub-list of a listed And's operands, its number, and back
   record IsPartForm (hs : List Form) (f : Form) : Type 0 where
-    occurs : Occurs o f
+    occurs : IsListed o f
     is_part : IsPart forms (map N hs) (N f)
     back : (x : ℕ) → IsPart forms (map N hs) x → x ≡ N f
 
-  and_sub_listed : (b : ℕ) (fs : FormList) → slice_get o.bases b ≡ Some (and_form fs) → (hs : List Form) → IsSub hs (items fs) → 2 ≤ length hs → Occurs o (and_of hs)
-  and_sub_listed b fs e hs s two =
-      by_length (dec_le (length (items fs)) (length hs))
-    where
-      by_length : Dec (length (items fs) ≤ length hs) → Occurs o (and_of hs)
-      by_length (yes le) = (b, e ∙ ap Some (ap and_form (sym (ap form_list (IsSub_whole s le) ∙ form_list-items fs))))
-      by_length (no gt) = let (k, l, lt) = (is.ands b fs e).subs hs s two (lt_of_not-le gt) in (k, l)
-
-  part_of_more : (f h : Form) (hs : List Form) → AllByRecursion (Occurs o) (f ∷ h ∷ hs) → Occurs o (and_of (f ∷ h ∷ hs)) → IsPartForm (f ∷ h ∷ hs) (and_of (f ∷ h ∷ hs))
+  part_of_more : (f h : Form) (hs : List Form) → AllByRecursion (IsListed o) (f ∷ h ∷ hs) → IsListed o (and_of (f ∷ h ∷ hs)) → IsPartForm (f ∷ h ∷ hs) (and_of (f ∷ h ∷ hs))
   part_of_more f h hs all occ =
       let (b, l, s) = occurs_number o is (and_of (f ∷ h ∷ hs)) occ in
       let at : slice_get forms.bases b ≡ Some (base_and (map N (f ∷ h ∷ hs))) =
@@ -100,7 +85,7 @@ module _ (inputs : ℕ) (o : Listing) (is : IsListing o) where
         is_part = (b, at, s ∙ add-zero (2 * b));
         back = λ x (c, e, t).
             let a = and_at c (map N (f ∷ h ∷ hs)) e in
-            let same = numbers_injective o is (items a.operands) (f ∷ h ∷ hs) (operands_occur c a.operands a.listed) all a.numbers in
+            let same = numbers_injective o is (items a.operands) (f ∷ h ∷ hs) (operands_occur o is c a.operands a.listed) all a.numbers in
             let form : and_form a.operands ≡ and_of (f ∷ h ∷ hs) = ap and_form (sym (form_list-items a.operands) ∙ ap form_list same) in
             number_of o is (and_of (f ∷ h ∷ hs)) x (c, a.listed ∙ ap Some form, t ∙ sym (add-zero (2 * c)));
       }
@@ -108,14 +93,14 @@ module _ (inputs : ℕ) (o : Listing) (is : IsListing o) where
   part_form : (b : ℕ) (fs : FormList) → slice_get o.bases b ≡ Some (and_form fs) → (hs : List Form) → IsSub hs (items fs) → 1 ≤ length hs → IsPartForm hs (conjunction o.width hs)
   part_form b fs e [] s le = absurd (omega arith)
   part_form b fs e (f ∷ []) s le =
-      let all = IsSub_all (Occurs o) s (operands_occur b fs e) in
+      let all = IsSub_all (IsListed o) s (operands_occur o is b fs e) in
       subst (IsPartForm (f ∷ [])) (sym (conjunction_of_one o.width (items fs) (is.ands b fs e).operands_are f s))
       (record { occurs = all.0; is_part = refl; back = λ x p. p })
   part_form b fs e (f ∷ h ∷ hs) s le =
-      let all = IsSub_all (Occurs o) s (operands_occur b fs e) in
+      let all = IsSub_all (IsListed o) s (operands_occur o is b fs e) in
       let two : 2 ≤ length (f ∷ h ∷ hs) = omega arith in
       subst (IsPartForm (f ∷ h ∷ hs)) (sym (conjunction_of_more o.width (items fs) (is.ands b fs e).operands_are f h hs s))
-      (part_of_more f h hs all (and_sub_listed b fs e (f ∷ h ∷ hs) s two))
+      (part_of_more f h hs all (and_sub_listed o is b fs e (f ∷ h ∷ hs) s two))
 
   pub number_in : (f : Form) (n : ℕ) → IsNumber o.bases f n → Rattle.lw_laws.specs.NumberedForms.NumberOccurs forms n
   number_in f n (b, e, s) =
@@ -139,25 +124,25 @@ module _ (inputs : ℕ) (o : Listing) (is : IsListing o) where
   signal_numbers : (s : ℕ) (x : Signal) → slice_get o.signals s ≡ Some x → IsSignal forms (N x.sop) (N x.fac)
   signal_numbers s x e = (s, slice_get_map (sop_number o.bases) o.signals s x e, slice_get_map (fac_number o.bases) o.signals s x e)
 
-  flipped_number : (p f : Form) → Occurs o p → f ≡ complement p → flip (N f) ≡ N p
+  flipped_number : (p f : Form) → IsListed o p → f ≡ complement p → flip (N f) ≡ N p
   flipped_number p f occ e =
       let c = number_of o is (complement p) (flip (N p)) (number_complement o is p (N p) (occurs_number o is p occ)) in
       ap (λ h. flip (N h)) e ∙ (ap flip (sym c) ∙ flip-flip (N p))
 
-  link_numbers : (mode : Mode) (f h : Form) → AreOfOneSignal o f h → AreLinked (family_of mode forms) (N f) (N h) × Occurs o h
+  link_numbers : (mode : Mode) (f h : Form) → AreOfOneSignal o.signals f h → AreLinked (family_of mode forms) (N f) (N h) × IsListed o h
   link_numbers mode f h (s, x, e, inl (inl (p, q))) =
-      (inl (inl (subst₂ (λ a b. IsSignal forms a b) (ap N (sym p)) (ap N (sym q)) (signal_numbers s x e))), subst (Occurs o) (sym q) (is.signals s x e).1)
+      (inl (inl (subst₂ (λ a b. IsSignal forms a b) (ap N (sym p)) (ap N (sym q)) (signal_numbers s x e))), subst (IsListed o) (sym q) (is.signals s x e).1)
   link_numbers mode f h (s, x, e, inl (inr (p, q))) =
-      (inl (inr (subst₂ (λ a b. IsSignal forms a b) (ap N (sym q)) (ap N (sym p)) (signal_numbers s x e))), subst (Occurs o) (sym q) (is.signals s x e).0)
+      (inl (inr (subst₂ (λ a b. IsSignal forms a b) (ap N (sym q)) (ap N (sym p)) (signal_numbers s x e))), subst (IsListed o) (sym q) (is.signals s x e).0)
   link_numbers mode f h (s, x, e, inr (inl (p, q))) =
       let occ = is.signals s x e in
-      (inr (inl (subst₂ (λ a b. IsSignal forms a b) (sym (flipped_number x.sop f occ.0 p)) (sym (flipped_number x.fac h occ.1 q)) (signal_numbers s x e))), subst (Occurs o) (sym q) (occurs_complement o is x.fac occ.1))
+      (inr (inl (subst₂ (λ a b. IsSignal forms a b) (sym (flipped_number x.sop f occ.0 p)) (sym (flipped_number x.fac h occ.1 q)) (signal_numbers s x e))), subst (IsListed o) (sym q) (occurs_complement o is x.fac occ.1))
   link_numbers mode f h (s, x, e, inr (inr (p, q))) =
       let occ = is.signals s x e in
-      (inr (inr (subst₂ (λ a b. IsSignal forms a b) (sym (flipped_number x.sop h occ.0 q)) (sym (flipped_number x.fac f occ.1 p)) (signal_numbers s x e))), subst (Occurs o) (sym q) (occurs_complement o is x.sop occ.0))
+      (inr (inr (subst₂ (λ a b. IsSignal forms a b) (sym (flipped_number x.sop h occ.0 q)) (sym (flipped_number x.fac f occ.1 p)) (signal_numbers s x e))), subst (IsListed o) (sym q) (occurs_complement o is x.sop occ.0))
 
   -- each tree of a plain form is one of its number
-  to_numbers : (mode : Mode) {f : Form} {t : Tree} → HasTree mode o f t → (n : ℕ) → IsNumber o.bases f n → Derives (family_of mode forms) n t
+  to_numbers : (mode : Mode) {f : Form} {t : Tree} → HasTree mode o.width o.signals f t → (n : ℕ) → IsNumber o.bases f n → Derives (family_of mode forms) n t
   to_numbers mode (input_law {i = i}) n (b, e, s) = by_input (b, listed_base b (var_form i) e, s ∙ add-zero (2 * b))
   to_numbers mode true_law n (b, e, s) = by_top (b, listed_base b true_form e, s ∙ add-zero (2 * b))
   to_numbers mode false_law n (b, e, s) = by_bottom (b, listed_base b true_form e, flip_odd n b s)
@@ -172,7 +157,7 @@ module _ (inputs : ℕ) (o : Listing) (is : IsListing o) where
       let cut : IsCutOf forms n x y = (b, map N (items fs), map N ls, map N rs, listed_base b (and_form fs) l, s, cut_of_parts N parts, p.is_part, q.is_part) in
       by_split (inl (split_by_cut mode n x y cut)) (to_numbers mode d x (occurs_number o is (conjunction o.width ls) p.occurs)) (to_numbers mode e y (occurs_number o is (conjunction o.width rs) q.occurs))
   to_numbers mode (sharing_law {f = f} {h = h} occ other d e k) n num =
-      let m = occurs_number o is h other in
+      let m = occurs_number o is h (occurring_listed o is other) in
       by_common (number_in f n num) (number_in h (N h) m) (to_numbers mode d n num) (to_numbers mode e (N h) m) (to_numbers mode k (N h) m)
   to_numbers mode (factoring_law {f = f} {h = h} one d) n num =
       let r = link_numbers mode f h one in
@@ -184,8 +169,8 @@ module _ (inputs : ℕ) (o : Listing) (is : IsListing o) where
       let q = part_form b fs l rs subs.1 re in
       let x = N (conjunction o.width ls) in
       let y = N (conjunction o.width rs) in
-      let all = operands_occur b fs l in
-      let differ : map N ls ≢ map N rs = λ k. ne (numbers_injective o is ls rs (IsSub_all (Occurs o) subs.0 all) (IsSub_all (Occurs o) subs.1 all) k) in
+      let all = operands_occur o is b fs l in
+      let differ : map N ls ≢ map N rs = λ k. ne (numbers_injective o is ls rs (IsSub_all (IsListed o) subs.0 all) (IsSub_all (IsListed o) subs.1 all) k) in
       let cut : IsCoveringOf forms n x y = (b, map N (items fs), map N ls, map N rs, listed_base b (and_form fs) l, s, covering_of_overlapping N parts, differ, p.is_part, q.is_part) in
       by_split (inl (split_by_covering mode m n x y cut)) (to_numbers mode d x (occurs_number o is (conjunction o.width ls) p.occurs)) (to_numbers mode e y (occurs_number o is (conjunction o.width rs) q.occurs))
   to_numbers mode (tied_inverter_law {f = f} m occ d e) n num =
@@ -199,8 +184,8 @@ module _ (inputs : ℕ) (o : Listing) (is : IsListing o) where
     pub left_number : IsNumber o.bases left x
     pub right_number : IsNumber o.bases right y
     pub is_nand : IsNandForm mode o f left right
-    pub joins : (t u : Tree) → HasTree mode o left t → HasTree mode o right u → HasTree mode o f (nand t u)
-    pub turns : (t u : Tree) → HasTree mode o left t → HasTree mode o right u → HasTree mode o f (nand u t)
+    pub joins : (t u : Tree) → HasTree mode o.width o.signals left t → HasTree mode o.width o.signals right u → HasTree mode o.width o.signals f (nand t u)
+    pub turns : (t u : Tree) → HasTree mode o.width o.signals left t → HasTree mode o.width o.signals right u → HasTree mode o.width o.signals f (nand u t)
 
   some_operand : (ls : List ℕ) (x : ℕ) → IsPart forms ls x → (hs : List Form) → map N hs ≡ ls → 1 ≤ length hs
   some_operand [] x p hs e = absurd p
@@ -227,8 +212,8 @@ module _ (inputs : ℕ) (o : Listing) (is : IsListing o) where
         left_number = part_number b a.operands a.listed r.left subs.0 le ls r.left_is x p;
         right_number = part_number b a.operands a.listed r.right subs.1 re rs r.right_is y q;
         is_nand = subst (λ h. IsNandForm mode o h (conjunction o.width r.left) (conjunction o.width r.right)) (sym same) (of_parts (b, a.listed) r.parts le re);
-        joins = λ t u d k. subst (λ h. HasTree mode o h (nand t u)) (sym same) (split_law (b, a.listed) r.parts le re d k);
-        turns = λ t u d k. subst (λ h. HasTree mode o h (nand u t)) (sym same) (split_law (b, a.listed) (parts_turned r.parts) re le k d);
+        joins = λ t u d k. subst (λ h. HasTree mode o.width o.signals h (nand t u)) (sym same) (split_law (listed_occurs o is (and_form a.operands) (b, a.listed)) r.parts le re d k);
+        turns = λ t u d k. subst (λ h. HasTree mode o.width o.signals h (nand u t)) (sym same) (split_law (listed_occurs o is (and_form a.operands) (b, a.listed)) (parts_turned r.parts) re le k d);
       }
 
   covering_back : (mode : Mode) → mode ≡ idempotent → (n x y : ℕ) (f : Form) → IsNumber o.bases f n → IsCoveringOf forms n x y → IsNandOf mode f x y
@@ -247,8 +232,8 @@ module _ (inputs : ℕ) (o : Listing) (is : IsListing o) where
         left_number = part_number b a.operands a.listed r.left subs.0 le ls r.left_is x p;
         right_number = part_number b a.operands a.listed r.right subs.1 re rs r.right_is y q;
         is_nand = subst (λ h. IsNandForm mode o h (conjunction o.width r.left) (conjunction o.width r.right)) (sym same) (of_overlap m (b, a.listed) r.parts differ le re);
-        joins = λ t u d k. subst (λ h. HasTree mode o h (nand t u)) (sym same) (overlap_law m (b, a.listed) r.parts differ le re d k);
-        turns = λ t u d k. subst (λ h. HasTree mode o h (nand u t)) (sym same) (overlap_law m (b, a.listed) (overlapping_turned r.parts) turned re le k d);
+        joins = λ t u d k. subst (λ h. HasTree mode o.width o.signals h (nand t u)) (sym same) (overlap_law m (listed_occurs o is (and_form a.operands) (b, a.listed)) r.parts differ le re d k);
+        turns = λ t u d k. subst (λ h. HasTree mode o.width o.signals h (nand u t)) (sym same) (overlap_law m (listed_occurs o is (and_form a.operands) (b, a.listed)) (overlapping_turned r.parts) turned re le k d);
       }
 
   twice_back : (mode : Mode) → mode ≡ idempotent → (n x y : ℕ) (f : Form) → IsNumber o.bases f n → IsTwice forms n x y → IsNandOf mode f x y
@@ -261,8 +246,8 @@ module _ (inputs : ℕ) (o : Listing) (is : IsListing o) where
         left_number = subst (IsNumber o.bases (complement f)) (sym s) c;
         right_number = subst (IsNumber o.bases (complement f)) (sym t) c;
         is_nand = of_complement m at;
-        joins = λ t u d k. tied_inverter_law m at d k;
-        turns = λ t u d k. tied_inverter_law m at k d;
+        joins = λ t u d k. tied_inverter_law m (listed_occurs o is f at) d k;
+        turns = λ t u d k. tied_inverter_law m (listed_occurs o is f at) k d;
       }
 
   pub split_back : (mode : Mode) (n x y : ℕ) (f : Form) → IsNumber o.bases f n → IsSplitOf mode forms n x y → IsNandOf mode f x y
@@ -284,8 +269,8 @@ module _ (inputs : ℕ) (o : Listing) (is : IsListing o) where
       let subs = overlapping_subs parts in
       let p = part_form b fs l ls subs.0 le in
       let q = part_form b fs l rs subs.1 re in
-      let all = operands_occur b fs l in
-      let differ : map N ls ≢ map N rs = λ k. ne (numbers_injective o is ls rs (IsSub_all (Occurs o) subs.0 all) (IsSub_all (Occurs o) subs.1 all) k) in
+      let all = operands_occur o is b fs l in
+      let differ : map N ls ≢ map N rs = λ k. ne (numbers_injective o is ls rs (IsSub_all (IsListed o) subs.0 all) (IsSub_all (IsListed o) subs.1 all) k) in
       split_by_covering mode m (N (not_form (and_form fs))) (N (conjunction o.width ls)) (N (conjunction o.width rs)) (b, map N (items fs), map N ls, map N rs, listed_base b (and_form fs) l, s, covering_of_overlapping N parts, differ, p.is_part, q.is_part)
   nand_numbers mode (of_complement {f = f} m occ) =
       let num = occurs_number o is f occ in
@@ -330,18 +315,18 @@ module _ (inputs : ℕ) (o : Listing) (is : IsListing o) where
   record IsLinkedForm (f : Form) (m : ℕ) : Type 0 where
     other : Form
     is_number : IsNumber o.bases other m
-    one : AreOfOneSignal o f other
+    one : AreOfOneSignal o.signals f other
 
   -- a form with the number of another is that form
-  form_is : (f p : Form) (n : ℕ) → IsNumber o.bases f n → Occurs o p → N p ≡ n → f ≡ p
+  form_is : (f p : Form) (n : ℕ) → IsNumber o.bases f n → IsListed o p → N p ≡ n → f ≡ p
   form_is f p n num occ e = numbers_differ o is f p n num (subst (IsNumber o.bases p) e (occurs_number o is p occ))
 
-  complement_is : (f p : Form) (n : ℕ) → IsNumber o.bases f n → Occurs o p → N p ≡ flip n → f ≡ complement p
+  complement_is : (f p : Form) (n : ℕ) → IsNumber o.bases f n → IsListed o p → N p ≡ flip n → f ≡ complement p
   complement_is f p n num occ e =
       let z = occurs_sign o is f (number_occurs o is f n num) in
       sym (complement_twice f z) ∙ ap complement (form_is (complement f) p (flip n) (number_complement o is f n num) occ e)
 
-  complement_at : (p : Form) (m : ℕ) → Occurs o p → N p ≡ flip m → IsNumber o.bases (complement p) m
+  complement_at : (p : Form) (m : ℕ) → IsListed o p → N p ≡ flip m → IsNumber o.bases (complement p) m
   complement_at p m occ e =
       subst (IsNumber o.bases (complement p)) (ap flip e ∙ flip-flip m) (number_complement o is p (N p) (occurs_number o is p occ))
 
@@ -374,16 +359,16 @@ module _ (inputs : ℕ) (o : Listing) (is : IsListing o) where
       d ∙ ap Some (true_of_base b g d k)
 
   -- each tree of a number is one of its plain form
-  of_numbers : (mode : Mode) {n : ℕ} {t : Tree} → Derives (family_of mode forms) n t → (f : Form) → IsNumber o.bases f n → HasTree mode o f t
+  of_numbers : (mode : Mode) {n : ℕ} {t : Tree} → Derives (family_of mode forms) n t → (f : Form) → IsNumber o.bases f n → HasTree mode o.width o.signals f t
   of_numbers mode (by_input {f = n} {i = i} (b, e, s)) f num =
-      subst (λ h. HasTree mode o h (leaf i)) (sym (numbers_differ o is f (var_form i) n num (input_at b i n e s))) input_law
+      subst (λ h. HasTree mode o.width o.signals h (leaf i)) (sym (numbers_differ o is f (var_form i) n num (input_at b i n e s))) input_law
   of_numbers mode (by_top {f = n} (b, e, s)) f num =
-      subst (λ h. HasTree mode o h const_one) (sym (numbers_differ o is f true_form n num (b, true_at b e, s ∙ sym (add-zero (2 * b))))) true_law
+      subst (λ h. HasTree mode o.width o.signals h const_one) (sym (numbers_differ o is f true_form n num (b, true_at b e, s ∙ sym (add-zero (2 * b))))) true_law
   of_numbers mode (by_bottom {f = n} (b, e, s)) f num =
       let s' = sym (flip-flip n) ∙ flip_even (flip n) b s in
-      subst (λ h. HasTree mode o h const_zero) (sym (numbers_differ o is f (not_form true_form) n num (b, true_at b e, s'))) false_law
+      subst (λ h. HasTree mode o.width o.signals h const_zero) (sym (numbers_differ o is f (not_form true_form) n num (b, true_at b e, s'))) false_law
   of_numbers mode (by_complement {f = n} occ d) f num =
-      inverter_law (number_occurs o is f n num) (of_numbers mode d (complement f) (number_complement o is f n num))
+      inverter_law (listed_occurs o is f (number_occurs o is f n num)) (of_numbers mode d (complement f) (number_complement o is f n num))
   of_numbers mode (by_split {f = n} {x = x} {y = y} {t = t} {u = u} (inl c) d e) f num =
       let r = split_back mode n x y f num c in
       r.joins t u (of_numbers mode d r.left r.left_number) (of_numbers mode e r.right r.right_number)
@@ -392,7 +377,7 @@ module _ (inputs : ℕ) (o : Listing) (is : IsListing o) where
       r.turns u t (of_numbers mode e r.left r.left_number) (of_numbers mode d r.right r.right_number)
   of_numbers mode (by_common {f = n} {h = m} occ other d e k) f num =
       let (h, at) = form_of_number m other in
-      sharing_law (number_occurs o is f n num) (number_occurs o is h m at) (of_numbers mode d f num) (of_numbers mode e h at) (of_numbers mode k h at)
+      sharing_law (listed_occurs o is f (number_occurs o is f n num)) (listed_occurs o is h (number_occurs o is h m at)) (of_numbers mode d f num) (of_numbers mode e h at) (of_numbers mode k h at)
   of_numbers mode (by_link {f = n} {h = m} l d) f num =
       let r = link_back mode n m f num l in
       factoring_law r.one (of_numbers mode d r.other r.is_number)

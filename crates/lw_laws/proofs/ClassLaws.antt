@@ -8,9 +8,8 @@ use Rattle.lw_laws.specs.Modes.{Mode}
 use Rattle.lw_laws.specs.Networks.{Network}
 use Rattle.lw_laws.specs.Forms.{Form, complement}
 use Rattle.lw_laws.specs.Forms.Form.{var_form, true_form}
-use Rattle.lw_laws.specs.Occurring.{occurring_forms}
-use Rattle.lw_laws.specs.Decompositions.{Listing, listing_of, Occurs}
-use Rattle.lw_laws.specs.Listings.{IsListing}
+use Rattle.lw_laws.specs.Occurring.{HasInputsFirst, occurring_forms}
+use Rattle.lw_laws.specs.Listings.{Listing, listing_of, IsListed, IsListing}
 use Rattle.lw_laws.specs.Graphs.{Pair, Graph, class_of, HoldsPair, IsPairBefore, AreRising, AreNumberedFrom, pair_count, IsWritten}
 use Rattle.lw_laws.specs.Families.{IsNand}
 use Rattle.lw_laws.specs.NumberedForms.{family_of, IsSplitOf}
@@ -80,19 +79,19 @@ input_number mode inputs o is i e =
     let (b, l, s) = occurs_number o is (var_form i) (i + 1, e) in
     (b, slice_get_map (numbered_base o.bases) o.bases b (var_form i) l, s ∙ add-zero (2 * b))
 
--- the graph that encodes the forms of a network, with their numbers, is the graph of the forms
+-- the graph that encodes listed forms, with their numbers, is the graph of the forms
+pub encoding_of_forms : (mode : Mode) (inputs : ℕ) (o : Listing) (g : Graph) → IsListing o → HasInputsFirst inputs o.bases → Encodes (family_of mode (numbered inputs o)) g → IsWritten (length o.bases) inputs g → IsGraphOf mode inputs o g
+encoding_of_forms mode inputs o g is first encodes written = record {
+  written = written;
+  one = sym ((encodes.one (class_in o g true_form)).1 (number o.bases true_form, (true_number mode inputs o is first.first), refl));
+  leaves = λ i lt. (encodes.leaves i (class_in o g (var_form i))).1 (number o.bases (var_form i), input_number mode inputs o is i (first.inputs i lt), refl);
+  classes = classes_shared mode inputs o g is encodes;
+  pairs = pairs_split mode inputs o is g encodes;
+}
+
 pub encoding_is_graph : (mode : Mode) (width : ℕ) (net : Network) (g : Graph) → 2 ≤ width → Encodes (family_of mode (forms_of width net)) g → IsWritten (length (occurring_forms width net)) net.inputs g → IsGraphOf mode net.inputs (listing_of width net) g
-encoding_is_graph mode width net g wide encodes written =
-    let o = listing_of width net in
-    let is = occurring_is_listing width wide net in
-    let first = true_and_inputs_first width wide net in
-    record {
-      written = written;
-      one = sym ((encodes.one (class_in o g true_form)).1 (number o.bases true_form, (true_number mode net.inputs o is first.first), refl));
-      leaves = λ i lt. (encodes.leaves i (class_in o g (var_form i))).1 (number o.bases (var_form i), input_number mode net.inputs o is i (first.inputs i lt), refl);
-      classes = classes_shared mode net.inputs o g is encodes;
-      pairs = pairs_split mode net.inputs o is g encodes;
-    }
+encoding_is_graph mode width net g wide =
+    encoding_of_forms mode net.inputs (listing_of width net) g (occurring_is_listing width wide net) (true_and_inputs_first width wide net)
 
 -- numbers of pairs of classes by first places are one
 module _ (X Y : ℕ → ℕ) (total : ℕ) (same : (a b : ℕ) → a < total → b < total → (X a ≡ X b) ↔ (Y a ≡ Y b)) (turned : (a b : ℕ) → a < total → b < total → (X a ≡ flip (X b)) ↔ (Y a ≡ flip (Y b))) where
@@ -174,18 +173,18 @@ base_class g b c e =
 
 module _ (mode : Mode) (inputs : ℕ) (o : Listing) (is : IsListing o) (g h : Graph) (one : IsGraphOf mode inputs o g) (other : IsGraphOf mode inputs o h) where
   -- base form b as a form, and its number
-  base_at : (b : ℕ) → b < length o.bases → (f : Form) × Occurs o f × (number o.bases f ≡ 2 * b)
+  base_at : (b : ℕ) → b < length o.bases → (f : Form) × IsListed o f × (number o.bases f ≡ 2 * b)
   base_at b lt =
       let (f, e) = slice_get_some o.bases b lt in
       let z = is.signs b f e in
-      let occ : Occurs o f = (b, e ∙ ap Some (sym (base_self inputs o is f z))) in
+      let occ : IsListed o f = (b, e ∙ ap Some (sym (base_self inputs o is f z))) in
       (f, occ, sym (number_of o is f (2 * b) (b, e ∙ ap Some (sym (base_self inputs o is f z)), omega arith)))
 
-  complement_number : (f : Form) (b : ℕ) → Occurs o f → number o.bases f ≡ 2 * b → number o.bases (complement f) ≡ flip (2 * b)
+  complement_number : (f : Form) (b : ℕ) → IsListed o f → number o.bases f ≡ 2 * b → number o.bases (complement f) ≡ flip (2 * b)
   complement_number f b occ e =
       sym (number_of o is (complement f) (flip (number o.bases f)) (number_complement o is f (number o.bases f) (occurs_number o is f occ))) ∙ ap flip e
 
-  same_classes : (f k : Form) → Occurs o f → Occurs o k → (class_in o g f ≡ class_in o g k) ↔ (class_in o h f ≡ class_in o h k)
+  same_classes : (f k : Form) → IsListed o f → IsListed o k → (class_in o g f ≡ class_in o g k) ↔ (class_in o h f ≡ class_in o h k)
   same_classes f k p q =
       let a = one.classes f k p q in
       let b = other.classes f k p q in

@@ -4,8 +4,10 @@ use Rattle.lw_laws.specs.Modes.Mode.{plain, idempotent}
 use Rattle.lw_laws.specs.Trees.{Tree, leaf, nand, tree_value}
 use Rattle.lw_laws.specs.Networks.{Network}
 use Rattle.lw_laws.specs.Forms.{Form, and_of, form_value}
+use Rattle.lw_laws.specs.Signals.{signals_of}
 use Rattle.lw_laws.specs.Forms.Form.{var_form, not_form}
-use Rattle.lw_laws.specs.Decompositions.{listing_of, Occurs, HasTree}
+use Rattle.lw_laws.specs.Decompositions.{Occurs, HasTree}
+use Rattle.lw_laws.specs.Listings.{listing_of}
 use Rattle.lw_laws.specs.Decompositions.AreParts.{parts_none, parts_left, parts_right}
 use Rattle.lw_laws.specs.Decompositions.HasTree.{input_law, split_law, tied_inverter_law}
 use Rattle.lw_laws.specs.Covers.{Timing, Pattern, Cover, Covers, IsCover, AreCovers, HasPins, tree_of, trees_of, time_of}
@@ -23,11 +25,11 @@ use Rattle.lw_laws.proofs.ClassLaws.{encoding_is_graph}
 use Rattle.lw_laws.proofs.PatternExamples.{exprs}
 use Rattle.lw_laws.proofs.EncodingTests.{PassesTests}
 use Rattle.lw_laws.proofs.PotentialTests.{PassesLabelTests}
-use Rattle.lw_laws.proofs.MappingTests.{labelled_least, tested}
+use Rattle.lw_laws.proofs.MappingTests.{labelled_least, occurs_at, tested}
 use Rattle.lw_laws.proofs.Mapping.{unlabelled_root}
 use Rattle.lw_laws.proofs.Listed.{occurring_is_listing}
 use Rattle.lw_laws.proofs.FormTruth.{signals_agree}
-use Rattle.lw_laws.proofs.NumberValues.{trees_have_value}
+use Rattle.lw_laws.proofs.NumberValues.{occurring_have_value}
 
 abbrev y : Option Bool
 y = Some true
@@ -87,18 +89,18 @@ abbrev not_a_form : Form
 not_a_form = not_form (var_form 0)
 
 -- a tree of a form has its value
-value_of : (net : Network) (f : Form) (t : Tree) → Occurs (listing_of 6 net) f → HasTree idempotent (listing_of 6 net) f t → (x : ℕ → Bool) → tree_value x t ≡ form_value x f
-value_of net f t occ has x = trees_have_value net.inputs (listing_of 6 net) (occurring_is_listing 6 (lit≤ tt) net) x (signals_agree x 6 net) idempotent f t occ has
+value_of : (net : Network) (f : Form) (t : Tree) → Occurs (signals_of 6 net) f → HasTree idempotent 6 (signals_of 6 net) f t → (x : ℕ → Bool) → tree_value x t ≡ form_value x f
+value_of net f t occ has x = occurring_have_value net.inputs (listing_of 6 net) (occurring_is_listing 6 (lit≤ tt) net) x (signals_agree x 6 net) idempotent f t occ has
 
 -- a nand2 with tied pins inverts: it arrives at 1.5
 pub tied_nand_inverts : HasLeastArrival idempotent 6 not_a (patterns_of cells) timing 1 1500000
 tied_nand_inverts = record {
-  attained = (by_nand (wire 0) (wire 0), ((0, lit< tt, refl), refl, (tt, (tt, tt))), tied_inverter_law {f = not_a_form} refl (1, refl) input_law input_law, refl);
+  attained = (by_nand (wire 0) (wire 0), ((0, lit< tt, refl), refl, (tt, (tt, tt))), tied_inverter_law {f = not_a_form} refl (occurs_at not_a not_a_form (1, refl)) input_law input_law, refl);
   least = least;
 }
   where
-    least : (k : Cover) → IsCover (map length timing.delays) (patterns_of cells) k → HasTree idempotent (listing_of 6 not_a) not_a_form (tree_of k) → 1500000 ≤ time_of timing k
-    least (wire i) is has = let v = value_of not_a not_a_form (leaf i) (1, refl) has (λ j. true) in cc
+    least : (k : Cover) → IsCover (map length timing.delays) (patterns_of cells) k → HasTree idempotent 6 (signals_of 6 not_a) not_a_form (tree_of k) → 1500000 ≤ time_of timing k
+    least (wire i) is has = let v = value_of not_a not_a_form (leaf i) (occurs_at not_a not_a_form (1, refl)) has (λ j. true) in cc
     least (gate p ks) is has = slow_gate p ks is
 
 -- the And of two inputs
@@ -148,17 +150,17 @@ labelled_i : IsLabelledOver idempotent 6 and_2 graph_i (patterns_of cells) timin
 labelled_i = tested idempotent 6 (lit≤ tt) and_2 graph_i [] encoded_i (patterns_of cells) timing cap labels_i bounded_i refl (lit< tt)
 
 pub and_2_graph : IsGraphOf idempotent 2 (listing_of 6 and_2) graph_i
-and_2_graph = encoding_is_graph idempotent 6 and_2 graph_i (lit≤ tt) labelled_i.encodes written_i
+and_2_graph = encoding_is_graph idempotent 6 and_2 graph_i (lit≤ tt) labelled_i.over.encodes written_i
 
-nand_tree : HasTree idempotent (listing_of 6 and_2) (not_form and_form_2) (nand (leaf 0) (leaf 1))
-nand_tree = split_law {ls = var_form 0 ∷ []} {rs = var_form 1 ∷ []} (3, refl) (parts_left (parts_right parts_none)) (lit≤ tt) (lit≤ tt) input_law input_law
+nand_tree : HasTree idempotent 6 (signals_of 6 and_2) (not_form and_form_2) (nand (leaf 0) (leaf 1))
+nand_tree = split_law {ls = var_form 0 ∷ []} {rs = var_form 1 ∷ []} (occurs_at and_2 and_form_2 (3, refl)) (parts_left (parts_right parts_none)) (lit≤ tt) (lit≤ tt) input_law input_law
 
 -- two nand2 make an And, which arrives at 3
 pub tied_nand_ands : HasLeastArrival idempotent 6 and_2 (patterns_of cells) timing 2 3000000
 unfolding Rattle.lw_laws.specs.Flip.flip
 tied_nand_ands =
     labelled_least idempotent 6 and_2 graph_i (patterns_of cells) timing cap labels_i labelled_i 2 3000000 (lit< tt) refl (by_nand (by_nand (wire 0) (wire 1)) (by_nand (wire 0) (wire 1)))
-    ((0, lit< tt, refl), refl, (((0, lit< tt, refl), refl, (tt, (tt, tt))), (((0, lit< tt, refl), refl, (tt, (tt, tt))), tt))) (tied_inverter_law {f = and_form_2} refl (3, refl) nand_tree nand_tree) refl
+    ((0, lit< tt, refl), refl, (((0, lit< tt, refl), refl, (tt, (tt, tt))), (((0, lit< tt, refl), refl, (tt, (tt, tt))), tt))) (tied_inverter_law {f = and_form_2} refl (occurs_at and_2 and_form_2 (3, refl)) nand_tree nand_tree) refl
 
 -- without the further laws it has no cover
 abbrev graph_2 : Graph

@@ -1,26 +1,22 @@
 -- The laws over plain forms, from those over numbers.
-use Rattle.std.proofs.Common.{ℕ, ◌/◌, ◌≤◌, Bool, List, Option}
+use Rattle.std.proofs.Common.{ℕ, ◌/◌, Bool, List, Option}
 use Rattle.lw_laws.specs.Graphs.{Graph}
 use Rattle.lw_laws.specs.NumberedForms.{family_of}
 use Rattle.lw_laws.specs.Encodings.{Encodes}
 use Rattle.lw_laws.specs.Covers.{Timing, Pattern, tree_of}
 use Rattle.lw_laws.specs.Netlists.{Netlist}
 use Rattle.lw_laws.specs.Forms.{Form}
-use Rattle.lw_laws.specs.Decompositions.{Listing, listing_of, Occurs}
 use Rattle.lw_laws.specs.Numbering.{number, numbered}
-use Rattle.lw_laws.specs.Networks.{Network}
 use Rattle.lw_laws.specs.Modes.{Mode}
-use Rattle.lw_laws.specs.Mapped.{forms_of}
-use Rattle.lw_laws.specs.Listings.{IsListing}
+use Rattle.lw_laws.specs.Listings.{Listing, IsListed, IsListing}
 use Rattle.lw_laws.specs.Laws.{HasTheTrees, ClassesAreSharedTrees, ClassesHaveValue}
 use Rattle.lw_laws.specs.Headline.{HasLeastTime}
+use Rattle.lw_laws.specs.SignalValues.{SignalsAgree}
 use Rattle.lw_laws.proofs.Together.{has_the_trees, certified_least}
 use Rattle.lw_laws.proofs.Numbers.{occurs_number}
 use Rattle.lw_laws.proofs.Encoding.{common_tree_class}
 use Rattle.lw_laws.proofs.NumberedForms.{forms_are_family}
 use Rattle.lw_laws.proofs.NumberValues.{trees_have_value}
-use Rattle.lw_laws.proofs.Listed.{occurring_is_listing}
-use Rattle.lw_laws.proofs.FormTruth.{signals_agree}
 use Rattle.lw_laws.proofs.Agreement.{same_trees, number_in, numbered_are_forms}
 use Rattle.lw_laws.proofs.Words.{IsCertified, IsOutput}
 
@@ -32,7 +28,7 @@ has_plain_trees mode inputs o g is encodes f t occ =
     let same = same_trees inputs o is mode f t occ in
     (λ u. same.1 (trees.0 u), λ d. trees.1 (same.0 d))
 
-pub certified_plain_least : (mode : Mode) (inputs : ℕ) (o : Listing) (g : Graph) (pats : List Pattern) (timing : Timing) (cap : ℕ) (labels : List (Option ℕ)) (n : Netlist) (class arrivals : ℕ → ℕ) → IsListing o → IsCertified mode (numbered inputs o) g pats timing cap labels n class arrivals → (net : ℕ) (f : Form) → Occurs o f → IsOutput g labels n class arrivals net (number o.bases f) → HasLeastTime mode o pats timing f (arrivals net)
+pub certified_plain_least : (mode : Mode) (inputs : ℕ) (o : Listing) (g : Graph) (pats : List Pattern) (timing : Timing) (cap : ℕ) (labels : List (Option ℕ)) (n : Netlist) (class arrivals : ℕ → ℕ) → IsListing o → IsCertified mode (numbered inputs o) g pats timing cap labels n class arrivals → (net : ℕ) (f : Form) → IsListed o f → IsOutput g labels n class arrivals net (number o.bases f) → HasLeastTime mode o.width o.signals pats timing f (arrivals net)
 certified_plain_least mode inputs o g pats timing cap labels n class arrivals is certified net f occ output =
     let m = number o.bases f in
     let num = occurs_number o is f occ in
@@ -50,8 +46,6 @@ classes_shared mode inputs o g is encodes f h occ occ_h =
     let shared = common_tree_class (family_of mode forms) (λ k. k / 2) (forms_are_family mode forms (numbered_are_forms inputs o is)) g encodes n m (number_in inputs o is f n (occurs_number o is f occ)) (number_in inputs o is h m (occurs_number o is h occ_h)) in
     (λ e. let (t, p, q) = shared.0 e in (t, (same_trees inputs o is mode f t occ).1 p, (same_trees inputs o is mode h t occ_h).1 q), λ (t, p, q). shared.1 (t, (same_trees inputs o is mode f t occ).0 p, (same_trees inputs o is mode h t occ_h).0 q))
 
-pub classes_valued : (mode : Mode) (width : ℕ) (net : Network) (g : Graph) (x : ℕ → Bool) → 2 ≤ width → Encodes (family_of mode (forms_of width net)) g → ClassesHaveValue (listing_of width net) g x
-classes_valued mode width net g x wide encodes f t occ u =
-    let o = listing_of width net in
-    let is = occurring_is_listing width wide net in
-    trees_have_value net.inputs o is x (signals_agree x width net) mode f t occ ((has_plain_trees mode net.inputs o g is encodes f t occ).0 u)
+pub classes_valued : (mode : Mode) (inputs : ℕ) (o : Listing) (g : Graph) (x : ℕ → Bool) → IsListing o → SignalsAgree o.signals x → Encodes (family_of mode (numbered inputs o)) g → ClassesHaveValue o g x
+classes_valued mode inputs o g x is agree encodes f t occ u =
+    trees_have_value inputs o is x agree mode f t occ ((has_plain_trees mode inputs o g is encodes f t occ).0 u)

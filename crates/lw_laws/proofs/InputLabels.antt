@@ -6,7 +6,8 @@ use Rattle.lw_laws.specs.Modes.{Mode}
 use Rattle.lw_laws.specs.Networks.{Network}
 use Rattle.lw_laws.specs.Trees.{Tree, leaf, const_one, const_zero, inv, nand, tree_value, planted, HasLeaf}
 use Rattle.lw_laws.specs.Forms.Form.{var_form}
-use Rattle.lw_laws.specs.Decompositions.{listing_of, Occurs}
+use Rattle.lw_laws.specs.Listings.{Listing, listing_of, IsListed}
+use Rattle.lw_laws.specs.SignalValues.{IsSoundListing}
 use Rattle.lw_laws.specs.Graphs.{Graph, Unfolds}
 use Rattle.lw_laws.specs.Classes.{class_in, IsGraphOf}
 use Rattle.lw_laws.specs.Covers.{Timing, Pattern, ArePatterns, Cover, Covers, tree_of, trees_of, IsCover, AreCovers, latest, start_of, delays_of, time_of, times_of}
@@ -18,12 +19,10 @@ use Rattle.lw_laws.proofs.Facts.{eq_same}
 use Rattle.lw_laws.proofs.PatternLaws.{has_leaf, leaf_is}
 use Rattle.lw_laws.proofs.Netlists.{tree_value_same}
 use Rattle.lw_laws.proofs.Delays.{cost_of-time, length-delays_of}
-use Rattle.lw_laws.proofs.GraphEncodes.{graph_encodes}
-use Rattle.lw_laws.proofs.Headline.{has_plain_trees}
+use Rattle.lw_laws.proofs.GraphEncodes.{forms_trees}
 use Rattle.lw_laws.proofs.NumberValues.{trees_have_value}
-use Rattle.lw_laws.proofs.FormTruth.{signals_agree}
-use Rattle.lw_laws.proofs.Listed.{occurring_is_listing}
-use Rattle.lw_laws.proofs.InputClasses.{input_at}
+use Rattle.lw_laws.proofs.Sound.{network_is_sound}
+use Rattle.lw_laws.proofs.InputClasses.{form_input_at}
 
 -- a tree that has the value of one leaf has that leaf
 value_has_leaf : (i : ℕ) (t : Tree) → ((x : ℕ → Bool) → tree_value x t ≡ x i) → HasLeaf t i
@@ -78,27 +77,34 @@ module _ (timing : Timing) (pats : List Pattern) (patterns : ArePatterns (map le
     starts_before (cover c ks) zero d (is, are) lt h = start_before c is h
     starts_before (cover c ks) (suc k) d (is, are) lt h = starts_before ks k d are (omega arith) h
 
-module _ (mode : Mode) (width : ℕ) (net : Network) (g : Graph) (wide : 2 ≤ width) (graph_is : IsGraphOf mode net.inputs (listing_of width net) g) where
+module _ (mode : Mode) (inputs : ℕ) (o : Listing) (g : Graph) (sound : IsSoundListing inputs o) (graph_is : IsGraphOf mode inputs o g) where
   -- the trees of an input's class have the input's leaf
-  pub input_leaf : (i c : ℕ) (t : Tree) → slice_get g.leaves i ≡ Some c → Unfolds g t c → HasLeaf t i
-  input_leaf i c t at u =
-      let o = listing_of width net in
-      let is = occurring_is_listing width wide net in
+  pub form_input_leaf : (i c : ℕ) (t : Tree) → slice_get g.leaves i ≡ Some c → Unfolds g t c → HasLeaf t i
+  form_input_leaf i c t at u =
+      let is = sound.listing in
       let count = graph_is.written.leaf_count in
       let within = slice_get_within g.leaves i c at in
-      let lt : i < net.inputs = omega arith in
+      let lt : i < inputs = omega arith in
       let leaves = graph_is.leaves i lt in
       let here : c ≡ class_in o g (var_form i) = cc in
-      let occ : Occurs o (var_form i) = (suc i, input_at mode width net g wide graph_is i lt) in
-      let tree = (has_plain_trees mode net.inputs o g is (graph_encodes mode width net g wide graph_is) (var_form i) t occ).0 (subst (λ d. Unfolds g t d) here u) in
-      value_has_leaf i t (λ x. trees_have_value net.inputs o is x (signals_agree x width net) mode (var_form i) t occ tree)
+      let occ : IsListed o (var_form i) = (suc i, form_input_at mode inputs o g sound graph_is i lt) in
+      let tree = (forms_trees mode inputs o g sound graph_is (var_form i) t occ).0 (subst (λ d. Unfolds g t d) here u) in
+      value_has_leaf i t (λ x. trees_have_value inputs o is x (sound.agree x) mode (var_form i) t occ tree)
 
   -- the least time of an input's class is the input's start, cut at the cap
-  pub input_label : (pats : List Pattern) (timing : Timing) (cap : ℕ) → ArePatterns (map length timing.delays) pats → (i c : ℕ) (o : Option ℕ) → slice_get g.leaves i ≡ Some c → IsLeastCover g pats (delay_cost timing cap) c o → o ≡ Some ((delay_cost timing cap).leaf i)
-  input_label pats timing cap patterns i c None at none = absurd (none (wire i) tt at)
-  input_label pats timing cap patterns i c (Some d) at ((k, is, u, e), low) =
+  pub form_input_label : (pats : List Pattern) (timing : Timing) (cap : ℕ) → ArePatterns (map length timing.delays) pats → (i c : ℕ) (l : Option ℕ) → slice_get g.leaves i ≡ Some c → IsLeastCover g pats (delay_cost timing cap) c l → l ≡ Some ((delay_cost timing cap).leaf i)
+  form_input_label pats timing cap patterns i c None at none = absurd (none (wire i) tt at)
+  form_input_label pats timing cap patterns i c (Some d) at ((k, is, u, e), low) =
       let upper = low (wire i) tt at in
-      let after = start_before timing pats patterns i k is (input_leaf i c (tree_of k) at u) in
+      let after = start_before timing pats patterns i k is (form_input_leaf i c (tree_of k) at u) in
       let cut = cost_of-time timing cap k in
       let same : d ≡ min cap (start_of timing.starts i) = omega arith in
       ap Some same
+
+-- the same in the graph of a network's forms
+module _ (mode : Mode) (width : ℕ) (net : Network) (g : Graph) (wide : 2 ≤ width) (graph_is : IsGraphOf mode net.inputs (listing_of width net) g) where
+  pub input_leaf : (i c : ℕ) (t : Tree) → slice_get g.leaves i ≡ Some c → Unfolds g t c → HasLeaf t i
+  input_leaf = form_input_leaf mode net.inputs (listing_of width net) g (network_is_sound width wide net) graph_is
+
+  pub input_label : (pats : List Pattern) (timing : Timing) (cap : ℕ) → ArePatterns (map length timing.delays) pats → (i c : ℕ) (l : Option ℕ) → slice_get g.leaves i ≡ Some c → IsLeastCover g pats (delay_cost timing cap) c l → l ≡ Some ((delay_cost timing cap).leaf i)
+  input_label = form_input_label mode net.inputs (listing_of width net) g (network_is_sound width wide net) graph_is

@@ -49,6 +49,7 @@ pub mod NumberValues
 pub mod NumberedForms
 pub mod NumberedValues
 pub mod Numbers
+pub mod Occurrences
 pub mod PatternExamples
 pub mod PatternLaws
 pub mod PatternTruth
@@ -58,6 +59,7 @@ pub mod ReductionOnce
 pub mod RoundLaws
 pub mod Rounds
 pub mod SharingExamples
+pub mod Sound
 pub mod Sublists
 pub mod Together
 pub mod Truths

@@ -11,11 +11,11 @@ use Rattle.lw_laws.specs.Forms.Form.{var_form, true_form, not_form, and_form}
 use Rattle.lw_laws.specs.Forms.FormList.{no_forms, more_forms}
 use Rattle.lw_laws.specs.Signals.{Signal, signal_of_node, signals_after, input_signals, signals_of}
 use Rattle.lw_laws.specs.Occurring.{with_and_without, sublists, appended, append_part, append_parts, add_form, add_forms, add_signals, occurring_forms, HasInputsFirst}
-use Rattle.lw_laws.specs.Decompositions.{listing_of, base_form}
 use Rattle.lw_laws.specs.Listings.IsSub.{sub_none, sub_with, sub_without}
-use Rattle.lw_laws.specs.Listings.{IsListing, IsListedBefore, IsListedAndForm, sign_of, IsSub, AreOperands}
+use Rattle.lw_laws.specs.Listings.{listing_of, base_form, IsListing, IsListedBefore, IsListedAndForm, sign_of, IsSub, AreOperands}
 use Rattle.lw_laws.proofs.Equality.{same_form_refl, same_form_eq, items-form_list, form_list-items}
 use Rattle.lw_laws.proofs.Sublists.{IsSub_all, IsSub_length, IsSub_whole, distinct_sub, clash_sub}
+use Rattle.lw_laws.proofs.Occurrences.{sublists_are_subs, only_listed}
 use Rattle.lw_laws.proofs.Normal.{IsNormal, AreNormal, signals_normal, inputs_normal}
 
 abbrev Has : List Form → Form → Type 0
@@ -185,14 +185,6 @@ module _ (count width : ℕ) where
   sublists_in_order : (fs : List Form) → AreInOrder (λ hs. ⊥) (sublists fs)
   sublists_in_order [] = (λ hs s lt. absurd (omega arith), tt)
   sublists_in_order (f ∷ fs) = in_order f (sublists fs) (λ hs. ⊥) (λ hs. ⊥) (λ hs s. absurd s) (sublists_in_order fs)
-
-  with_all : (P Q : List Form → Type 0) (f : Form) → ((hs : List Form) → P hs → Q hs × Q (f ∷ hs)) → (rest : List (List Form)) → AllByRecursion P rest → AllByRecursion Q (with_and_without f rest)
-  with_all P Q f h [] a = tt
-  with_all P Q f h (fs ∷ rest) (p, a) = let r = h fs p in (r.0, (r.1, with_all P Q f h rest a))
-
-  sublists_are_subs : (fs : List Form) → AllByRecursion (λ hs. IsSub hs fs) (sublists fs)
-  sublists_are_subs [] = (sub_none, tt)
-  sublists_are_subs (f ∷ fs) = with_all (λ hs. IsSub hs fs) (λ hs. IsSub hs (f ∷ fs)) f (λ hs s. (sub_without s, sub_with s)) (sublists fs) (sublists_are_subs fs)
 
   with_back : (P : List Form → Type 0) (f : Form) (rest : List (List Form)) → AllByRecursion P (with_and_without f rest) → AllByRecursion (λ hs. P (f ∷ hs)) rest
   with_back P f [] a = tt
@@ -401,6 +393,8 @@ occurring_is_listing width wide net =
       once = r.grown.good.once;
       ands = r.grown.good.ands;
       signals = λ s x e. all_at (λ s. Has (occurring_forms width net) (base_form s.sop) × Has (occurring_forms width net) (base_form s.fac)) (signals_of width net) r.has s x e;
+      top = (0, r.grown.extends 0 true_form refl);
+      only = only_listed (signals_of width net);
     }
 
 all_right : {X : Type 0} (P : X → Type 0) (xs ys : List X) → AllByRecursion P (xs ++ ys) → AllByRecursion P ys

@@ -12,15 +12,19 @@ use Rattle.lw_laws.specs.Rounds.{labels_in}
 use Rattle.lw_laws.specs.Delays.{delay_cost}
 use Rattle.lw_laws.specs.Netlists.{Netlist}
 use Rattle.lw_laws.specs.Extracts.{IsNetOf}
-use Rattle.lw_laws.specs.Mapped.{root_class}
+use Rattle.lw_laws.specs.Forms.{Form}
+use Rattle.lw_laws.specs.Listings.{Listing, listing_of}
+use Rattle.lw_laws.specs.SignalValues.{IsSoundListing}
+use Rattle.lw_laws.specs.Classes.{class_in}
 use Rattle.lw_laws.specs.Names.{AreDifferent, AreNameable, free_names, gate_names, output_name}
 use Rattle.lw_laws.specs.Headline.{Port, Ports}
-use Rattle.lw_laws.specs.MappedNetlists.{root_classes, IsNetlistOf, ArePortNames, AreNetNames}
-use Rattle.lw_laws.proofs.InputClasses.{distinct_leaves}
+use Rattle.lw_laws.specs.MappedNetlists.{form_classes, IsNetlistOfForms, IsNetlistOf, ArePortNames, AreNetNames}
+use Rattle.lw_laws.proofs.InputClasses.{forms_leaves_differ}
 use Rattle.lw_laws.proofs.ExtractLaws.{gate_once, net_once}
 use Rattle.lw_laws.proofs.NameLaws.{names_differ, names_owned}
 use Rattle.lw_laws.proofs.Numbers.{slice_get_map, slice_get_map_back}
 use Rattle.lw_laws.proofs.Listed.{come_first}
+use Rattle.lw_laws.proofs.Sound.{network_is_sound}
 
 length_both : {X : Type 0} (xs ys : List X) → length (xs ++ ys) ≡ length xs + length ys
 length_both [] ys = omega arith
@@ -64,9 +68,9 @@ paired_at R (p ∷ ps) [] a k q e = absurd a
 paired_at R (p ∷ ps) (r ∷ qs) ((s, t), a) zero q e = let same : r ≡ q = cc in (p, refl, s ∙ ap (λ z. z.name) same, subst (R p) same t)
 paired_at R (p ∷ ps) (r ∷ qs) (b, a) (suc k) q e = paired_at R ps qs a k q e
 
-module _ (mode : Mode) (width : ℕ) (net : Network) (ports : Ports) (pats : List Pattern) (timing : Timing) (cap : ℕ) (n : Netlist) (names : List (List ℕ)) (mapped : Ports) (wide : 2 ≤ width) (is : IsNetlistOf mode width net ports pats timing cap n names mapped) (named : ArePortNames net ports) (few : 1 + (length n.gates + (length ports.inputs + length ports.outputs)) < 2 ^ 64) where
+module _ (mode : Mode) (inputs : ℕ) (o : Listing) (form : ℕ → Form) (sound : IsSoundListing inputs o) (net : Network) (same_inputs : net.inputs ≡ inputs) (input_forms : (i : ℕ) → i < inputs → form i ≡ var_form i) (ports : Ports) (pats : List Pattern) (timing : Timing) (cap : ℕ) (n : Netlist) (names : List (List ℕ)) (mapped : Ports) (is : IsNetlistOfForms mode inputs o form ports pats timing cap n names mapped) (named : ArePortNames net ports) (few : 1 + (length n.gates + (length ports.inputs + length ports.outputs)) < 2 ^ 64) where
   abbrev roots : List ℕ
-  roots = root_classes width net is.graph ports.outputs
+  roots = form_classes o form is.graph ports.outputs
 
   abbrev output_names : List (List ℕ)
   output_names = map (λ p. p.name) ports.outputs
@@ -77,11 +81,11 @@ module _ (mode : Mode) (width : ℕ) (net : Network) (ports : Ports) (pats : Lis
       let (p, bt, same) = slice_get_map_back (λ p. p.name) ports.outputs k name e in
       let lt = slice_get_within ports.inputs i name at in
       let count = named.one_each in
-      let inside : i < net.inputs = omega arith in
+      let inside : i < inputs = omega arith in
       let place = named.tied i k p bt (at ∙ ap Some (sym same)) in
-      let class : root_class width net is.graph p.net ≡ root_class width net is.graph i = ap (root_class width net is.graph) place in
-      slice_get_map (λ p. root_class width net is.graph p.net) ports.outputs k p bt
-      ∙ (ap Some (class ∙ ap (λ f. Rattle.lw_laws.specs.Classes.class_in (Rattle.lw_laws.specs.Decompositions.listing_of width net) is.graph f) (input_sop width net i inside)) ∙ sym (is.is_graph.leaves i inside))
+      let class : class_in o is.graph (form p.net) ≡ class_in o is.graph (form i) = ap (λ s. class_in o is.graph (form s)) place in
+      slice_get_map (λ p. class_in o is.graph (form p.net)) ports.outputs k p bt
+      ∙ (ap Some (class ∙ ap (λ f. class_in o is.graph f) (input_forms i inside)) ∙ sym (is.is_graph.leaves i inside))
 
   nameable : AreNameable ports.inputs output_names is.graph.leaves roots is.gates
   nameable = record {
@@ -99,17 +103,17 @@ module _ (mode : Mode) (width : ℕ) (net : Network) (ports : Ports) (pats : Lis
 
   owned : (j k : ℕ) (p : Port) → slice_get mapped.outputs k ≡ Some p → slice_get names j ≡ Some p.name → j ≡ p.net
   owned j k p at e =
-      let (q, bt, same, net_of) = paired_at (λ p q. IsNetOf is.graph is.gates (root_class width net is.graph p.net) q.net) ports.outputs mapped.outputs is.outputs k p at in
+      let (q, bt, same, net_of) = paired_at (λ p q. IsNetOf is.graph is.gates (class_in o is.graph (form p.net)) q.net) ports.outputs mapped.outputs is.outputs k p at in
       let leaf_count = is.is_graph.written.leaf_count in
       let count = named.one_each in
       let one_each : length is.graph.leaves ≡ length ports.inputs = omega arith in
       let here = names_owned ports.inputs output_names is.graph.leaves roots is.gates nameable one_each j k p.name (ap (λ ns. slice_get ns j) (sym is.names_are) ∙ e) (slice_get_map (λ p. p.name) ports.outputs k q bt ∙ ap Some same) in
-      let root = slice_get_map (λ p. root_class width net is.graph p.net) ports.outputs k q bt in
-      net_once is.graph (delay_cost timing cap) pats (labels_in is.labels) is.heights roots is.gates is.gate_classes (distinct_leaves mode width net is.graph wide is.is_graph) (root_class width net is.graph q.net) j p.net (here ∙ root) net_of
+      let root = slice_get_map (λ p. class_in o is.graph (form p.net)) ports.outputs k q bt in
+      net_once is.graph (delay_cost timing cap) pats (labels_in is.labels) is.heights roots is.gates is.gate_classes (forms_leaves_differ mode inputs o is.graph sound is.is_graph) (class_in o is.graph (form q.net)) j p.net (here ∙ root) net_of
 
   -- the names of the nets and of the outputs tell them apart
-  pub net_names_are : AreNetNames n names mapped
-  net_names_are = record {
+  pub form_names_are : AreNetNames n names mapped
+  form_names_are = record {
     one_each =
         let a = is.extracted.one_each in
         let b = is.extracted.inputs in
@@ -119,6 +123,11 @@ module _ (mode : Mode) (width : ℕ) (net : Network) (ports : Ports) (pats : Lis
         let f = gate_names_each output_names roots (free_names (ports.inputs ++ output_names) (length is.gates)) is.gates in
         ap length is.names_are ∙ omega arith;
     nets_differ = subst AreDifferent (sym is.names_are) (names_differ ports.inputs output_names is.graph.leaves roots is.gates nameable);
-    outputs_differ = subst AreDifferent (same_names (λ p q. IsNetOf is.graph is.gates (root_class width net is.graph p.net) q.net) ports.outputs mapped.outputs is.outputs) named.outputs_differ;
+    outputs_differ = subst AreDifferent (same_names (λ p q. IsNetOf is.graph is.gates (class_in o is.graph (form p.net)) q.net) ports.outputs mapped.outputs is.outputs) named.outputs_differ;
     owned = owned;
   }
+
+-- the same for the netlist that a network is mapped to
+pub net_names_are : (mode : Mode) (width : ℕ) (net : Network) (ports : Ports) (pats : List Pattern) (timing : Timing) (cap : ℕ) (n : Netlist) (names : List (List ℕ)) (mapped : Ports) → 2 ≤ width → IsNetlistOf mode width net ports pats timing cap n names mapped → ArePortNames net ports → 1 + (length n.gates + (length ports.inputs + length ports.outputs)) < 2 ^ 64 → AreNetNames n names mapped
+net_names_are mode width net ports pats timing cap n names mapped wide =
+    form_names_are mode net.inputs (listing_of width net) (sop_at (signals_of width net)) (network_is_sound width wide net) net refl (input_sop width net) ports pats timing cap n names mapped

@@ -1,27 +1,29 @@
--- A netlist over a graph that encodes a network's forms computes the network's values, at the least arrivals.
+-- A netlist over a graph that encodes listed forms computes their values at the least arrivals, and so do those of a network.
 use Rattle.std.proofs.Common.{ℕ, suc, ◌+◌, ◌<◌, ◌≤◌, ◌≡◌, Bool, false, Contains, List, [], ◌∷◌, ◌++◌, length, map, Option, Some, None, slice_get, slice_index_or, refl, ap, sym, ◌∙◌, subst, arith, length-append}
-use Rattle.std.specs.List.{AllZip}
+use Rattle.std.specs.List.{AllZip, AllByRecursion}
+use Rattle.std.proofs.lemmas.List.{length-map}
 use Rattle.std.proofs.lemmas.Option.{get_or_from_slice_get, slice_get-get_or}
 use Rattle.lw_laws.specs.Modes.{Mode}
 use Rattle.lw_laws.specs.Networks.{Node, Network, AreValues, IsInOrder}
 use Rattle.lw_laws.specs.Forms.{Form, form_value}
 use Rattle.lw_laws.specs.Signals.{Signal, signal_of_node, signals_after, input_signals, signals_of, sop_at}
-use Rattle.lw_laws.specs.Occurring.{occurring_forms}
-use Rattle.lw_laws.specs.Decompositions.{listing_of, Occurs}
-use Rattle.lw_laws.specs.Numbering.{number}
-use Rattle.lw_laws.specs.SignalValues.{number_value}
+use Rattle.lw_laws.specs.Classes.{class_in}
+use Rattle.lw_laws.specs.Listings.{Listing, listing_of, IsListed, IsListing}
+use Rattle.lw_laws.specs.Numbering.{number, numbered}
+use Rattle.lw_laws.specs.SignalValues.{number_value, IsSoundListing, AreNetForms}
 use Rattle.lw_laws.specs.Graphs.{Graph, Unfolds}
 use Rattle.lw_laws.specs.Covers.{Timing, start_of, Pattern, HasPins, ArePatterns, tree_of}
 use Rattle.lw_laws.specs.Rounds.{labels_in}
 use Rattle.lw_laws.specs.Netlists.{Netlist, AreOrdered, CellTruth, HasCellTruth, HaveCellTruths, AreNetlistValues, AreArrivals}
-use Rattle.lw_laws.specs.Mapped.{forms_of, root_class, IsLabelledOver, IsMappedOver, IsRootedAt, AreRooted, IsMapped, IsCoverAt}
-use Rattle.lw_laws.specs.Headline.{HasLeastArrival, HasNoCover, Port, Ports, StandsForCover, IsMapping}
+use Rattle.lw_laws.specs.Mapped.{root_class, IsLabelledOverForms, IsMappedOverForms, IsRootedAtForm, AreRootedAtForms, IsLabelledOver, IsMappedOver, IsRootedAt, AreRooted, IsMapped, IsCoverAt}
+use Rattle.lw_laws.specs.MappedNetlists.{HasPorts}
+use Rattle.lw_laws.specs.Headline.{HasLeastTime, HasLeastArrival, HasNoCoverOf, HasNoCover, Port, Ports, StandsForCoverOf, StandsForCover, MapsForms, IsMapping}
 use Rattle.lw_laws.proofs.Numbers.{slice_get_map, occurs_number}
 use Rattle.lw_laws.proofs.Agreement.{number_in, numbered_are_forms, same_trees}
-use Rattle.lw_laws.proofs.FormTruth.{signals_agree}
 use Rattle.lw_laws.proofs.NumberValues.{value_of_number, numbers_have_values}
 use Rattle.lw_laws.proofs.NumberedValues.{form_values_fit}
 use Rattle.lw_laws.proofs.Listed.{occurring_is_listing}
+use Rattle.lw_laws.proofs.Sound.{network_is_sound}
 use Rattle.lw_laws.proofs.NetValues.{sops_are_values}
 use Rattle.lw_laws.proofs.NetlistValues.{arrivals_once}
 use Rattle.lw_laws.proofs.Netlists.{net_covered, StandsFor-value, StandsFor-time}
@@ -64,13 +66,10 @@ sop_listed width net s lt =
     (x, e, ap (λ y. y.sop) (get_or_from_slice_get (signals_of width net) s x _ e))
 
 module _ (width : ℕ) (wide : 2 ≤ width) (net : Network) where
-  abbrev pub bases : List Form
-  bases = occurring_forms width net
-
-  pub sop_occurs : (s : ℕ) → s < net.inputs + length net.nodes → Occurs (listing_of width net) (sop_at (signals_of width net) s)
+  pub sop_occurs : (s : ℕ) → s < net.inputs + length net.nodes → IsListed (listing_of width net) (sop_at (signals_of width net) s)
   sop_occurs s lt =
       let (x, e, same) = sop_listed width net s lt in
-      subst (λ f. Occurs (listing_of width net) f) (sym same) ((occurring_is_listing width wide net).signals s x e).0
+      subst (λ f. IsListed (listing_of width net) f) (sym same) ((occurring_is_listing width wide net).signals s x e).0
 
   -- the value of a net's sum of products is the net's
   pub sop_value_is : IsInOrder net → (x : ℕ → Bool) (vs : List Bool) → AreValues net x vs → (s : ℕ) → s < net.inputs + length net.nodes → slice_get vs s ≡ Some (form_value x (sop_at (signals_of width net) s))
@@ -79,10 +78,14 @@ module _ (width : ℕ) (wide : 2 ≤ width) (net : Network) where
       ap (λ ws. slice_get ws s) (sym (sops_are_values net order x width vs are))
       ∙ (slice_get_map (λ t. form_value x t.sop) (signals_of width net) s sig e ∙ ap (λ f. Some (form_value x f)) (sym same))
 
-module _ (mode : Mode) (width : ℕ) (net : Network) (g : Graph) (pats : List Pattern) (timing : Timing) (cap : ℕ) (labels : List (Option ℕ)) (n : Netlist) (class : ℕ → ℕ) (over : IsMappedOver mode width net g pats timing cap labels n class) where
-  certified : (arrivals : ℕ → ℕ) → AreNetArrivals timing n arrivals → IsCertified mode (forms_of width net) g pats timing cap labels n class arrivals
+  -- the sums of products are forms of the nets
+  pub sops_are_forms : IsInOrder net → AreNetForms net (listing_of width net) (sop_at (signals_of width net))
+  sops_are_forms order = record { listed = sop_occurs; values = sop_value_is order }
+
+module _ (mode : Mode) (inputs : ℕ) (o : Listing) (sound : IsSoundListing inputs o) (g : Graph) (pats : List Pattern) (timing : Timing) (cap : ℕ) (labels : List (Option ℕ)) (n : Netlist) (class : ℕ → ℕ) (over : IsMappedOverForms mode inputs o g pats timing cap labels n class) where
+  certified : (arrivals : ℕ → ℕ) → AreNetArrivals timing n arrivals → IsCertified mode (numbered inputs o) g pats timing cap labels n class arrivals
   certified arrivals are = record {
-    forms_are = numbered_are_forms net.inputs (listing_of width net) (occurring_is_listing width over.labelled.wide net);
+    forms_are = numbered_are_forms inputs o sound.listing;
     encodes = over.labelled.encodes;
     few = over.labelled.few;
     patterns = over.labelled.patterns;
@@ -92,35 +95,30 @@ module _ (mode : Mode) (width : ℕ) (net : Network) (g : Graph) (pats : List Pa
     arrivals_are = are;
   }
 
-  rooted : (ds : List ℕ) (s k : ℕ) → IsRootedAt width net g labels n class ds s k → IsOutput g labels n class (λ p. slice_index_or ds p 0) k (number (occurring_forms width net) (sop_at (signals_of width net) s))
-  rooted ds s k at = record { in_range = at.of_netlist; at_class = at.at_class; at_label = at.at_label }
+  rooted : (ds : List ℕ) (f : Form) (k : ℕ) → IsRootedAtForm o g labels n class ds f k → IsOutput g labels n class (λ p. slice_index_or ds p 0) k (number o.bases f)
+  rooted ds f k at = record { in_range = at.of_netlist; at_class = at.at_class; at_label = at.at_label }
 
   -- the arrival of a rooted net is the least
-  pub rooted_least : (ds : List ℕ) → AreArrivals timing n ds → (s k : ℕ) → IsRootedAt width net g labels n class ds s k → HasLeastArrival mode width net pats timing s (slice_index_or ds k 0)
-  rooted_least ds are s k at =
-      certified_plain_least mode net.inputs (listing_of width net) g pats timing cap labels n class (λ p. slice_index_or ds p 0) (occurring_is_listing width over.labelled.wide net) (certified (λ p. slice_index_or ds p 0) (list_arrivals timing n ds are)) k (sop_at (signals_of width net) s) (sop_occurs width over.labelled.wide net s at.of_network) (rooted ds s k at)
+  pub form_rooted_least : (ds : List ℕ) → AreArrivals timing n ds → (f : Form) (k : ℕ) → IsListed o f → IsRootedAtForm o g labels n class ds f k → HasLeastTime mode o.width o.signals pats timing f (slice_index_or ds k 0)
+  form_rooted_least ds are f k occ at =
+      certified_plain_least mode inputs o g pats timing cap labels n class (λ p. slice_index_or ds p 0) sound.listing (certified (λ p. slice_index_or ds p 0) (list_arrivals timing n ds are)) k f occ (rooted ds f k at)
 
-  -- the value of a rooted net is the network's
-  pub rooted_value : IsInOrder net → (truth : CellTruth) → ((p : Pattern) → Contains pats p → HasCellTruth (map length timing.delays) truth p) → (ds : List ℕ) → AreArrivals timing n ds → (x : ℕ → Bool) (vs ws : List Bool) → AreValues net x vs → AreNetlistValues truth n x ws → (s k : ℕ) → IsRootedAt width net g labels n class ds s k → slice_get vs s ≡ slice_get ws k
-  rooted_value order truth true_patterns ds are x vs ws right also s k at =
-      let o = listing_of width net in
-      let is = occurring_is_listing width over.labelled.wide net in
-      let f = sop_at (signals_of width net) s in
-      let occ = sop_occurs width over.labelled.wide net s at.of_network in
+  -- the value of a rooted net is the form's
+  pub form_rooted_value : (truth : CellTruth) → ((p : Pattern) → Contains pats p → HasCellTruth (map length timing.delays) truth p) → (ds : List ℕ) → AreArrivals timing n ds → (x : ℕ → Bool) (ws : List Bool) → AreNetlistValues truth n x ws → (f : Form) (k : ℕ) → IsListed o f → IsRootedAtForm o g labels n class ds f k → slice_get ws k ≡ Some (form_value x f)
+  form_rooted_value truth true_patterns ds are x ws also f k occ at =
+      let is = sound.listing in
       let num = occurs_number o is f occ in
-      let fits = form_values_fit (forms_of width net) x (number_value o x) (numbers_have_values net.inputs o is x (signals_agree x width net)) mode in
-      let value = certified_value mode (forms_of width net) g pats timing cap labels n class (λ p. slice_index_or ds p 0) (certified (λ p. slice_index_or ds p 0) (list_arrivals timing n ds are)) truth true_patterns x (λ p. slice_index_or ws p false) (number_value o x) (list_values truth n x ws also) fits k (number (occurring_forms width net) f) (number_in net.inputs o is f (number (occurring_forms width net) f) num) (rooted ds s k at) in
+      let fits = form_values_fit (numbered inputs o) x (number_value o x) (numbers_have_values inputs o is x (sound.agree x)) mode in
+      let value = certified_value mode (numbered inputs o) g pats timing cap labels n class (λ p. slice_index_or ds p 0) (certified (λ p. slice_index_or ds p 0) (list_arrivals timing n ds are)) truth true_patterns x (λ p. slice_index_or ws p false) (number_value o x) (list_values truth n x ws also) fits k (number o.bases f) (number_in inputs o is f (number o.bases f) num) (rooted ds f k at) in
       let len = also.one_each in
       let in' = at.of_netlist in
-      sop_value_is width over.labelled.wide net order x vs right s at.of_network
-      ∙ (ap Some (sym (value ∙ value_of_number net.inputs o is x f occ)) ∙ sym (slice_get-get_or ws k false (omega arith)))
+      slice_get-get_or ws k false (omega arith) ∙ ap Some (value ∙ value_of_number inputs o is x f occ)
 
-  -- a rooted net stands for a cover of a tree of the network's net
-  pub rooted_covered : (ds : List ℕ) → AreArrivals timing n ds → (s k : ℕ) → IsRootedAt width net g labels n class ds s k → StandsForCover mode width net pats timing n s k (slice_index_or ds k 0)
-  rooted_covered ds are s k at =
+  -- a rooted net stands for a cover of a tree of the form
+  pub form_rooted_covered : (ds : List ℕ) → AreArrivals timing n ds → (f : Form) (k : ℕ) → IsListed o f → IsRootedAtForm o g labels n class ds f k → StandsForCoverOf mode o.width o.signals pats timing n f k (slice_index_or ds k 0)
+  form_rooted_covered ds are f k occ at =
       let c = net_covered g (map length timing.delays) pats n class over.ordered over.mapped k at.of_netlist in
-      let o = listing_of width net in
-      let trees = has_plain_trees mode net.inputs o g (occurring_is_listing width over.labelled.wide net) over.labelled.encodes (sop_at (signals_of width net) s) (tree_of c.by) (sop_occurs width over.labelled.wide net s at.of_network) in
+      let trees = has_plain_trees mode inputs o g sound.listing over.labelled.encodes f (tree_of c.by) occ in
       record {
         by = c.by;
         is_cover = c.is_cover;
@@ -129,43 +127,74 @@ module _ (mode : Mode) (width : ℕ) (net : Network) (g : Graph) (pats : List Pa
         time = sym (StandsFor-time n timing (λ p. slice_index_or ds p 0) (list_arrivals timing n ds are) c.by k c.stands);
       }
 
-  -- a netlist all of whose outputs are rooted is a mapping of the network
-  pub rooted_mapping : IsInOrder net → (truth : CellTruth) → ((p : Pattern) → Contains pats p → HasCellTruth (map length timing.delays) truth p) → (ds : List ℕ) → AreArrivals timing n ds → (ports mapped : Ports) → AreRooted width net g labels n class ds ports mapped → IsMapping mode width net ports pats timing truth n mapped
-  rooted_mapping order truth true_patterns ds are ports mapped is = record {
+  -- a netlist all of whose outputs are rooted maps the forms of the network's outputs
+  pub forms_mapped : (net : Network) (form : ℕ → Form) → net.inputs ≡ inputs → AreNetForms net o form → (truth : CellTruth) → ((p : Pattern) → Contains pats p → HasCellTruth (map length timing.delays) truth p) → (ds : List ℕ) → AreArrivals timing n ds → (ports mapped : Ports) → HasPorts net ports → AreRootedAtForms inputs o form g labels n class ds ports mapped → MapsForms mode o.width o.signals form net ports pats timing truth n mapped
+  forms_mapped net form same_inputs forms truth true_patterns ds are ports mapped has is = record {
     ordered = over.ordered;
-    cells = λ j gt e. subst (λ k. HasPins (map length timing.delays) gt.cell k) (classes_length gt.pins) (over.mapped.gates j gt e).pins;
-    inputs = is.inputs;
+    cells = λ j gt e. subst (λ k. HasPins (map length timing.delays) gt.cell k) (length-map gt.pins class) (over.mapped.gates j gt e).pins;
+    inputs = is.inputs_are ∙ sym same_inputs;
     input_names = is.input_names;
-    output_names = each (λ p q. p.name ≡ q.name) (λ p q r. r.0) ports.outputs mapped.outputs is.outputs;
-    values = λ x vs ws right also. each (λ p q. slice_get vs p.net ≡ slice_get ws q.net) (λ p q r. rooted_value order truth true_patterns ds are x vs ws right also p.net q.net r.1) ports.outputs mapped.outputs is.outputs;
+    output_names = each (λ p q. p.name ≡ q.name) (λ p q lt r. r.0) ports.outputs mapped.outputs has is.outputs;
+    values = λ x vs ws right also. each (λ p q. slice_get vs p.net ≡ slice_get ws q.net) (λ p q lt r. forms.values x vs right p.net lt ∙ sym (form_rooted_value truth true_patterns ds are x ws also (form p.net) q.net (forms.listed p.net lt) r.1)) ports.outputs mapped.outputs has is.outputs;
     covers = λ es also.
         let same = arrivals_once n over.ordered timing ds es are also in
-        each (λ p q. StandsForCover mode width net pats timing n p.net q.net (slice_index_or es q.net 0)) (λ p q r. subst (λ ts. StandsForCover mode width net pats timing n p.net q.net (slice_index_or ts q.net 0)) same (rooted_covered ds are p.net q.net r.1)) ports.outputs mapped.outputs is.outputs;
+        each (λ p q. StandsForCoverOf mode o.width o.signals pats timing n (form p.net) q.net (slice_index_or es q.net 0)) (λ p q lt r. subst (λ ts. StandsForCoverOf mode o.width o.signals pats timing n (form p.net) q.net (slice_index_or ts q.net 0)) same (form_rooted_covered ds are (form p.net) q.net (forms.listed p.net lt) r.1)) ports.outputs mapped.outputs has is.outputs;
     arrivals = λ es also.
         let same = arrivals_once n over.ordered timing ds es are also in
-        each (λ p q. HasLeastArrival mode width net pats timing p.net (slice_index_or es q.net 0)) (λ p q r. subst (λ ts. HasLeastArrival mode width net pats timing p.net (slice_index_or ts q.net 0)) same (rooted_least ds are p.net q.net r.1)) ports.outputs mapped.outputs is.outputs;
+        each (λ p q. HasLeastTime mode o.width o.signals pats timing (form p.net) (slice_index_or es q.net 0)) (λ p q lt r. subst (λ ts. HasLeastTime mode o.width o.signals pats timing (form p.net) (slice_index_or ts q.net 0)) same (form_rooted_least ds are (form p.net) q.net (forms.listed p.net lt) r.1)) ports.outputs mapped.outputs has is.outputs;
   }
     where
-      classes_length : (pins : List ℕ) → length (map class pins) ≡ length pins
-      classes_length [] = refl
-      classes_length (p ∷ pins) = ap suc (classes_length pins)
+      each : (R : Port → Port → Type 0) → ((p q : Port) → p.net < net.inputs + length net.nodes → (p.name ≡ q.name) × IsRootedAtForm o g labels n class ds (form p.net) q.net → R p q) → (ps qs : List Port) → AllByRecursion (λ p. p.net < net.inputs + length net.nodes) ps → AllZip (λ p q. (p.name ≡ q.name) × IsRootedAtForm o g labels n class ds (form p.net) q.net) ps qs → AllZip R ps qs
+      each R f [] [] h a = tt
+      each R f [] (q ∷ qs) h a = absurd a
+      each R f (p ∷ ps) [] h a = absurd a
+      each R f (p ∷ ps) (q ∷ qs) (lt, h) (r, a) = (f p q lt r, each R f ps qs h a)
 
-      each : (R : Port → Port → Type 0) → ((p q : Port) → (p.name ≡ q.name) × IsRootedAt width net g labels n class ds p.net q.net → R p q) → (ps qs : List Port) → AllZip (λ p q. (p.name ≡ q.name) × IsRootedAt width net g labels n class ds p.net q.net) ps qs → AllZip R ps qs
-      each R f [] [] a = tt
-      each R f [] (q ∷ qs) a = absurd a
-      each R f (p ∷ ps) [] a = absurd a
-      each R f (p ∷ ps) (q ∷ qs) (r, a) = (f p q r, each R f ps qs a)
+-- where a form's class has no label, the form has no cover
+pub unlabelled_form : (mode : Mode) (inputs : ℕ) (o : Listing) (g : Graph) (pats : List Pattern) (timing : Timing) (cap : ℕ) (labels : List (Option ℕ)) → IsListing o → IsLabelledOverForms mode inputs o g pats timing cap labels → (f : Form) → IsListed o f → labels_in labels (class_in o g f) ≡ None → HasNoCoverOf mode o.width o.signals pats timing f
+unlabelled_form mode inputs o g pats timing cap labels is over f occ none k cover d =
+    unlabelled_has_no_cover mode (numbered inputs o) g pats timing cap labels (numbered_are_forms inputs o is) over.encodes over.few over.patterns over.potential (number o.bases f) (number_in inputs o is f (number o.bases f) (occurs_number o is f occ)) none k cover ((same_trees inputs o is mode f (tree_of k) occ).0 d)
 
-module _ (mode : Mode) (width : ℕ) (net : Network) (g : Graph) (pats : List Pattern) (timing : Timing) (cap : ℕ) (labels : List (Option ℕ)) (over : IsLabelledOver mode width net g pats timing cap labels) where
-  -- where a net's root class has no label, the net has no cover
+-- the same for the sums of products of a network
+module _ (mode : Mode) (width : ℕ) (net : Network) (g : Graph) (pats : List Pattern) (timing : Timing) (cap : ℕ) (labels : List (Option ℕ)) (n : Netlist) (class : ℕ → ℕ) (mapped_over : IsMappedOver mode width net g pats timing cap labels n class) where
+  abbrev o : Listing
+  o = listing_of width net
+
+  abbrev sop : ℕ → Form
+  sop = sop_at (signals_of width net)
+
+  sound : IsSoundListing net.inputs o
+  sound = network_is_sound width mapped_over.wide net
+
+  pub rooted_least : (ds : List ℕ) → AreArrivals timing n ds → (s k : ℕ) → IsRootedAt width net g labels n class ds s k → HasLeastArrival mode width net pats timing s (slice_index_or ds k 0)
+  rooted_least ds are s k at =
+      form_rooted_least mode net.inputs o sound g pats timing cap labels n class mapped_over.over ds are (sop s) k (sop_occurs width mapped_over.wide net s at.of_network) at.rooted
+
+  pub rooted_value : IsInOrder net → (truth : CellTruth) → ((p : Pattern) → Contains pats p → HasCellTruth (map length timing.delays) truth p) → (ds : List ℕ) → AreArrivals timing n ds → (x : ℕ → Bool) (vs ws : List Bool) → AreValues net x vs → AreNetlistValues truth n x ws → (s k : ℕ) → IsRootedAt width net g labels n class ds s k → slice_get vs s ≡ slice_get ws k
+  rooted_value order truth true_patterns ds are x vs ws right also s k at =
+      sop_value_is width mapped_over.wide net order x vs right s at.of_network
+      ∙ sym (form_rooted_value mode net.inputs o sound g pats timing cap labels n class mapped_over.over truth true_patterns ds are x ws also (sop s) k (sop_occurs width mapped_over.wide net s at.of_network) at.rooted)
+
+  pub rooted_covered : (ds : List ℕ) → AreArrivals timing n ds → (s k : ℕ) → IsRootedAt width net g labels n class ds s k → StandsForCover mode width net pats timing n s k (slice_index_or ds k 0)
+  rooted_covered ds are s k at =
+      form_rooted_covered mode net.inputs o sound g pats timing cap labels n class mapped_over.over ds are (sop s) k (sop_occurs width mapped_over.wide net s at.of_network) at.rooted
+
+  -- a netlist all of whose outputs are rooted is a mapping of the network
+  pub rooted_mapping : IsInOrder net → (truth : CellTruth) → ((p : Pattern) → Contains pats p → HasCellTruth (map length timing.delays) truth p) → (ds : List ℕ) → AreArrivals timing n ds → (ports mapped : Ports) → AreRooted width net g labels n class ds ports mapped → IsMapping mode width net ports pats timing truth n mapped
+  rooted_mapping order truth true_patterns ds are ports mapped is =
+      let (has, at) = split ports.outputs mapped.outputs is.outputs in
+      forms_mapped mode net.inputs o sound g pats timing cap labels n class mapped_over.over net sop refl (sops_are_forms width mapped_over.wide net order) truth true_patterns ds are ports mapped has (record { inputs_are = is.inputs; input_names = is.input_names; outputs = at })
+    where
+      split : (ps qs : List Port) → AllZip (λ p q. (p.name ≡ q.name) × IsRootedAt width net g labels n class ds p.net q.net) ps qs → AllByRecursion (λ p. p.net < net.inputs + length net.nodes) ps × AllZip (λ p q. (p.name ≡ q.name) × IsRootedAtForm o g labels n class ds (sop p.net) q.net) ps qs
+      split [] [] a = (tt, tt)
+      split [] (q ∷ qs) a = absurd a
+      split (p ∷ ps) [] a = absurd a
+      split (p ∷ ps) (q ∷ qs) ((e, r), a) = let (h, b) = split ps qs a in ((r.of_network, h), ((e, r.rooted), b))
+
+module _ (mode : Mode) (width : ℕ) (net : Network) (g : Graph) (pats : List Pattern) (timing : Timing) (cap : ℕ) (labels : List (Option ℕ)) (labelled : IsLabelledOver mode width net g pats timing cap labels) where
   pub unlabelled_root : (s : ℕ) → s < net.inputs + length net.nodes → labels_in labels (root_class width net g s) ≡ None → HasNoCover mode width net pats timing s
-  unlabelled_root s lt none k cover d =
-      let o = listing_of width net in
-      let is = occurring_is_listing width over.wide net in
-      let f = sop_at (signals_of width net) s in
-      let occ = sop_occurs width over.wide net s lt in
-      let num = occurs_number o is f occ in
-      unlabelled_has_no_cover mode (forms_of width net) g pats timing cap labels (numbered_are_forms net.inputs o is) over.encodes over.few over.patterns over.potential (number (occurring_forms width net) f) (number_in net.inputs o is f (number (occurring_forms width net) f) num) none k cover ((same_trees net.inputs o is mode f (tree_of k) occ).0 d)
+  unlabelled_root s lt none =
+      unlabelled_form mode net.inputs (listing_of width net) g pats timing cap labels (occurring_is_listing width labelled.wide net) labelled.over (sop_at (signals_of width net) s) (sop_occurs width labelled.wide net s lt) none
 
 -- a net of a mapped netlist is a cover at its class
 pub covered_net : (g : Graph) (pats : List Pattern) (timing : Timing) (truth : CellTruth) (n : Netlist) (class : ℕ → ℕ) → ArePatterns (map length timing.delays) pats → HaveCellTruths (map length timing.delays) truth pats → AreOrdered n → IsMapped g (map length timing.delays) pats n class → (net : ℕ) → net < n.inputs + length n.gates → IsCoverAt g pats timing truth n class net

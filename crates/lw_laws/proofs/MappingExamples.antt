@@ -5,8 +5,10 @@ use Rattle.lw_laws.specs.Modes.Mode.{plain}
 use Rattle.lw_laws.specs.Trees.{Tree, leaf, inv, nand}
 use Rattle.lw_laws.specs.Networks.{Network}
 use Rattle.lw_laws.specs.Forms.{Form, and_of}
+use Rattle.lw_laws.specs.Signals.{signals_of}
 use Rattle.lw_laws.specs.Forms.Form.{var_form, not_form}
-use Rattle.lw_laws.specs.Decompositions.{listing_of, HasTree}
+use Rattle.lw_laws.specs.Decompositions.{HasTree}
+use Rattle.lw_laws.specs.Listings.{listing_of}
 use Rattle.lw_laws.specs.Decompositions.AreParts.{parts_none, parts_left, parts_right}
 use Rattle.lw_laws.specs.Decompositions.HasTree.{input_law, inverter_law, split_law}
 use Rattle.lw_laws.specs.Covers.{Timing, Pattern, Cover, Covers}
@@ -29,7 +31,7 @@ use Rattle.lw_laws.proofs.EncodingTests.{PassesTests}
 use Rattle.lw_laws.proofs.PotentialTests.{PassesLabelTests}
 use Rattle.lw_laws.proofs.ClassLaws.{encoding_is_graph}
 use Rattle.lw_laws.proofs.HeightTests.{IsReached, tests_heights}
-use Rattle.lw_laws.proofs.MappingTests.{labelled_least, labels_least, tested}
+use Rattle.lw_laws.proofs.MappingTests.{labelled_least, labels_least, occurs_at, tested}
 
 abbrev y : Option Bool
 y = Some true
@@ -189,10 +191,10 @@ c_form = var_form 2
 abbrev cover_3 : Cover
 cover_3 = by_inv (by_nand_3 (wire 0) (wire 1) (wire 2))
 
-tree_3 : HasTree plain (listing_of 6 and_3) (and_of (a_form ∷ b_form ∷ c_form ∷ [])) (inv (nand (inv (nand (leaf 0) (leaf 1))) (leaf 2)))
+tree_3 : HasTree plain 6 (signals_of 6 and_3) (and_of (a_form ∷ b_form ∷ c_form ∷ [])) (inv (nand (inv (nand (leaf 0) (leaf 1))) (leaf 2)))
 tree_3 =
-    inverter_law (7, refl) (split_law {ls = a_form ∷ b_form ∷ []} {rs = c_form ∷ []} (7, refl) (parts_left (parts_left (parts_right parts_none))) (lit≤ tt) (lit≤ tt)
-    (inverter_law (4, refl) (split_law {ls = a_form ∷ []} {rs = b_form ∷ []} (4, refl) (parts_left (parts_right parts_none)) (lit≤ tt) (lit≤ tt) input_law input_law)) input_law)
+    inverter_law (occurs_at and_3 _ (7, refl)) (split_law {ls = a_form ∷ b_form ∷ []} {rs = c_form ∷ []} (occurs_at and_3 _ (7, refl)) (parts_left (parts_left (parts_right parts_none))) (lit≤ tt) (lit≤ tt)
+    (inverter_law (occurs_at and_3 _ (4, refl)) (split_law {ls = a_form ∷ []} {rs = b_form ∷ []} (occurs_at and_3 _ (4, refl)) (parts_left (parts_right parts_none)) (lit≤ tt) (lit≤ tt) input_law input_law)) input_law)
 
 -- the And of three inputs arrives at 3
 pub and_3_arrives : HasLeastArrival plain 6 and_3 (patterns_of cells) timing 3 3000000
@@ -230,11 +232,11 @@ cover_x = by_nand_2 (by_nand_2 (wire 0) (by_inv (wire 1))) (by_nand_2 (by_inv (w
 abbrev form_x : Form
 form_x = not_form (and_of (not_form (and_of (a_form ∷ not_form b_form ∷ [])) ∷ not_form (and_of (not_form a_form ∷ b_form ∷ [])) ∷ []))
 
-tree_x : HasTree plain (listing_of 6 xor_2) form_x (nand (nand (leaf 0) (inv (leaf 1))) (nand (inv (leaf 0)) (leaf 1)))
+tree_x : HasTree plain 6 (signals_of 6 xor_2) form_x (nand (nand (leaf 0) (inv (leaf 1))) (nand (inv (leaf 0)) (leaf 1)))
 tree_x =
-    split_law {ls = not_form (and_of (a_form ∷ not_form b_form ∷ [])) ∷ []} {rs = not_form (and_of (not_form a_form ∷ b_form ∷ [])) ∷ []} (5, refl) (parts_left (parts_right parts_none)) (lit≤ tt) (lit≤ tt)
-    (split_law {ls = a_form ∷ []} {rs = not_form b_form ∷ []} (3, refl) (parts_left (parts_right parts_none)) (lit≤ tt) (lit≤ tt) input_law (inverter_law (2, refl) input_law))
-    (split_law {ls = not_form a_form ∷ []} {rs = b_form ∷ []} (4, refl) (parts_left (parts_right parts_none)) (lit≤ tt) (lit≤ tt) (inverter_law (1, refl) input_law) input_law)
+    split_law {ls = not_form (and_of (a_form ∷ not_form b_form ∷ [])) ∷ []} {rs = not_form (and_of (not_form a_form ∷ b_form ∷ [])) ∷ []} (occurs_at xor_2 _ (5, refl)) (parts_left (parts_right parts_none)) (lit≤ tt) (lit≤ tt)
+    (split_law {ls = a_form ∷ []} {rs = not_form b_form ∷ []} (occurs_at xor_2 _ (3, refl)) (parts_left (parts_right parts_none)) (lit≤ tt) (lit≤ tt) input_law (inverter_law (occurs_at xor_2 _ (2, refl)) input_law))
+    (split_law {ls = not_form a_form ∷ []} {rs = b_form ∷ []} (occurs_at xor_2 _ (4, refl)) (parts_left (parts_right parts_none)) (lit≤ tt) (lit≤ tt) (inverter_law (occurs_at xor_2 _ (1, refl)) input_law) input_law)
 
 -- with inverters and nand2 it arrives at 4
 pub xor_arrives : HasLeastArrival plain 6 xor_2 (patterns_of cells) timing 2 4000000
@@ -282,4 +284,4 @@ written_3 = record {
     rows_rise (r ∷ rows) (ℕ.suc c) (p, a) = rows_rise rows c a
 
 pub and_3_graph : IsGraphOf plain 3 (listing_of 6 and_3) graph_3
-and_3_graph = encoding_is_graph plain 6 and_3 graph_3 (lit≤ tt) labelled_3.encodes written_3
+and_3_graph = encoding_is_graph plain 6 and_3 graph_3 (lit≤ tt) labelled_3.over.encodes written_3

@@ -1,5 +1,5 @@
 -- Least arrivals of small networks, by tests of a graph and labels, and a cover.
-use Rattle.std.proofs.Common.{ℕ, zero, suc, ◌+◌, ◌<◌, ◌≤◌, ◌^◌, ◌≡◌, Bool, true, ◌&&◌, ltb, List, [], min, ap, inl, inr, ◌/◌, length, map, Option, Some, None, slice_get, sym, subst, arith}
+use Rattle.std.proofs.Common.{ℕ, zero, suc, ◌+◌, ◌<◌, ◌≤◌, ◌^◌, ◌≡◌, Bool, true, ◌&&◌, ltb, List, [], min, ap, inl, inr, ◌/◌, length, map, Option, Some, None, slice_get, sym, subst, arith, lit≤}
 use Rattle.std.specs.List.{list_all}
 use Rattle.std.proofs.lemmas.Bool.{and_parts, ltb-true}
 use native.Mathlib.Decide.{ℕ_discrete}
@@ -8,7 +8,9 @@ use Rattle.lw_laws.specs.Trees.{Tree, leaf, const_one, const_zero, inv, nand, Ha
 use Rattle.lw_laws.specs.Networks.{Network}
 use Rattle.lw_laws.specs.Graphs.{Graph}
 use Rattle.lw_laws.specs.Signals.{sop_at, signals_of}
-use Rattle.lw_laws.specs.Decompositions.{listing_of, HasTree}
+use Rattle.lw_laws.specs.Forms.{Form}
+use Rattle.lw_laws.specs.Decompositions.{Occurs, HasTree}
+use Rattle.lw_laws.specs.Listings.{listing_of, IsListed}
 use Rattle.lw_laws.specs.Covers.{Timing, start_of, Pattern, ArePatterns, Cover, IsCover, tree_of, time_of}
 use Rattle.lw_laws.specs.Choices.{AreHeights}
 use Rattle.lw_laws.specs.Matches.{choices_of, IsLeastCover}
@@ -18,6 +20,7 @@ use Rattle.lw_laws.specs.Delays.{delay_cost}
 use Rattle.lw_laws.specs.Mapped.{forms_of, root_class, IsLabelledOver}
 use Rattle.lw_laws.specs.Headline.{HasLeastArrival}
 use Rattle.lw_laws.proofs.Listed.{occurring_is_listing}
+use Rattle.lw_laws.proofs.Occurrences.{listed_occurs}
 use Rattle.lw_laws.proofs.Agreement.{numbered_are_forms}
 use Rattle.lw_laws.proofs.NumberedForms.{forms_are_family}
 use Rattle.lw_laws.proofs.Encoding.{pairs_in_one_class}
@@ -74,8 +77,12 @@ fitting_patterns pin_counts pats e p listed = record {
       (λ h. below_true n p.tree k a h, λ lt. has_true n p.tree k b lt);
 }
 
+-- a form that a network's list has at this place occurs
+pub occurs_at : (net : Network) (f : Form) → IsListed (listing_of 6 net) f → Occurs (signals_of 6 net) f
+occurs_at net f at = listed_occurs (listing_of 6 net) (occurring_is_listing 6 (lit≤ tt) net) f at
+
 -- The label of a net's root class is the least arrival, where some cover has it as its time.
-pub labelled_least : (mode : Mode) (width : ℕ) (net : Network) (g : Graph) (pats : List Pattern) (timing : Timing) (cap : ℕ) (labels : List (Option ℕ)) → IsLabelledOver mode width net g pats timing cap labels → (s d : ℕ) → s < net.inputs + length net.nodes → labels_in labels (root_class width net g s) ≡ Some d → (k : Cover) → IsCover (map length timing.delays) pats k → HasTree mode (listing_of width net) (sop_at (signals_of width net) s) (tree_of k) → time_of timing k ≡ d → HasLeastArrival mode width net pats timing s d
+pub labelled_least : (mode : Mode) (width : ℕ) (net : Network) (g : Graph) (pats : List Pattern) (timing : Timing) (cap : ℕ) (labels : List (Option ℕ)) → IsLabelledOver mode width net g pats timing cap labels → (s d : ℕ) → s < net.inputs + length net.nodes → labels_in labels (root_class width net g s) ≡ Some d → (k : Cover) → IsCover (map length timing.delays) pats k → HasTree mode width (signals_of width net) (sop_at (signals_of width net) s) (tree_of k) → time_of timing k ≡ d → HasLeastArrival mode width net pats timing s d
 labelled_least mode width net g pats timing cap labels over s d lt label k cover tree time = record {
   attained = (k, cover, tree, time);
   least = λ j is_cover has.
@@ -83,9 +90,9 @@ labelled_least mode width net g pats timing cap labels over s d lt label k cover
       let is = occurring_is_listing width over.wide net in
       let f = sop_at (signals_of width net) s in
       let occ = sop_occurs width over.wide net s lt in
-      let u = (has_plain_trees mode net.inputs o g is over.encodes f (tree_of j) occ).1 has in
-      let once = pairs_in_one_class (family_of mode (forms_of width net)) (λ h. h / 2) (forms_are_family mode (forms_of width net) (numbered_are_forms net.inputs o is)) g over.encodes in
-      let (l, e, le) = bounds_covers g pats (delay_cost timing cap) labels over.few once over.patterns (delay_cost_is timing cap) over.potential j (root_class width net g s) is_cover u in
+      let u = (has_plain_trees mode net.inputs o g is over.over.encodes f (tree_of j) occ).1 has in
+      let once = pairs_in_one_class (family_of mode (forms_of width net)) (λ h. h / 2) (forms_are_family mode (forms_of width net) (numbered_are_forms net.inputs o is)) g over.over.encodes in
+      let (l, e, le) = bounds_covers g pats (delay_cost timing cap) labels over.over.few once over.over.patterns (delay_cost_is timing cap) over.over.potential j (root_class width net g s) is_cover u in
       let t = cost_of-time timing cap j in
       let same : l ≡ d = cc in
       omega arith;
@@ -95,22 +102,24 @@ labelled_least mode width net g pats timing cap labels over s d lt label k cover
 pub tested : (mode : Mode) (width : ℕ) → 2 ≤ width → (net : Network) (g : Graph) (merged : List Two) → PassesTests mode (forms_of width net) g merged → (pats : List Pattern) (timing : Timing) (cap : ℕ) (labels : List (Option ℕ)) → PassesLabelTests labels g pats (delay_cost timing cap) → patterns_fit (map length timing.delays) pats ≡ true → length g.leaves < 2 ^ 32 → IsLabelledOver mode width net g pats timing cap labels
 tested mode width wide net g merged passes pats timing cap labels bounded fits few = record {
   wide = wide;
-  encodes = tests_encode mode (forms_of width net) g merged passes;
-  few = few;
-  patterns = fitting_patterns (map length timing.delays) pats fits;
-  potential = tests_bound labels g pats (delay_cost timing cap) bounded;
+  over = record {
+    encodes = tests_encode mode (forms_of width net) g merged passes;
+    few = few;
+    patterns = fitting_patterns (map length timing.delays) pats fits;
+    potential = tests_bound labels g pats (delay_cost timing cap) bounded;
+  };
 }
 
 -- Labels of times that are a potential, with heights of the classes, are the least times of covers.
 pub labels_least : (mode : Mode) (width : ℕ) (net : Network) (g : Graph) (pats : List Pattern) (timing : Timing) (cap : ℕ) (labels : List (Option ℕ)) (heights : ℕ → ℕ) → timing.starts ≡ [] → IsLabelledOver mode width net g pats timing cap labels → AreHeights (choices_of g (map length timing.delays) pats) (delay_cost timing cap) (labels_in labels) heights → (c : ℕ) → IsLeastCover g pats (delay_cost timing cap) c (labels_in labels c)
 labels_least mode width net g pats timing cap labels heights at_once over are c =
     let listing = occurring_is_listing width over.wide net in
-    let once = pairs_in_one_class (family_of mode (forms_of width net)) (λ h. h / 2) (forms_are_family mode (forms_of width net) (numbered_are_forms net.inputs (listing_of width net) listing)) g over.encodes in
-    least_covers g pats (delay_cost timing cap) labels over.few once over.patterns (delay_cost_is timing cap) over.potential (along_heights g pats (delay_cost timing cap) labels heights are leaf) c
+    let once = pairs_in_one_class (family_of mode (forms_of width net)) (λ h. h / 2) (forms_are_family mode (forms_of width net) (numbered_are_forms net.inputs (listing_of width net) listing)) g over.over.encodes in
+    least_covers g pats (delay_cost timing cap) labels over.over.few once over.over.patterns (delay_cost_is timing cap) over.over.potential (along_heights g pats (delay_cost timing cap) labels heights are leaf) c
   where
     leaf : (d i l : ℕ) → slice_get g.leaves i ≡ Some d → labels_in labels d ≡ Some l → l ≡ min cap (start_of timing.starts i)
     leaf d i l at e =
-        let (m, f, le) = over.potential.inputs d i at in
+        let (m, f, le) = over.over.potential.inputs d i at in
         let same : m ≡ l = cc in
         let zero_start : start_of timing.starts i ≡ 0 = ap (λ starts. start_of starts i) at_once in
         omega arith

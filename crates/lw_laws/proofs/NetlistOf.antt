@@ -1,6 +1,6 @@
--- The netlist that a network is mapped to is a mapping of it.
-use Rattle.std.proofs.Common.{ℕ, ◌+◌, ◌/◌, ◌<◌, ◌≤◌, ◌^◌, ◌≡◌, ◌↔◌, List, [], ◌∷◌, length, map, Option, Some, None, refl, ap, ◌∙◌, subst, arith}
-use Rattle.std.specs.List.{AllZip, AllByRecursion}
+-- The netlist that listed forms are mapped to has their values and the least arrivals, and that of a network is a mapping of it.
+use Rattle.std.proofs.Common.{ℕ, ◌+◌, ◌<◌, ◌≤◌, ◌^◌, ◌≡◌, ◌↔◌, List, [], ◌∷◌, length, map, Option, Some, None, refl, ap, ◌∙◌, subst, arith}
+use Rattle.std.specs.List.{AllZip}
 use Rattle.std.proofs.lemmas.Option.{slice_get_within}
 use Rattle.std.proofs.lemmas.List.{length-append}
 use Rattle.lw_facts.proofs.Lists.{index_at}
@@ -9,7 +9,11 @@ use Rattle.lw_laws.specs.Networks.{Network, IsInOrder}
 use Rattle.lw_laws.specs.Trees.{Tree}
 use Rattle.lw_laws.specs.Forms.{Form}
 use Rattle.lw_laws.specs.Signals.{sop_at, signals_of}
-use Rattle.lw_laws.specs.Decompositions.{listing_of, HasTree}
+use Rattle.lw_laws.specs.Decompositions.{HasTree}
+use Rattle.lw_laws.specs.Listings.{Listing, listing_of, IsListed, IsListing}
+use Rattle.lw_laws.specs.SignalValues.{IsSoundListing, AreNetForms}
+use Rattle.lw_laws.specs.Classes.{class_in}
+use Rattle.lw_laws.specs.Numbering.{numbered}
 use Rattle.lw_laws.specs.Graphs.{Graph, PairsInOneClass, Unfolds}
 use Rattle.lw_laws.specs.Costs.{Cost}
 use Rattle.lw_laws.specs.Covers.{Timing, Pattern, ArePatterns, tree_of}
@@ -24,20 +28,18 @@ use Rattle.lw_laws.specs.NumberedForms.{family_of}
 use Rattle.lw_laws.specs.Encodings.{Encodes}
 use Rattle.lw_laws.specs.Netlists.{Netlist, AreByDepth, CellTruth, HaveCellTruths, AreArrivals}
 use Rattle.lw_laws.specs.Extracts.{IsNetOf, class_at, net_classes, HaveLeafLabels}
-use Rattle.lw_laws.specs.Mapped.{IsPotentialOf, forms_of, root_class, IsMappedOver, IsRootedAt}
-use Rattle.lw_laws.specs.Headline.{Port, Ports, IsMapping, HasLeastArrival, HasNoCover}
-use Rattle.lw_laws.specs.MappedNetlists.{root_classes, HasPorts, IsNetlistOf}
-use Rattle.lw_laws.proofs.NumberedForms.{forms_are_family}
-use Rattle.lw_laws.proofs.Encoding.{pairs_in_one_class}
-use Rattle.lw_laws.proofs.Agreement.{numbered_are_forms}
+use Rattle.lw_laws.specs.Mapped.{IsPotentialOf, forms_of, root_class, IsMappedOverForms, IsRootedAtForm}
+use Rattle.lw_laws.specs.Headline.{Port, Ports, MapsForms, IsMapping, HasLeastTime, HasLeastArrival, HasNoCoverOf, HasNoCover}
+use Rattle.lw_laws.specs.MappedNetlists.{form_classes, HasPorts, IsNetlistOfForms, IsNetlistOf}
 use Rattle.lw_laws.proofs.Listed.{occurring_is_listing}
+use Rattle.lw_laws.proofs.Sound.{network_is_sound}
 use Rattle.lw_laws.proofs.Covering.{cover_costs, cost_covered}
 use Rattle.lw_laws.proofs.NetlistValues.{some_arrivals}
 use Rattle.lw_laws.proofs.ExtractLaws.{ordered_and_mapped, extracted_arrivals}
 use Rattle.lw_laws.proofs.MappedDepths.{extracted_by_depth}
-use Rattle.lw_laws.proofs.Mapping.{rooted_mapping, sop_occurs}
-use Rattle.lw_laws.proofs.GraphEncodes.{graph_encodes}
-use Rattle.lw_laws.proofs.InputLabels.{input_label}
+use Rattle.lw_laws.proofs.Mapping.{forms_mapped, sop_occurs, sops_are_forms}
+use Rattle.lw_laws.proofs.GraphEncodes.{forms_encode, forms_pairs_once}
+use Rattle.lw_laws.proofs.InputLabels.{form_input_label}
 use Rattle.lw_laws.proofs.Headline.{has_plain_trees}
 use Rattle.lw_laws.proofs.Delays.{cost_of-time}
 
@@ -83,76 +85,93 @@ each R S f [] (q ∷ qs) a = absurd a
 each R S f (p ∷ ps) [] a = absurd a
 each R S f (p ∷ ps) (q ∷ qs) (r, a) = (f p q r, each R S f ps qs a)
 
-both : (P : Port → Type 0) (R : Port → Port → Type 0) (ps qs : List Port) → AllByRecursion P ps → AllZip R ps qs → AllZip (λ p q. P p × R p q) ps qs
-both P R [] [] a b = tt
-both P R [] (q ∷ qs) a b = absurd b
-both P R (p ∷ ps) [] a b = absurd b
-both P R (p ∷ ps) (q ∷ qs) (h, a) (r, b) = ((h, r), both P R ps qs a b)
+module _ (mode : Mode) (inputs : ℕ) (o : Listing) (form : ℕ → Form) (sound : IsSoundListing inputs o) (ports : Ports) (pats : List Pattern) (timing : Timing) (cap : ℕ) (n : Netlist) (names : List (List ℕ)) (mapped : Ports) (patterns : ArePatterns (map length timing.delays) pats) (is : IsNetlistOfForms mode inputs o form ports pats timing cap n names mapped) where
+  abbrev cost : Cost
+  cost = delay_cost timing cap
 
--- each input's class has the input's start as its label
-pub netlist_leaf_labels : (mode : Mode) (width : ℕ) (net : Network) (ports : Ports) (pats : List Pattern) (timing : Timing) (cap : ℕ) (n : Netlist) (names : List (List ℕ)) (mapped : Ports) → 2 ≤ width → ArePatterns (map length timing.delays) pats → (is : IsNetlistOf mode width net ports pats timing cap n names mapped) → HaveLeafLabels is.graph (delay_cost timing cap) (labels_in is.labels)
-netlist_leaf_labels mode width net ports pats timing cap n names mapped wide patterns is c i at = input_label mode width net is.graph wide is.is_graph pats timing cap patterns i c (labels_in is.labels c) at (is.least c)
+  abbrev g : Graph
+  g = is.graph
 
--- the netlist that a network is mapped to has its ports and values, and the least arrivals
-pub netlist_maps : (mode : Mode) (width : ℕ) (net : Network) (ports : Ports) (pats : List Pattern) (timing : Timing) (cap : ℕ) (truth : CellTruth) (n : Netlist) (names : List (List ℕ)) (mapped : Ports) → 2 ≤ width → IsInOrder net → net.inputs < 2 ^ 32 → HasPorts net ports → ArePatterns (map length timing.delays) pats → HaveCellTruths (map length timing.delays) truth pats → (is : IsNetlistOf mode width net ports pats timing cap n names mapped) → ((c l : ℕ) → labels_in is.labels c ≡ Some l → l < cap) → IsMapping mode width net ports pats timing truth n mapped
-netlist_maps mode width net ports pats timing cap truth n names mapped wide order few has patterns truths is low =
-    let g = is.graph in
-    let encodes = graph_encodes mode width net g wide is.is_graph in
-    let cost = delay_cost timing cap in
-    let listing = occurring_is_listing width wide net in
-    let once = pairs_in_one_class (family_of mode (forms_of width net)) (λ h. h / 2) (forms_are_family mode (forms_of width net) (numbered_are_forms net.inputs (listing_of width net) listing)) g encodes in
-    let potential = least_potential (choices_of g (map length timing.delays) pats) cost (labels_in is.labels) (λ c. least_match g pats cost once patterns c (labels_in is.labels c) (is.least c)) in
-    let leaves = is.is_graph.written.leaf_count in
-    let (ordered, gates_mapped) = ordered_and_mapped g cost pats (labels_in is.labels) is.heights (root_classes width net g ports.outputs) is.gates is.gate_classes n is.extracted in
-    let (ds, are) = some_arrivals n ordered timing in
-    let over : IsMappedOver mode width net g pats timing cap is.labels n (class_at g is.gates) = record {
-      labelled = record { wide = wide; encodes = encodes; few = omega arith; patterns = patterns; potential = potential };
-      ordered = ordered;
-      mapped = gates_mapped;
-    } in
-    rooted_mapping mode width net g pats timing cap is.labels n (class_at g is.gates) over order truth truths ds are ports mapped (record {
-      inputs = is.extracted.inputs ∙ leaves;
-      input_names = is.input_names;
-      outputs = each (λ p q. (p.net < net.inputs + length net.nodes) × ((p.name ≡ q.name) × IsNetOf g is.gates (root_class width net g p.net) q.net)) (λ p q. (p.name ≡ q.name) × IsRootedAt width net g is.labels n (class_at g is.gates) ds p.net q.net)
-          (λ p q r. (r.1.0, rooted p.net q.net ds are r.0 r.1.1)) ports.outputs mapped.outputs
-          (both (λ p. p.net < net.inputs + length net.nodes) (λ p q. (p.name ≡ q.name) × IsNetOf g is.gates (root_class width net g p.net) q.net) ports.outputs mapped.outputs has is.outputs);
-    })
-  where
-    rooted : (s k : ℕ) (ds : List ℕ) → AreArrivals timing n ds → s < net.inputs + length net.nodes → IsNetOf is.graph is.gates (root_class width net is.graph s) k → IsRootedAt width net is.graph is.labels n (class_at is.graph is.gates) ds s k
-    rooted s k ds are lt at =
-        let here = index_at (net_classes is.graph is.gates) k (root_class width net is.graph s) at in
-        let a = is.extracted.inputs in
-        let b = is.extracted.one_each in
-        let c = length-append is.graph.leaves is.gates in
-        let d = slice_get_within (net_classes is.graph is.gates) k (root_class width net is.graph s) at in
-        record {
-          of_network = lt;
-          of_netlist = omega arith;
-          at_class = here;
-          at_label = ap (labels_in is.labels) here ∙ extracted_arrivals is.graph pats timing cap (labels_in is.labels) is.heights (root_classes width net is.graph ports.outputs) is.gates n ds is.gate_classes is.extracted are (netlist_leaf_labels mode width net ports pats timing cap n names mapped wide patterns is) low (root_class width net is.graph s) k at;
-        }
+  -- each input's class has the input's start as its label
+  pub form_leaf_labels : HaveLeafLabels g cost (labels_in is.labels)
+  form_leaf_labels c i at = form_input_label mode inputs o g sound is.is_graph pats timing cap patterns i c (labels_in is.labels c) at (is.least c)
 
-module _ (mode : Mode) (width : ℕ) (net : Network) (g : Graph) (pats : List Pattern) (timing : Timing) (cap : ℕ) (wide : 2 ≤ width) (encodes : Encodes (family_of mode (forms_of width net)) g) (s : ℕ) (lt : s < net.inputs + length net.nodes) where
-  abbrev sop : Form
-  sop = sop_at (signals_of width net) s
+  -- the gates of the netlist stand by depth
+  pub form_by_depth : AreByDepth n
+  form_by_depth =
+      extracted_by_depth g cost pats (labels_in is.labels) is.heights is.height (form_classes o form g ports.outputs) is.gates n is.gate_classes is.extracted form_leaf_labels
 
-  root_trees : (t : Tree) → Unfolds g t (root_class width net g s) ↔ HasTree mode (listing_of width net) sop t
-  root_trees t = has_plain_trees mode net.inputs (listing_of width net) g (occurring_is_listing width wide net) encodes sop t (sop_occurs width wide net s lt)
-
-  -- the least cost at an output's class is its least arrival
-  pub root_least : (d : ℕ) → d < cap → IsLeastCover g pats (delay_cost timing cap) (root_class width net g s) (Some d) → HasLeastArrival mode width net pats timing s d
-  root_least d room ((k, is, u, e), low) =
-      let t = cost_of-time timing cap k in
+  rooted : ((c l : ℕ) → labels_in is.labels c ≡ Some l → l < cap) → (f : Form) (k : ℕ) (ds : List ℕ) → AreArrivals timing n ds → IsNetOf g is.gates (class_in o g f) k → IsRootedAtForm o g is.labels n (class_at g is.gates) ds f k
+  rooted low f k ds are at =
+      let here = index_at (net_classes g is.gates) k (class_in o g f) at in
+      let a = is.extracted.inputs in
+      let b = is.extracted.one_each in
+      let c = length-append g.leaves is.gates in
+      let d = slice_get_within (net_classes g is.gates) k (class_in o g f) at in
       record {
-        attained = (k, is, (root_trees (tree_of k)).0 u, omega arith);
-        least = λ j is_cover tree. let h = low j is_cover ((root_trees (tree_of j)).1 tree) in let q = cost_of-time timing cap j in omega arith;
+        of_netlist = omega arith;
+        at_class = here;
+        at_label = ap (labels_in is.labels) here ∙ extracted_arrivals g pats timing cap (labels_in is.labels) is.heights (form_classes o form g ports.outputs) is.gates n ds is.gate_classes is.extracted are form_leaf_labels low (class_in o g f) k at;
       }
 
-  -- where the class has no cover, the output has none
-  pub root_uncovered : IsLeastCover g pats (delay_cost timing cap) (root_class width net g s) None → HasNoCover mode width net pats timing s
-  root_uncovered none k is_cover tree = none k is_cover ((root_trees (tree_of k)).1 tree)
+  -- the netlist that forms are mapped to has the ports, the forms' values, and the least arrivals
+  pub netlist_maps_forms : (net : Network) → net.inputs ≡ inputs → (truth : CellTruth) → AreNetForms net o form → inputs < 2 ^ 32 → HasPorts net ports → HaveCellTruths (map length timing.delays) truth pats → ((c l : ℕ) → labels_in is.labels c ≡ Some l → l < cap) → MapsForms mode o.width o.signals form net ports pats timing truth n mapped
+  netlist_maps_forms net same truth forms few has truths low =
+      let potential = least_potential (choices_of g (map length timing.delays) pats) cost (labels_in is.labels) (λ c. least_match g pats cost (forms_pairs_once mode inputs o g sound is.is_graph) patterns c (labels_in is.labels c) (is.least c)) in
+      let leaves = is.is_graph.written.leaf_count in
+      let (ordered, gates_mapped) = ordered_and_mapped g cost pats (labels_in is.labels) is.heights (form_classes o form g ports.outputs) is.gates is.gate_classes n is.extracted in
+      let (ds, are) = some_arrivals n ordered timing in
+      let over : IsMappedOverForms mode inputs o g pats timing cap is.labels n (class_at g is.gates) = record {
+        labelled = record { encodes = forms_encode mode inputs o g sound is.is_graph; few = omega arith; patterns = patterns; potential = potential };
+        ordered = ordered;
+        mapped = gates_mapped;
+      } in
+      forms_mapped mode inputs o sound g pats timing cap is.labels n (class_at g is.gates) over net form same forms truth truths ds are ports mapped has (record {
+        inputs_are = is.extracted.inputs ∙ leaves;
+        input_names = is.input_names;
+        outputs = each (λ p q. (p.name ≡ q.name) × IsNetOf g is.gates (class_in o g (form p.net)) q.net) (λ p q. (p.name ≡ q.name) × IsRootedAtForm o g is.labels n (class_at g is.gates) ds (form p.net) q.net)
+            (λ p q r. (r.0, rooted low (form p.net) q.net ds are r.1)) ports.outputs mapped.outputs is.outputs;
+      })
 
--- the gates of the netlist that a network is mapped to stand by depth
-pub netlist_by_depth : (mode : Mode) (width : ℕ) (net : Network) (ports : Ports) (pats : List Pattern) (timing : Timing) (cap : ℕ) (n : Netlist) (names : List (List ℕ)) (mapped : Ports) → 2 ≤ width → ArePatterns (map length timing.delays) pats → IsNetlistOf mode width net ports pats timing cap n names mapped → AreByDepth n
-netlist_by_depth mode width net ports pats timing cap n names mapped wide patterns is =
-    extracted_by_depth is.graph (delay_cost timing cap) pats (labels_in is.labels) is.heights is.height (root_classes width net is.graph ports.outputs) is.gates n is.gate_classes is.extracted (netlist_leaf_labels mode width net ports pats timing cap n names mapped wide patterns is)
+module _ (mode : Mode) (inputs : ℕ) (o : Listing) (g : Graph) (pats : List Pattern) (timing : Timing) (cap : ℕ) (listing : IsListing o) (encodes : Encodes (family_of mode (numbered inputs o)) g) (f : Form) (occ : IsListed o f) where
+  form_class_trees : (t : Tree) → Unfolds g t (class_in o g f) ↔ HasTree mode o.width o.signals f t
+  form_class_trees t = has_plain_trees mode inputs o g listing encodes f t occ
+
+  -- the least cost at a form's class is its least time
+  pub form_least : (d : ℕ) → d < cap → IsLeastCover g pats (delay_cost timing cap) (class_in o g f) (Some d) → HasLeastTime mode o.width o.signals pats timing f d
+  form_least d room ((k, is, u, e), low) =
+      let t = cost_of-time timing cap k in
+      record {
+        attained = (k, is, (form_class_trees (tree_of k)).0 u, omega arith);
+        least = λ j is_cover tree. let h = low j is_cover ((form_class_trees (tree_of j)).1 tree) in let q = cost_of-time timing cap j in omega arith;
+      }
+
+  -- where the class has no cover, the form has none
+  pub form_uncovered : IsLeastCover g pats (delay_cost timing cap) (class_in o g f) None → HasNoCoverOf mode o.width o.signals pats timing f
+  form_uncovered none k is_cover tree = none k is_cover ((form_class_trees (tree_of k)).1 tree)
+
+-- the same for the sums of products of a network
+module _ (mode : Mode) (width : ℕ) (net : Network) (ports : Ports) (pats : List Pattern) (timing : Timing) (cap : ℕ) where
+  abbrev sop : ℕ → Form
+  sop = sop_at (signals_of width net)
+
+  pub netlist_leaf_labels : (n : Netlist) (names : List (List ℕ)) (mapped : Ports) → 2 ≤ width → ArePatterns (map length timing.delays) pats → (is : IsNetlistOf mode width net ports pats timing cap n names mapped) → HaveLeafLabels is.graph (delay_cost timing cap) (labels_in is.labels)
+  netlist_leaf_labels n names mapped wide patterns is =
+      form_leaf_labels mode net.inputs (listing_of width net) sop (network_is_sound width wide net) ports pats timing cap n names mapped patterns is
+
+  pub netlist_by_depth : (n : Netlist) (names : List (List ℕ)) (mapped : Ports) → 2 ≤ width → ArePatterns (map length timing.delays) pats → IsNetlistOf mode width net ports pats timing cap n names mapped → AreByDepth n
+  netlist_by_depth n names mapped wide patterns is =
+      form_by_depth mode net.inputs (listing_of width net) sop (network_is_sound width wide net) ports pats timing cap n names mapped patterns is
+
+  pub netlist_maps : (truth : CellTruth) (n : Netlist) (names : List (List ℕ)) (mapped : Ports) → 2 ≤ width → IsInOrder net → net.inputs < 2 ^ 32 → HasPorts net ports → ArePatterns (map length timing.delays) pats → HaveCellTruths (map length timing.delays) truth pats → (is : IsNetlistOf mode width net ports pats timing cap n names mapped) → ((c l : ℕ) → labels_in is.labels c ≡ Some l → l < cap) → IsMapping mode width net ports pats timing truth n mapped
+  netlist_maps truth n names mapped wide order few has patterns truths is low =
+      netlist_maps_forms mode net.inputs (listing_of width net) sop (network_is_sound width wide net) ports pats timing cap n names mapped patterns is net refl truth (sops_are_forms width wide net order) few has truths low
+
+module _ (mode : Mode) (width : ℕ) (net : Network) (g : Graph) (pats : List Pattern) (timing : Timing) (cap : ℕ) (wide : 2 ≤ width) (encodes : Encodes (family_of mode (forms_of width net)) g) (s : ℕ) (lt : s < net.inputs + length net.nodes) where
+  pub root_least : (d : ℕ) → d < cap → IsLeastCover g pats (delay_cost timing cap) (root_class width net g s) (Some d) → HasLeastArrival mode width net pats timing s d
+  root_least d =
+      form_least mode net.inputs (listing_of width net) g pats timing cap (occurring_is_listing width wide net) encodes (sop_at (signals_of width net) s) (sop_occurs width wide net s lt) d
+
+  pub root_uncovered : IsLeastCover g pats (delay_cost timing cap) (root_class width net g s) None → HasNoCover mode width net pats timing s
+  root_uncovered =
+      form_uncovered mode net.inputs (listing_of width net) g pats timing cap (occurring_is_listing width wide net) encodes (sop_at (signals_of width net) s) (sop_occurs width wide net s lt)

@@ -1,11 +1,14 @@
--- The netlist that a network is mapped to is one.
+-- The netlist that listed forms are mapped to is one, and so is that of a network.
 use Rattle.std.proofs.Common.{ℕ, suc, ◌<◌, ◌≤◌, ◌≡◌, ◌⊎◌, List, [], ◌∷◌, length, map, Option, Some, None, slice_get, refl, ap, ap₂, sym, ◌∙◌, subst, subst₂, arith}
 use mathlib.Core.Path.{fun_ext}
 use Rattle.std.specs.List.{AllZip, AllByRecursion}
 use Rattle.std.proofs.lemmas.Option.{slice_get_within}
 use Rattle.lw_laws.specs.Modes.{Mode}
 use Rattle.lw_laws.specs.Networks.{Network}
-use Rattle.lw_laws.specs.Decompositions.{Listing, listing_of}
+use Rattle.lw_laws.specs.Signals.{Signal, sop_at, signals_of}
+use Rattle.lw_laws.specs.Listings.{Listing, listing_of}
+use Rattle.lw_laws.specs.SignalValues.{IsSoundListing}
+use Rattle.lw_laws.specs.Classes.{class_in}
 use Rattle.lw_laws.specs.Forms.{Form}
 use Rattle.lw_laws.specs.Graphs.{Graph}
 use Rattle.lw_laws.specs.Costs.{Cost}
@@ -17,20 +20,19 @@ use Rattle.lw_laws.specs.Delays.{delay_cost}
 use Rattle.lw_laws.specs.Netlists.{Netlist}
 use Rattle.lw_laws.specs.Extracts.{Match, Supports, IsChosen, IsNeeded, AreGateClasses, IsNetOf, IsExtracted, AreDistinctLeaves}
 use Rattle.lw_laws.specs.Extracts.IsNeeded.{by_root, by_pin}
-use Rattle.lw_laws.specs.Mapped.{root_class}
 use Rattle.lw_laws.specs.Names.{net_names}
 use Rattle.lw_laws.specs.Headline.{Port, Ports, HasLeastTime}
-use Rattle.lw_laws.specs.MappedNetlists.{root_classes, IsNetlistOf}
+use Rattle.lw_laws.specs.MappedNetlists.{form_classes, IsNetlistOfForms, IsNetlistOf}
 use Rattle.lw_laws.proofs.Unique.{IsHeight_once}
 use Rattle.lw_laws.proofs.ClassLaws.{graphs_once}
-use Rattle.lw_laws.proofs.InputClasses.{distinct_leaves}
+use Rattle.lw_laws.proofs.InputClasses.{forms_leaves_differ}
 use Rattle.lw_laws.proofs.ExtractLaws.{gate_classes_once, extracted_once, net_once}
-use Rattle.lw_laws.proofs.Listed.{occurring_is_listing}
+use Rattle.lw_laws.proofs.Sound.{network_is_sound}
 use Rattle.lw_laws.proofs.Lists.{slice_get_some}
 
 -- the least time of a form is one
-pub least_time_once : (mode : Mode) (o : Listing) (pats : List Pattern) (timing : Timing) (f : Form) (d e : ℕ) → HasLeastTime mode o pats timing f d → HasLeastTime mode o pats timing f e → d ≡ e
-least_time_once mode o pats timing f d e a b =
+pub least_time_once : (mode : Mode) (width : ℕ) (signals : List Signal) (pats : List Pattern) (timing : Timing) (f : Form) (d e : ℕ) → HasLeastTime mode width signals pats timing f d → HasLeastTime mode width signals pats timing f e → d ≡ e
+least_time_once mode width signals pats timing f d e a b =
     let (k, is, tree, time) = a.attained in
     let (j, js, tree', time') = b.attained in
     let p = b.least k is tree in
@@ -107,20 +109,20 @@ module _ (g : Graph) (cost : Cost) (pats : List Pattern) (labels : Labels) where
       }
 
 -- a netlist over a given graph, labels and heights
-record IsOver (width : ℕ) (net : Network) (ports : Ports) (pats : List Pattern) (timing : Timing) (cap : ℕ) (n : Netlist) (names : List (List ℕ)) (mapped : Ports) (g : Graph) : Type 0 where
+record IsOver (o : Listing) (form : ℕ → Form) (ports : Ports) (pats : List Pattern) (timing : Timing) (cap : ℕ) (n : Netlist) (names : List (List ℕ)) (mapped : Ports) (g : Graph) : Type 0 where
   labels : List (Option ℕ)
   least : (c : ℕ) → IsLeastCover g pats (delay_cost timing cap) c (labels_in labels c)
   heights : ℕ → ℕ
   height : (c l : ℕ) → labels_in labels c ≡ Some l → IsHeight (choices_of g (map length timing.delays) pats) (delay_cost timing cap) (labels_in labels) c (heights c)
   gates : List ℕ
-  gate_classes : AreGateClasses g (delay_cost timing cap) pats (labels_in labels) heights (root_classes width net g ports.outputs) gates
+  gate_classes : AreGateClasses g (delay_cost timing cap) pats (labels_in labels) heights (form_classes o form g ports.outputs) gates
   extracted : IsExtracted g (delay_cost timing cap) pats (labels_in labels) heights gates n
   input_names : mapped.inputs ≡ ports.inputs
-  outputs : AllZip (λ p q. (p.name ≡ q.name) × IsNetOf g gates (root_class width net g p.net) q.net) ports.outputs mapped.outputs
-  names_are : names ≡ net_names ports.inputs (map (λ p. p.name) ports.outputs) (root_classes width net g ports.outputs) gates
+  outputs : AllZip (λ p q. (p.name ≡ q.name) × IsNetOf g gates (class_in o g (form p.net)) q.net) ports.outputs mapped.outputs
+  names_are : names ≡ net_names ports.inputs (map (λ p. p.name) ports.outputs) (form_classes o form g ports.outputs) gates
 
-module _ (width : ℕ) (net : Network) (ports : Ports) (pats : List Pattern) (timing : Timing) (cap : ℕ) where
-  over_graph : (mode : Mode) (n : Netlist) (names : List (List ℕ)) (mapped : Ports) → (is : IsNetlistOf mode width net ports pats timing cap n names mapped) → IsOver width net ports pats timing cap n names mapped is.graph
+module _ (inputs : ℕ) (o : Listing) (form : ℕ → Form) (ports : Ports) (pats : List Pattern) (timing : Timing) (cap : ℕ) where
+  over_graph : (mode : Mode) (n : Netlist) (names : List (List ℕ)) (mapped : Ports) → (is : IsNetlistOfForms mode inputs o form ports pats timing cap n names mapped) → IsOver o form ports pats timing cap n names mapped is.graph
   over_graph mode n names mapped is = record { labels = is.labels; least = is.least; heights = is.heights; height = is.height; gates = is.gates; gate_classes = is.gate_classes; extracted = is.extracted; input_names = is.input_names; outputs = is.outputs; names_are = is.names_are }
 
   module _ (g : Graph) (distinct : AreDistinctLeaves g) where
@@ -128,11 +130,11 @@ module _ (width : ℕ) (net : Network) (ports : Ports) (pats : List Pattern) (ti
     cost = delay_cost timing cap
 
     abbrev roots : List ℕ
-    roots = root_classes width net g ports.outputs
+    roots = form_classes o form g ports.outputs
 
     -- the netlist over labels, heights and gate classes that are given
     abbrev OutputsAt : List ℕ → List Port → List Port → Type 0
-    OutputsAt gates ps qs = AllZip (λ p q. (p.name ≡ q.name) × IsNetOf g gates (root_class width net g p.net) q.net) ps qs
+    OutputsAt gates ps qs = AllZip (λ p q. (p.name ≡ q.name) × IsNetOf g gates (class_in o g (form p.net)) q.net) ps qs
 
     outputs_once : (labels : Labels) (heights : ℕ → ℕ) (gates : List ℕ) → AreGateClasses g cost pats labels heights roots gates → (ps qs rs : List Port) → OutputsAt gates ps qs → OutputsAt gates ps rs → qs ≡ rs
     outputs_once labels heights gates are [] [] [] a b = refl
@@ -141,13 +143,13 @@ module _ (width : ℕ) (net : Network) (ports : Ports) (pats : List Pattern) (ti
     outputs_once labels heights gates are (p ∷ ps) [] rs a b = absurd a
     outputs_once labels heights gates are (p ∷ ps) (q ∷ qs) [] a b = absurd b
     outputs_once labels heights gates are (p ∷ ps) (q ∷ qs) (r ∷ rs) ((e, at), a) ((f, bt), b) =
-        let net_same = net_once g cost pats labels heights roots gates are distinct (root_class width net g p.net) q.net r.net at bt in
+        let net_same = net_once g cost pats labels heights roots gates are distinct (class_in o g (form p.net)) q.net r.net at bt in
         ap₂ (λ z zs. z ∷ zs) (ap₂ (λ x y. record { name = x; net = y }) (sym e ∙ f) net_same) (outputs_once labels heights gates are ps qs rs a b)
 
     ports_once : (labels : Labels) (heights : ℕ → ℕ) (gates : List ℕ) → AreGateClasses g cost pats labels heights roots gates → (mapped also : Ports) → mapped.inputs ≡ ports.inputs → also.inputs ≡ ports.inputs → OutputsAt gates ports.outputs mapped.outputs → OutputsAt gates ports.outputs also.outputs → mapped ≡ also
     ports_once labels heights gates are mapped also e f a b = ap₂ (λ x y. record { inputs = x; outputs = y }) (e ∙ sym f) (outputs_once labels heights gates are ports.outputs mapped.outputs also.outputs a b)
 
-    over_once : (n m : Netlist) (names others : List (List ℕ)) (mapped also : Ports) → IsOver width net ports pats timing cap n names mapped g → IsOver width net ports pats timing cap m others also g → (n ≡ m) × (names ≡ others) × (mapped ≡ also)
+    over_once : (n m : Netlist) (names others : List (List ℕ)) (mapped also : Ports) → IsOver o form ports pats timing cap n names mapped g → IsOver o form ports pats timing cap m others also g → (n ≡ m) × (names ≡ others) × (mapped ≡ also)
     over_once n m names others mapped also a b =
         let same : labels_in b.labels ≡ labels_in a.labels = fun_ext (λ c. least_cover_once g pats cost c (labels_in b.labels c) (labels_in a.labels c) (b.least c) (a.least c)) in
         let height = subst (λ (ls : Labels). (c l : ℕ) → ls c ≡ Some l → IsHeight (choices_of g (map length timing.delays) pats) cost ls c (b.heights c)) same b.height in
@@ -163,10 +165,15 @@ module _ (width : ℕ) (net : Network) (ports : Ports) (pats : List Pattern) (ti
           ports_once (labels_in a.labels) a.heights a.gates a.gate_classes mapped also a.input_names b.input_names a.outputs (subst (λ gs. OutputsAt gs ports.outputs also.outputs) gates b.outputs),
         )
 
--- the netlist that a network is mapped to is one, with its names and ports
+-- the netlist that forms are mapped to is one, with its names and ports
+pub form_netlist_once : (mode : Mode) (inputs : ℕ) (o : Listing) (form : ℕ → Form) (ports : Ports) (pats : List Pattern) (timing : Timing) (cap : ℕ) (n m : Netlist) (names others : List (List ℕ)) (mapped also : Ports) → IsSoundListing inputs o → IsNetlistOfForms mode inputs o form ports pats timing cap n names mapped → IsNetlistOfForms mode inputs o form ports pats timing cap m others also → (n ≡ m) × (names ≡ others) × (mapped ≡ also)
+form_netlist_once mode inputs o form ports pats timing cap n m names others mapped also sound a b =
+    let graph = graphs_once mode inputs o sound.listing b.graph a.graph b.is_graph a.is_graph in
+    over_once inputs o form ports pats timing cap a.graph (forms_leaves_differ mode inputs o a.graph sound a.is_graph) n m names others mapped also
+    (over_graph inputs o form ports pats timing cap mode n names mapped a)
+    (subst (λ g. IsOver o form ports pats timing cap m others also g) graph (over_graph inputs o form ports pats timing cap mode m others also b))
+
+-- so is that of a network
 pub netlist_once : (mode : Mode) (width : ℕ) (net : Network) (ports : Ports) (pats : List Pattern) (timing : Timing) (cap : ℕ) (n m : Netlist) (names others : List (List ℕ)) (mapped also : Ports) → 2 ≤ width → IsNetlistOf mode width net ports pats timing cap n names mapped → IsNetlistOf mode width net ports pats timing cap m others also → (n ≡ m) × (names ≡ others) × (mapped ≡ also)
-netlist_once mode width net ports pats timing cap n m names others mapped also wide a b =
-    let graph = graphs_once mode net.inputs (listing_of width net) (occurring_is_listing width wide net) b.graph a.graph b.is_graph a.is_graph in
-    over_once width net ports pats timing cap a.graph (distinct_leaves mode width net a.graph wide a.is_graph) n m names others mapped also
-    (over_graph width net ports pats timing cap mode n names mapped a)
-    (subst (λ g. IsOver width net ports pats timing cap m others also g) graph (over_graph width net ports pats timing cap mode m others also b))
+netlist_once mode width net ports pats timing cap n m names others mapped also wide =
+    form_netlist_once mode net.inputs (listing_of width net) (sop_at (signals_of width net)) ports pats timing cap n m names others mapped also (network_is_sound width wide net)

@@ -8,17 +8,18 @@ use Rattle.lw_laws.specs.NumberedForms.{family_of}
 use Rattle.lw_laws.specs.NumberedValues.{base_value, AreNumberedValues}
 use Rattle.lw_laws.specs.Forms.{Form, items, complement, form_value}
 use Rattle.lw_laws.specs.Forms.Form.{var_form, true_form, not_form, and_form}
-use Rattle.lw_laws.specs.Decompositions.{Listing, Occurs, HasTree, base_form}
+use Rattle.lw_laws.specs.Decompositions.{Occurs, HasTree}
 use Rattle.lw_laws.specs.Numbering.{number, numbered_base, numbered}
 use Rattle.lw_laws.specs.SignalValues.{form_of, number_value, SignalsAgree}
 use Rattle.lw_laws.specs.Modes.{Mode}
-use Rattle.lw_laws.specs.Listings.{IsListing, sign_of}
+use Rattle.lw_laws.specs.Listings.{Listing, base_form, IsListed, IsListing, sign_of}
 use Rattle.lw_laws.proofs.Flips.{half-flip, odd-flip}
 use Rattle.lw_laws.proofs.Truths.{Derives-value}
 use Rattle.lw_laws.proofs.NumberedValues.{form_values_fit}
 use Rattle.lw_laws.proofs.FormTruth.{complement_value, items_value}
 use Rattle.lw_laws.proofs.Numbers.{slice_get_map_back, occurs_number, sign_two}
-use Rattle.lw_laws.proofs.Agreement.{signal_back, operands_occur, same_trees}
+use Rattle.lw_laws.proofs.Agreement.{signal_back, same_trees}
+use Rattle.lw_laws.proofs.Occurrences.{operands_occur, occurring_listed}
 use Rattle.lw_laws.proofs.Words.{IsNumber}
 
 index_at : {X : Type 0} (xs : List X) (i : ℕ) (x d : X) → slice_get xs i ≡ Some x → slice_index_or xs i d ≡ x
@@ -53,10 +54,10 @@ module _ (inputs : ℕ) (o : Listing) (is : IsListing o) (x : ℕ → Bool) wher
   form_of_number : (f : Form) (n : ℕ) → IsNumber o.bases f n → form_of o.bases n ≡ f
   form_of_number f n (b, e, s) = let one = sign_two f in form_by_sign f n b e (is.signs b (base_form f) e) (omega arith) (omega arith)
 
-  pub value_of_number : (f : Form) → Occurs o f → number_value o x (number o.bases f) ≡ form_value x f
+  pub value_of_number : (f : Form) → IsListed o f → number_value o x (number o.bases f) ≡ form_value x f
   value_of_number f occ = ap (form_value x) (form_of_number f (number o.bases f) (occurs_number o is f occ))
 
-  values_of_numbers : (fs : List Form) → AllByRecursion (Occurs o) fs → list_all (number_value o x) (map (number o.bases) fs) ≡ list_all (form_value x) fs
+  values_of_numbers : (fs : List Form) → AllByRecursion (IsListed o) fs → list_all (number_value o x) (map (number o.bases) fs) ≡ list_all (form_value x) fs
   values_of_numbers [] a = refl
   values_of_numbers (f ∷ fs) (p, a) = ap₂ (λ b c. b && c) (value_of_number f p) (values_of_numbers fs a)
 
@@ -66,7 +67,7 @@ module _ (inputs : ℕ) (o : Listing) (is : IsListing o) (x : ℕ → Bool) wher
   base_has_value b (not_form f) e = let z = is.signs b (not_form f) e in absurd (omega arith)
   base_has_value b (and_form fs) e =
       ap (form_value x) (form_of_number (and_form fs) (2 * b) (b, e, sym (add-zero (2 * b))))
-      ∙ (items_value x fs ∙ sym (values_of_numbers (items fs) (operands_occur inputs o is b fs e)))
+      ∙ (items_value x fs ∙ sym (values_of_numbers (items fs) (operands_occur o is b fs e)))
 
   pub numbers_have_values : SignalsAgree o.signals x → AreNumberedValues (numbered inputs o) x (number_value o x)
   numbers_have_values agree = record {
@@ -80,8 +81,12 @@ module _ (inputs : ℕ) (o : Listing) (is : IsListing o) (x : ℕ → Bool) wher
         sym (ap (number_value o x) r.sop_is) ∙ (value_of_number r.signal.sop occ.0 ∙ (agree r.at r.signal r.listed ∙ (sym (value_of_number r.signal.fac occ.1) ∙ ap (number_value o x) r.fac_is)));
   }
 
-  -- each tree of an occurring form has the form's value
-  pub trees_have_value : SignalsAgree o.signals x → (mode : Mode) (f : Form) (t : Tree) → Occurs o f → HasTree mode o f t → tree_value x t ≡ form_value x f
+  -- each tree of a listed form has the form's value
+  pub trees_have_value : SignalsAgree o.signals x → (mode : Mode) (f : Form) (t : Tree) → IsListed o f → HasTree mode o.width o.signals f t → tree_value x t ≡ form_value x f
   trees_have_value agree mode f t occ d =
       Derives-value (family_of mode (numbered inputs o)) x (number_value o x) (form_values_fit (numbered inputs o) x (number_value o x) (numbers_have_values agree) mode) ((same_trees inputs o is mode f t occ).0 d)
       ∙ value_of_number f occ
+
+  -- and so does each tree of an occurring form
+  pub occurring_have_value : SignalsAgree o.signals x → (mode : Mode) (f : Form) (t : Tree) → Occurs o.signals f → HasTree mode o.width o.signals f t → tree_value x t ≡ form_value x f
+  occurring_have_value agree mode f t occ d = trees_have_value agree mode f t (occurring_listed o is occ) d

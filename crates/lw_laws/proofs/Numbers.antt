@@ -1,13 +1,12 @@
 -- Numbers of occurring forms.
-use Rattle.std.proofs.Common.{ℕ, ◌++◌, zero, suc, ◌+◌, ◌*◌, ◌-◌, ◌≤◌, ◌≡◌, Bool, true, false, cond, List, [], ◌∷◌, map, Some, slice_get, refl, ap, ap₂, sym, ◌∙◌, subst, arith}
+use Rattle.std.proofs.Common.{ℕ, zero, suc, ◌+◌, ◌*◌, ◌-◌, ◌≤◌, ◌≡◌, Bool, true, false, cond, List, [], ◌∷◌, map, Some, slice_get, refl, ap, ap₂, sym, ◌∙◌, subst, arith}
 use Rattle.std.specs.List.{AllByRecursion}
 use Rattle.std.proofs.lemmas.Option.{same_Some}
 use Rattle.lw_laws.specs.Flip.{flip}
 use Rattle.lw_laws.specs.Forms.{Form, same_form, complement}
 use Rattle.lw_laws.specs.Forms.Form.{var_form, true_form, not_form, and_form}
-use Rattle.lw_laws.specs.Decompositions.{Listing, IsListedAt, Occurs, base_form}
 use Rattle.lw_laws.specs.Numbering.{place, number}
-use Rattle.lw_laws.specs.Listings.{IsListing, sign_of}
+use Rattle.lw_laws.specs.Listings.{Listing, base_form, IsListedAt, IsListed, IsListing, sign_of}
 use Rattle.lw_laws.proofs.Flips.{flip_even, flip_odd}
 use Rattle.lw_laws.proofs.Equality.{same_form_refl, same_form_eq}
 use Rattle.lw_laws.proofs.Words.{IsNumber}
@@ -90,7 +89,7 @@ module _ (o : Listing) (is : IsListing o) where
   base_sign : (f : Form) (b : ℕ) → IsListedAt o.bases b f → sign_of (base_form f) ≡ 0
   base_sign f b e = is.signs b (base_form f) e
 
-  pub occurs_sign : (f : Form) → Occurs o f → sign_of (base_form f) ≡ 0
+  pub occurs_sign : (f : Form) → IsListed o f → sign_of (base_form f) ≡ 0
   occurs_sign f (b, e) = base_sign f b e
 
   pub number_once : (f : Form) (n m : ℕ) → IsNumber o.bases f n → IsNumber o.bases f m → n ≡ m
@@ -108,7 +107,7 @@ module _ (o : Listing) (is : IsListing o) where
       let bases : base_form f ≡ base_form h = same_Some (base_form f) (base_form h) (sym d ∙ (ap (slice_get o.bases) same ∙ e)) in
       signs_decide f h bases signs (base_sign f a d)
 
-  pub occurs_complement : (f : Form) → Occurs o f → Occurs o (complement f)
+  pub occurs_complement : (f : Form) → IsListed o f → IsListed o (complement f)
   occurs_complement f (b, e) = (b, e ∙ ap Some (sym (complement_base f (base_sign f b e))))
 
   pub number_complement : (f : Form) (n : ℕ) → IsNumber o.bases f n → IsNumber o.bases (complement f) (flip n)
@@ -121,14 +120,14 @@ module _ (o : Listing) (is : IsListing o) where
       turned (suc zero) le z s = let e = flip_odd n b (omega arith) in omega arith
       turned (suc (suc k)) le z s = absurd (omega arith)
 
-  pub occurs_number : (f : Form) → Occurs o f → IsNumber o.bases f (number o.bases f)
+  pub occurs_number : (f : Form) → IsListed o f → IsNumber o.bases f (number o.bases f)
   occurs_number f (b, e) = number_is o.bases f b e
 
-  pub number_occurs : (f : Form) (n : ℕ) → IsNumber o.bases f n → Occurs o f
+  pub number_occurs : (f : Form) (n : ℕ) → IsNumber o.bases f n → IsListed o f
   number_occurs f n (b, e, s) = (b, e)
 
   -- the list of numbers names the list of forms
-  pub numbers_injective : (fs hs : List Form) → AllByRecursion (Occurs o) fs → AllByRecursion (Occurs o) hs → map (number o.bases) fs ≡ map (number o.bases) hs → fs ≡ hs
+  pub numbers_injective : (fs hs : List Form) → AllByRecursion (IsListed o) fs → AllByRecursion (IsListed o) hs → map (number o.bases) fs ≡ map (number o.bases) hs → fs ≡ hs
   numbers_injective [] [] a b e = refl
   numbers_injective [] (h ∷ hs) a b e = cc
   numbers_injective (f ∷ fs) [] a b e = cc

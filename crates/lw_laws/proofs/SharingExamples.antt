@@ -4,8 +4,10 @@ use Rattle.lw_laws.specs.Modes.Mode.{plain}
 use Rattle.lw_laws.specs.Trees.{Tree, leaf, inv, nand}
 use Rattle.lw_laws.specs.Networks.{Node, Network}
 use Rattle.lw_laws.specs.Forms.{Form, and_of}
+use Rattle.lw_laws.specs.Signals.{signals_of}
 use Rattle.lw_laws.specs.Forms.Form.{var_form}
-use Rattle.lw_laws.specs.Decompositions.{listing_of, base_form, Occurs, HasTree}
+use Rattle.lw_laws.specs.Decompositions.{Occurs, HasTree}
+use Rattle.lw_laws.specs.Listings.{base_form}
 use Rattle.lw_laws.specs.Decompositions.AreParts.{parts_none, parts_left, parts_right}
 use Rattle.lw_laws.specs.Decompositions.HasTree.{input_law, inverter_law, split_law, sharing_law}
 use Rattle.lw_laws.specs.Occurring.{occurring_forms}
@@ -26,7 +28,7 @@ use Rattle.lw_laws.specs.Headline.{HasLeastArrival}
 use Rattle.lw_laws.proofs.PatternExamples.{exprs}
 use Rattle.lw_laws.proofs.EncodingTests.{Two, PassesTests}
 use Rattle.lw_laws.proofs.PotentialTests.{PassesLabelTests}
-use Rattle.lw_laws.proofs.MappingTests.{labelled_least, tested}
+use Rattle.lw_laws.proofs.MappingTests.{labelled_least, occurs_at, tested}
 
 abbrev y : Option Bool
 y = Some true
@@ -98,10 +100,10 @@ abbrev and_tree : Tree → Tree → Tree
 and_tree t u = inv (nand t u)
 
 -- where forms are listed
-at_a : (b : ℕ) (f : Form) → slice_get (occurring_forms 6 alone) b ≡ Some (base_form f) → Occurs (listing_of 6 alone) f
-at_a b f e = (b, e)
+at_a : (b : ℕ) (f : Form) → slice_get (occurring_forms 6 alone) b ≡ Some (base_form f) → Occurs (signals_of 6 alone) f
+at_a b f e = occurs_at alone f (b, e)
 
-tree_a : HasTree plain (listing_of 6 alone) f_form (and_tree (and_tree (leaf 0) (leaf 1)) (and_tree (leaf 2) (leaf 3)))
+tree_a : HasTree plain 6 (signals_of 6 alone) f_form (and_tree (and_tree (leaf 0) (leaf 1)) (and_tree (leaf 2) (leaf 3)))
 tree_a =
     inverter_law (at_a 7 f_form refl) (split_law {ls = ab_form ∷ []} {rs = cd_form ∷ []} (at_a 7 f_form refl) (parts_left (parts_right parts_none)) (lit≤ tt) (lit≤ tt)
     (inverter_law (at_a 5 ab_form refl) (split_law {ls = a_form ∷ []} {rs = b_form ∷ []} (at_a 5 ab_form refl) (parts_left (parts_right parts_none)) (lit≤ tt) (lit≤ tt) input_law input_law))
@@ -168,29 +170,29 @@ balanced = and_tree (and_tree (leaf 0) (leaf 1)) (and_tree (leaf 2) (leaf 3))
 abbrev chain : Tree
 chain = and_tree (and_tree (and_tree (leaf 0) (leaf 1)) (leaf 2)) (leaf 3)
 
-at_s : (b : ℕ) (f : Form) → slice_get (occurring_forms 6 shared) b ≡ Some (base_form f) → Occurs (listing_of 6 shared) f
-at_s b f e = (b, e)
+at_s : (b : ℕ) (f : Form) → slice_get (occurring_forms 6 shared) b ≡ Some (base_form f) → Occurs (signals_of 6 shared) f
+at_s b f e = occurs_at shared f (b, e)
 
-ab_tree : HasTree plain (listing_of 6 shared) ab_form (and_tree (leaf 0) (leaf 1))
+ab_tree : HasTree plain 6 (signals_of 6 shared) ab_form (and_tree (leaf 0) (leaf 1))
 ab_tree = inverter_law (at_s 5 ab_form refl) (split_law {ls = a_form ∷ []} {rs = b_form ∷ []} (at_s 5 ab_form refl) (parts_left (parts_right parts_none)) (lit≤ tt) (lit≤ tt) input_law input_law)
 
-cd_tree : HasTree plain (listing_of 6 shared) cd_form (and_tree (leaf 2) (leaf 3))
+cd_tree : HasTree plain 6 (signals_of 6 shared) cd_form (and_tree (leaf 2) (leaf 3))
 cd_tree = inverter_law (at_s 6 cd_form refl) (split_law {ls = c_form ∷ []} {rs = d_form ∷ []} (at_s 6 cd_form refl) (parts_left (parts_right parts_none)) (lit≤ tt) (lit≤ tt) input_law input_law)
 
-f_balanced : HasTree plain (listing_of 6 shared) f_form balanced
+f_balanced : HasTree plain 6 (signals_of 6 shared) f_form balanced
 f_balanced = inverter_law (at_s 16 f_form refl) (split_law {ls = ab_form ∷ []} {rs = cd_form ∷ []} (at_s 16 f_form refl) (parts_left (parts_right parts_none)) (lit≤ tt) (lit≤ tt) ab_tree cd_tree)
 
-g_balanced : HasTree plain (listing_of 6 shared) g_form balanced
+g_balanced : HasTree plain 6 (signals_of 6 shared) g_form balanced
 g_balanced =
     inverter_law (at_s 15 g_form refl) (split_law {ls = a_form ∷ b_form ∷ []} {rs = c_form ∷ d_form ∷ []} (at_s 15 g_form refl) (parts_left (parts_left (parts_right (parts_right parts_none)))) (lit≤ tt) (lit≤ tt) ab_tree cd_tree)
 
-g_chain : HasTree plain (listing_of 6 shared) g_form chain
+g_chain : HasTree plain 6 (signals_of 6 shared) g_form chain
 g_chain =
     inverter_law (at_s 15 g_form refl) (split_law {ls = a_form ∷ b_form ∷ c_form ∷ []} {rs = d_form ∷ []} (at_s 15 g_form refl) (parts_left (parts_left (parts_left (parts_right parts_none)))) (lit≤ tt) (lit≤ tt)
     (inverter_law (at_s 9 abc_form refl) (split_law {ls = a_form ∷ b_form ∷ []} {rs = c_form ∷ []} (at_s 9 abc_form refl) (parts_left (parts_left (parts_right parts_none))) (lit≤ tt) (lit≤ tt) ab_tree input_law)) input_law)
 
 -- f has the chain, since f and g have the balanced tree in common
-f_chain : HasTree plain (listing_of 6 shared) f_form chain
+f_chain : HasTree plain 6 (signals_of 6 shared) f_form chain
 f_chain = sharing_law (at_s 16 f_form refl) (at_s 15 g_form refl) f_balanced g_balanced g_chain
 
 -- with g it arrives at 7

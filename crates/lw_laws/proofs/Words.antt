@@ -11,12 +11,11 @@ use Rattle.lw_laws.specs.NumberedForms.{NumberedForms, family_of, AreNumberedFor
 use Rattle.lw_laws.specs.Choices.{Choices}
 use Rattle.lw_laws.specs.Rounds.{labels_in}
 use Rattle.lw_laws.specs.Forms.{Form}
-use Rattle.lw_laws.specs.Decompositions.{IsListedAt}
 use Rattle.lw_laws.specs.Encodings.{Encodes}
 use Rattle.lw_laws.specs.Delays.{delay_cost}
 use Rattle.lw_laws.specs.Netlists.{Netlist, Gate, IsGate, AreOrdered, CellTruth}
 use Rattle.lw_laws.specs.Forms.Form.{and_form}
-use Rattle.lw_laws.specs.Listings.{sign_of}
+use Rattle.lw_laws.specs.Listings.{IsListedAt, sign_of}
 use Rattle.lw_laws.specs.Mapped.{IsMapped, IsPotentialOf}
 use Rattle.lw_laws.specs.Networks.{Node, Network, node_value}
 

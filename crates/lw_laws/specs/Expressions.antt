@@ -1,5 +1,5 @@
 -- Functions of cells: expressions over the cell's pins.
-use Rattle.std.specs.Prelude.{ℕ, Bool, true, false, not, ◌&&◌, ◌||◌, ◌≡◌, ◌⊎◌}
+use Rattle.std.specs.Prelude.{ℕ, Bool, true, false, not, ◌&&◌, ◌||◌, ◌≡◌, ◌⊎◌, List, [], ◌∷◌}
 
 -- a constant, a pin, NOT, or AND or OR of some operands
 mutual
@@ -13,6 +13,16 @@ mutual
   pub data Exprs : Type 0 where
     no_exprs : Exprs
     more_exprs : Expr → Exprs → Exprs
+
+-- the operands of a list
+abbrev pub exprs_of : List Expr → Exprs
+exprs_of [] = no_exprs
+exprs_of (e ∷ es) = more_exprs e (exprs_of es)
+
+-- the first of some expressions
+abbrev pub first_expr : List Expr → Expr
+first_expr [] = expr_const false
+first_expr (e ∷ es) = e
 
 -- the value of an expression, given those of the pins
 abbrev mutual

@@ -13,7 +13,8 @@ use Rattle.lw_laws.specs.Matches.{choices_of}
 use Rattle.lw_laws.specs.Rounds.{labels_in, IsBoundedAt, AreSound}
 use Rattle.lw_laws.specs.HeightRounds.{IsKnown, AreHeightsUpTo}
 use Rattle.lw_laws.specs.Forms.{Form, form_value}
-use Rattle.lw_laws.specs.Decompositions.{Listing, Occurs, HasTree}
+use Rattle.lw_laws.specs.Decompositions.{Occurs, HasTree}
+use Rattle.lw_laws.specs.Listings.{Listing, IsListed}
 use Rattle.lw_laws.specs.Numbering.{number}
 
 -- a tree unfolds at one class at most
@@ -38,20 +39,24 @@ BoundsCovers g pats cost labels =
 -- the trees of each form's class are those that the laws give the form
 abbrev pub HasTheTrees : Mode → Listing → Graph → Type 0
 HasTheTrees mode o g =
-    (f : Form) (t : Tree) → Occurs o f → Unfolds g t (class_of g (number o.bases f)) ↔ HasTree mode o f t
+    (f : Form) (t : Tree) → IsListed o f → Unfolds g t (class_of g (number o.bases f)) ↔ HasTree mode o.width o.signals f t
 
--- each tree of a form has the form's truth value
+-- a form is listed, as it is or by its complement, exactly where it occurs
+abbrev pub ListsTheOccurring : Listing → Type 0
+ListsTheOccurring o = (f : Form) → IsListed o f ↔ Occurs o.signals f
+
+-- each tree of an occurring form has the form's truth value
 abbrev pub TreesHaveValue : Mode → Listing → (ℕ → Bool) → Type 0
-TreesHaveValue mode o x = (f : Form) (t : Tree) → Occurs o f → HasTree mode o f t → tree_value x t ≡ form_value x f
+TreesHaveValue mode o x = (f : Form) (t : Tree) → Occurs o.signals f → HasTree mode o.width o.signals f t → tree_value x t ≡ form_value x f
 
--- two occurring forms are of one class exactly where they have a common tree
+-- two listed forms are of one class exactly where they have a common tree
 abbrev pub ClassesAreSharedTrees : Mode → Listing → Graph → Type 0
 ClassesAreSharedTrees mode o g =
-    (f h : Form) → Occurs o f → Occurs o h → (class_of g (number o.bases f) ≡ class_of g (number o.bases h)) ↔ ((t : Tree) × HasTree mode o f t × HasTree mode o h t)
+    (f h : Form) → IsListed o f → IsListed o h → (class_of g (number o.bases f) ≡ class_of g (number o.bases h)) ↔ ((t : Tree) × HasTree mode o.width o.signals f t × HasTree mode o.width o.signals h t)
 
 -- each tree of a form's class has the form's truth value
 abbrev pub ClassesHaveValue : Listing → Graph → (ℕ → Bool) → Type 0
-ClassesHaveValue o g x = (f : Form) (t : Tree) → Occurs o f → Unfolds g t (class_of g (number o.bases f)) → tree_value x t ≡ form_value x f
+ClassesHaveValue o g x = (f : Form) (t : Tree) → IsListed o f → Unfolds g t (class_of g (number o.bases f)) → tree_value x t ≡ form_value x f
 
 -- what covers are sought for: a graph with each pair in one class at most, patterns of cells, and a cost of these cells
 pub record IsCoverProblem (g : Graph) (pats : List Pattern) (cost : Cost) : Type 0 where

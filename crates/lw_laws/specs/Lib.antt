@@ -3,7 +3,6 @@ pub mod Trees
 pub mod Networks
 pub mod Forms
 pub mod Signals
-pub mod Occurring
 pub mod Modes
 pub mod Decompositions
 pub mod Expressions
@@ -12,6 +11,8 @@ pub mod Covers
 pub mod Netlists
 pub mod Headline
 -- How it is found.
+pub mod Occurring
+pub mod Listings
 pub mod Graphs
 pub mod Classes
 pub mod Matches
@@ -29,7 +30,6 @@ pub mod Families
 pub mod Flip
 pub mod HeightRounds
 pub mod Laws
-pub mod Listings
 pub mod Mapped
 pub mod Marks
 pub mod NumberedForms

@@ -1,10 +1,34 @@
--- What the list of occurring forms of a network keeps.
+-- Lists of occurring forms, and what that of a network keeps.
 use Rattle.std.specs.Prelude.{ℕ, ◌<◌, ◌≤◌, ◌≡◌, false, List, [], ◌∷◌, length, Some, slice_get}
 use Rattle.std.specs.List.{AllByRecursion}
 use Rattle.lw_laws.specs.Forms.{Form, FormList, items, and_of, same_form, is_among, has_clash}
 use Rattle.lw_laws.specs.Forms.Form.{var_form, true_form, not_form, and_form}
-use Rattle.lw_laws.specs.Signals.{Signal}
-use Rattle.lw_laws.specs.Decompositions.{Listing, IsListedAt, Occurs}
+use Rattle.lw_laws.specs.Networks.{Network}
+use Rattle.lw_laws.specs.Signals.{Signal, signals_of}
+use Rattle.lw_laws.specs.Occurring.{occurring_forms}
+use Rattle.lw_laws.specs.Decompositions.{Occurs}
+
+-- the width, the list of occurring base forms, and the pairs of linked forms: those of a network are the two forms of each signal
+pub record Listing : Type 0 where
+  pub width : ℕ
+  pub bases : List Form
+  pub signals : List Signal
+
+abbrev pub listing_of : ℕ → Network → Listing
+listing_of width net = record { width = width; bases = occurring_forms width net; signals = signals_of width net }
+
+abbrev pub base_form : Form → Form
+base_form (not_form f) = f
+base_form (var_form i) = var_form i
+base_form true_form = true_form
+base_form (and_form fs) = and_form fs
+
+abbrev pub IsListedAt : List Form → ℕ → Form → Type 0
+IsListedAt bases b f = slice_get bases b ≡ Some (base_form f)
+
+-- the base form of the form is listed
+abbrev pub IsListed : Listing → Form → Type 0
+IsListed o f = (b : ℕ) × IsListedAt o.bases b f
 
 -- a sub-list, in which order is kept
 pub data IsSub : List Form → List Form → Type 0 where
@@ -40,8 +64,11 @@ sign_of (var_form i) = 0
 sign_of true_form = 0
 sign_of (and_form fs) = 0
 
+-- each listed form is a base form, listed once, which occurs; true is listed, and so are the linked forms
 pub record IsListing (o : Listing) : Type 0 where
   pub signs : (b : ℕ) (f : Form) → slice_get o.bases b ≡ Some f → sign_of f ≡ 0
   pub once : (a b : ℕ) (f : Form) → slice_get o.bases a ≡ Some f → slice_get o.bases b ≡ Some f → a ≡ b
   pub ands : (b : ℕ) (fs : FormList) → slice_get o.bases b ≡ Some (and_form fs) → IsListedAndForm o.width o.bases b (items fs)
-  pub signals : (s : ℕ) (x : Signal) → slice_get o.signals s ≡ Some x → Occurs o x.sop × Occurs o x.fac
+  pub signals : (s : ℕ) (x : Signal) → slice_get o.signals s ≡ Some x → IsListed o x.sop × IsListed o x.fac
+  pub top : IsListed o true_form
+  pub only : (b : ℕ) (f : Form) → slice_get o.bases b ≡ Some f → Occurs o.signals f

@@ -14,8 +14,10 @@ use Rattle.lw_laws.specs.Rounds.{labels_in}
 use Rattle.lw_laws.specs.Delays.{delay_cost}
 use Rattle.lw_laws.specs.Netlists.{Netlist, Gate, IsGate, AreOrdered, CellTruth, AreNetlistValues, AreArrivals, StandsFor}
 use Rattle.lw_laws.specs.Networks.{Network}
-use Rattle.lw_laws.specs.Decompositions.{listing_of}
+use Rattle.lw_laws.specs.Listings.{Listing, listing_of}
+use Rattle.lw_laws.specs.Classes.{class_in}
 use Rattle.lw_laws.specs.Signals.{sop_at, signals_of}
+use Rattle.lw_laws.specs.Forms.{Form}
 use Rattle.lw_laws.specs.Numbering.{number, numbered}
 use Rattle.lw_laws.specs.Occurring.{occurring_forms}
 use Rattle.lw_laws.specs.Headline.{Ports}
@@ -37,26 +39,45 @@ forms_of width net = numbered net.inputs (listing_of width net)
 abbrev pub root_class : ℕ → Network → Graph → ℕ → ℕ
 root_class width net g s = class_of g (number (occurring_forms width net) (sop_at (signals_of width net) s))
 
--- The graph encodes the network's forms, and the labels are a potential of its matches.
-pub record IsLabelledOver (mode : Mode) (width : ℕ) (net : Network) (g : Graph) (pats : List Pattern) (timing : Timing) (cap : ℕ) (labels : List (Option ℕ)) : Type 0 where
-  pub wide : 2 ≤ width
-  pub encodes : Encodes (family_of mode (forms_of width net)) g
+-- The graph encodes the listed forms, and the labels are a potential of its matches.
+pub record IsLabelledOverForms (mode : Mode) (inputs : ℕ) (o : Listing) (g : Graph) (pats : List Pattern) (timing : Timing) (cap : ℕ) (labels : List (Option ℕ)) : Type 0 where
+  pub encodes : Encodes (family_of mode (numbered inputs o)) g
   pub few : length g.leaves < 2 ^ 32
   pub patterns : ArePatterns (map length timing.delays) pats
   pub potential : IsPotentialOf g pats (delay_cost timing cap) labels
 
 -- The netlist's gates are matches over such a graph.
-pub record IsMappedOver (mode : Mode) (width : ℕ) (net : Network) (g : Graph) (pats : List Pattern) (timing : Timing) (cap : ℕ) (labels : List (Option ℕ)) (n : Netlist) (class : ℕ → ℕ) : Type 0 where
-  pub labelled : IsLabelledOver mode width net g pats timing cap labels
+pub record IsMappedOverForms (mode : Mode) (inputs : ℕ) (o : Listing) (g : Graph) (pats : List Pattern) (timing : Timing) (cap : ℕ) (labels : List (Option ℕ)) (n : Netlist) (class : ℕ → ℕ) : Type 0 where
+  pub labelled : IsLabelledOverForms mode inputs o g pats timing cap labels
   pub ordered : AreOrdered n
   pub mapped : IsMapped g (map length timing.delays) pats n class
+
+-- Net k of the netlist is at the class of the form, and its arrival is the class's label.
+pub record IsRootedAtForm (o : Listing) (g : Graph) (labels : List (Option ℕ)) (n : Netlist) (class : ℕ → ℕ) (arrivals : List ℕ) (f : Form) (k : ℕ) : Type 0 where
+  pub of_netlist : k < n.inputs + length n.gates
+  pub at_class : class k ≡ class_in o g f
+  pub at_label : labels_in labels (class k) ≡ Some (slice_index_or arrivals k 0)
+
+-- The netlist has these ports over so many inputs, and each output's net is rooted at the form of the network's net.
+pub record AreRootedAtForms (inputs : ℕ) (o : Listing) (form : ℕ → Form) (g : Graph) (labels : List (Option ℕ)) (n : Netlist) (class : ℕ → ℕ) (arrivals : List ℕ) (ports mapped : Ports) : Type 0 where
+  pub inputs_are : n.inputs ≡ inputs
+  pub input_names : mapped.inputs ≡ ports.inputs
+  pub outputs : AllZip (λ p q. (p.name ≡ q.name) × IsRootedAtForm o g labels n class arrivals (form p.net) q.net) ports.outputs mapped.outputs
+
+-- The graph encodes the network's forms, and the labels are a potential of its matches.
+pub record IsLabelledOver (mode : Mode) (width : ℕ) (net : Network) (g : Graph) (pats : List Pattern) (timing : Timing) (cap : ℕ) (labels : List (Option ℕ)) : Type 0 where
+  pub wide : 2 ≤ width
+  pub over : IsLabelledOverForms mode net.inputs (listing_of width net) g pats timing cap labels
+
+-- The netlist's gates are matches over such a graph.
+pub record IsMappedOver (mode : Mode) (width : ℕ) (net : Network) (g : Graph) (pats : List Pattern) (timing : Timing) (cap : ℕ) (labels : List (Option ℕ)) (n : Netlist) (class : ℕ → ℕ) : Type 0 where
+  pub wide : 2 ≤ width
+  pub over : IsMappedOverForms mode net.inputs (listing_of width net) g pats timing cap labels n class
 
 -- Net k of the netlist is at the class of net s of the network, and its arrival is the class's label.
 pub record IsRootedAt (width : ℕ) (net : Network) (g : Graph) (labels : List (Option ℕ)) (n : Netlist) (class : ℕ → ℕ) (arrivals : List ℕ) (s k : ℕ) : Type 0 where
   pub of_network : s < net.inputs + length net.nodes
-  pub of_netlist : k < n.inputs + length n.gates
-  pub at_class : class k ≡ root_class width net g s
-  pub at_label : labels_in labels (class k) ≡ Some (slice_index_or arrivals k 0)
+  pub rooted : IsRootedAtForm (listing_of width net) g labels n class arrivals (sop_at (signals_of width net) s) k
 
 -- The netlist has the network's ports, and each output's net is rooted at the network's net.
 pub record AreRooted (width : ℕ) (net : Network) (g : Graph) (labels : List (Option ℕ)) (n : Netlist) (class : ℕ → ℕ) (arrivals : List ℕ) (ports mapped : Ports) : Type 0 where

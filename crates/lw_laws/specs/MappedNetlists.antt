@@ -3,10 +3,12 @@ use Rattle.std.specs.Prelude.{ℕ, ◌+◌, ◌<◌, ◌≡◌, List, length, ma
 use Rattle.std.specs.List.{AllZip, AllByRecursion}
 use Rattle.lw_laws.specs.Modes.{Mode}
 use Rattle.lw_laws.specs.Networks.{Network}
-use Rattle.lw_laws.specs.Decompositions.{listing_of}
+use Rattle.lw_laws.specs.Forms.{Form}
+use Rattle.lw_laws.specs.Signals.{sop_at, signals_of}
+use Rattle.lw_laws.specs.Listings.{Listing, listing_of}
 use Rattle.lw_laws.specs.Covers.{Timing, Pattern}
 use Rattle.lw_laws.specs.Graphs.{Graph}
-use Rattle.lw_laws.specs.Classes.{IsGraphOf}
+use Rattle.lw_laws.specs.Classes.{class_in, IsGraphOf}
 use Rattle.lw_laws.specs.Matches.{choices_of, IsLeastCover}
 use Rattle.lw_laws.specs.Choices.{IsHeight}
 use Rattle.lw_laws.specs.Rounds.{labels_in}
@@ -16,6 +18,7 @@ use Rattle.lw_laws.specs.Extracts.{AreGateClasses, IsNetOf, IsExtracted}
 use Rattle.lw_laws.specs.Mapped.{root_class}
 use Rattle.lw_laws.specs.Names.{AreDifferent, net_names}
 use Rattle.lw_laws.specs.Headline.{Port, Ports}
+pub use Rattle.lw_laws.specs.Headline.{AreNetNames}
 
 -- each output's net is one of the network's
 abbrev pub HasPorts : Network → Ports → Type 0
@@ -29,29 +32,30 @@ pub record ArePortNames (net : Network) (ports : Ports) : Type 0 where
   pub outputs_differ : AreDifferent (map (λ p. p.name) ports.outputs)
   pub tied : (i k : ℕ) (p : Port) → slice_get ports.outputs k ≡ Some p → slice_get ports.inputs i ≡ Some p.name → p.net ≡ i
 
--- There is a name for each net, the nets' names differ and the outputs' do, and a net with an output's name is that output's.
-pub record AreNetNames (n : Netlist) (names : List (List ℕ)) (mapped : Ports) : Type 0 where
-  pub one_each : length names ≡ n.inputs + length n.gates
-  pub nets_differ : AreDifferent names
-  pub outputs_differ : AreDifferent (map (λ p. p.name) mapped.outputs)
-  pub owned : (j k : ℕ) (p : Port) → slice_get mapped.outputs k ≡ Some p → slice_get names j ≡ Some p.name → j ≡ p.net
-
 -- the classes of the outputs' sums of products
 abbrev pub root_classes : ℕ → Network → Graph → List Port → List ℕ
 root_classes width net g outputs = map (λ p. root_class width net g p.net) outputs
 
--- The netlist of the chosen matches: the graph of the network's forms, the least time and the height of each class, the
+-- the classes of the outputs' forms
+abbrev pub form_classes : Listing → (ℕ → Form) → Graph → List Port → List ℕ
+form_classes o form g outputs = map (λ p. class_in o g (form p.net)) outputs
+
+-- The netlist of the chosen matches: the graph of the listed forms, the least time and the height of each class, the
 -- classes that are needed for the outputs, by height and then class, and a gate for each.
-pub record IsNetlistOf (mode : Mode) (width : ℕ) (net : Network) (ports : Ports) (pats : List Pattern) (timing : Timing) (cap : ℕ) (n : Netlist) (names : List (List ℕ)) (mapped : Ports) : Type 0 where
+pub record IsNetlistOfForms (mode : Mode) (inputs : ℕ) (o : Listing) (form : ℕ → Form) (ports : Ports) (pats : List Pattern) (timing : Timing) (cap : ℕ) (n : Netlist) (names : List (List ℕ)) (mapped : Ports) : Type 0 where
   pub graph : Graph
-  pub is_graph : IsGraphOf mode net.inputs (listing_of width net) graph
+  pub is_graph : IsGraphOf mode inputs o graph
   pub labels : List (Option ℕ)
   pub least : (c : ℕ) → IsLeastCover graph pats (delay_cost timing cap) c (labels_in labels c)
   pub heights : ℕ → ℕ
   pub height : (c l : ℕ) → labels_in labels c ≡ Some l → IsHeight (choices_of graph (map length timing.delays) pats) (delay_cost timing cap) (labels_in labels) c (heights c)
   pub gates : List ℕ
-  pub gate_classes : AreGateClasses graph (delay_cost timing cap) pats (labels_in labels) heights (root_classes width net graph ports.outputs) gates
+  pub gate_classes : AreGateClasses graph (delay_cost timing cap) pats (labels_in labels) heights (form_classes o form graph ports.outputs) gates
   pub extracted : IsExtracted graph (delay_cost timing cap) pats (labels_in labels) heights gates n
   pub input_names : mapped.inputs ≡ ports.inputs
-  pub outputs : AllZip (λ p q. (p.name ≡ q.name) × IsNetOf graph gates (root_class width net graph p.net) q.net) ports.outputs mapped.outputs
-  pub names_are : names ≡ net_names ports.inputs (map (λ p. p.name) ports.outputs) (root_classes width net graph ports.outputs) gates
+  pub outputs : AllZip (λ p q. (p.name ≡ q.name) × IsNetOf graph gates (class_in o graph (form p.net)) q.net) ports.outputs mapped.outputs
+  pub names_are : names ≡ net_names ports.inputs (map (λ p. p.name) ports.outputs) (form_classes o form graph ports.outputs) gates
+
+-- The netlist of the chosen matches for the sums of products of the network's nets.
+abbrev pub IsNetlistOf : Mode → ℕ → Network → Ports → List Pattern → Timing → ℕ → Netlist → List (List ℕ) → Ports → Type 0
+IsNetlistOf mode width net ports pats timing cap n names mapped = IsNetlistOfForms mode net.inputs (listing_of width net) (sop_at (signals_of width net)) ports pats timing cap n names mapped

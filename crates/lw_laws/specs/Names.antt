@@ -2,6 +2,7 @@
 use Rattle.std.specs.Prelude.{ℕ, zero, suc, ◌+◌, ◌^◌, ◌<◌, ◌≡◌, ◌==◌, Bool, true, false, not, ◌&&◌, if◌then◌else◌, Option, Some, None, List, [], ◌∷◌, ◌++◌, length, filter, drop, slice_get, slice_index_or}
 use Rattle.std.specs.List.{list_any}
 use Rattle.std.specs.Fmt.{decimal}
+pub use Rattle.lw_laws.specs.Headline.{AreDifferent}
 
 -- two names are one, byte for byte
 abbrev pub same_name : List ℕ → List ℕ → Bool
@@ -41,10 +42,6 @@ gate_names outputs roots free (c ∷ gates) =
 abbrev pub net_names : List (List ℕ) → List (List ℕ) → List ℕ → List ℕ → List (List ℕ)
 net_names inputs outputs roots gates =
     inputs ++ gate_names outputs roots (free_names (inputs ++ outputs) (length gates)) gates
-
--- no name stands twice
-abbrev pub AreDifferent : List (List ℕ) → Type 0
-AreDifferent names = (i j : ℕ) (name : List ℕ) → slice_get names i ≡ Some name → slice_get names j ≡ Some name → i ≡ j
 
 -- What names the nets apart: the inputs' names differ, and the outputs'; an output with an input's name has the input's
 -- class; a class of a gate stands once, and is no input's.

@@ -7,9 +7,9 @@ use Rattle.lw_laws.specs.NumberedForms.Base.{base_true, base_input, base_and}
 use Rattle.lw_laws.specs.Forms.{Form, items, same_form}
 use Rattle.lw_laws.specs.Forms.Form.{var_form, true_form, not_form, and_form}
 use Rattle.lw_laws.specs.Signals.{Signal}
-use Rattle.lw_laws.specs.Decompositions.{Listing, HasTree, Occurs, base_form}
+use Rattle.lw_laws.specs.Decompositions.{HasTree}
 use Rattle.lw_laws.specs.Modes.{Mode}
-use Rattle.lw_laws.specs.Listings.{sign_of}
+use Rattle.lw_laws.specs.Listings.{Listing, IsListed, base_form, sign_of}
 
 -- the place of a form in the list, or its end
 abbrev pub place : Form → List Form → ℕ
@@ -43,4 +43,4 @@ numbered inputs o = record {
 -- the laws over numbers derive for each occurring form the trees that the laws over plain forms give it
 abbrev pub HasSameTrees : Mode → ℕ → Listing → Type 0
 HasSameTrees mode inputs o =
-    (f : Form) (t : Tree) → Occurs o f → HasTree mode o f t ↔ Derives (family_of mode (numbered inputs o)) (number o.bases f) t
+    (f : Form) (t : Tree) → IsListed o f → HasTree mode o.width o.signals f t ↔ Derives (family_of mode (numbered inputs o)) (number o.bases f) t

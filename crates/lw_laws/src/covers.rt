@@ -4,7 +4,7 @@ ghost use Rattle.lw_laws.specs.Choices.{AreHeights, HasLabelAtMost, HaveLabels, 
 ghost use Rattle.lw_laws.specs.Classes.{IsGraphOf};
 ghost use Rattle.lw_laws.specs.Costs.{Cost, IsCost, cost_of};
 ghost use Rattle.lw_laws.specs.Covers.{Timing, ArePatterns, Cover, Pattern, time_of};
-ghost use Rattle.lw_laws.specs.Decompositions.{listing_of};
+ghost use Rattle.lw_laws.specs.Listings.{listing_of};
 ghost use Rattle.lw_laws.specs.Delays.{delay_cost};
 ghost use Rattle.lw_laws.specs.Extracts.{IsChosen, IsLeafClass, Match, Supports};
 ghost use Rattle.lw_laws.specs.Graphs.{Graph};

@@ -3,14 +3,13 @@
 ghost use Rattle.lw_laws.specs.Cells.{AreCells};
 ghost use Rattle.lw_laws.specs.Classes.{IsGraphOf};
 ghost use Rattle.lw_laws.specs.Covers.{ArePatterns};
-ghost use Rattle.lw_laws.specs.Decompositions.{Listing, listing_of};
 ghost use Rattle.lw_laws.specs.Drafts.{AreKnown, Draft, HaveSameFacts, IsReduced, facts_of};
 ghost use Rattle.lw_laws.specs.Encodings.{Encodes};
 ghost use Rattle.lw_laws.specs.Expressions.{Expr, MentionsPin, expr_value};
 ghost use Rattle.lw_laws.specs.Extracts.{AreDistinctLeaves};
 ghost use Rattle.lw_laws.specs.Graphs.{Graph, IsWritten, PairsInOneClass};
 ghost use Rattle.lw_laws.specs.Laws.{ClassesAreSharedTrees, ClassesHaveValue, HasNumberedTrees, HasNumberedTruth, HasTheTrees, TreesUnfoldOnce};
-ghost use Rattle.lw_laws.specs.Listings.{IsListing};
+ghost use Rattle.lw_laws.specs.Listings.{IsListing, Listing, listing_of};
 ghost use Rattle.lw_laws.specs.Mapped.{forms_of};
 ghost use Rattle.lw_laws.specs.Modes.{Mode};
 ghost use Rattle.lw_laws.specs.Netlists.{CellTruth, HaveCellTruths};

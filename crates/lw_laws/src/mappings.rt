@@ -2,22 +2,26 @@
 //! law.
 ghost use Rattle.lw_laws.specs.Costs.{Cost};
 ghost use Rattle.lw_laws.specs.Covers.{Timing, ArePatterns, Pattern};
-ghost use Rattle.lw_laws.specs.Decompositions.{Listing};
+ghost use Rattle.lw_laws.specs.Classes.{class_in};
 ghost use Rattle.lw_laws.specs.Delays.{delay_cost};
 ghost use Rattle.lw_laws.specs.Encodings.{Encodes};
 ghost use Rattle.lw_laws.specs.Extracts.{AreDistinctLeaves, AreGateClasses, HaveLeafLabels, IsChosen, IsExtracted, IsNetOf, Match, class_at};
-ghost use Rattle.lw_laws.specs.Forms.{Form};
+ghost use Rattle.lw_laws.specs.Forms.{Form, form_value};
 ghost use Rattle.lw_laws.specs.Graphs.{Graph};
-ghost use Rattle.lw_laws.specs.Headline.{HasLeastArrival, HasLeastTime, HasNoCover, IsMapping, Ports, StandsForCover};
-ghost use Rattle.lw_laws.specs.Mapped.{AreRooted, IsCoverAt, IsLabelledOver, IsMapped, IsMappedOver, IsRootedAt, forms_of, root_class};
-ghost use Rattle.lw_laws.specs.MappedNetlists.{AreNetNames, ArePortNames, HasPorts, IsNetlistOf};
+ghost use Rattle.lw_laws.specs.Headline.{HasLeastArrival, HasLeastTime, HasNoCover, HasNoCoverOf, IsMapping, MapsForms, Ports, StandsForCover, StandsForCoverOf};
+ghost use Rattle.lw_laws.specs.Listings.{IsListed, IsListing, Listing};
+ghost use Rattle.lw_laws.specs.Mapped.{AreRooted, AreRootedAtForms, IsCoverAt, IsLabelledOver, IsLabelledOverForms, IsMapped, IsMappedOver, IsMappedOverForms, IsRootedAt, IsRootedAtForm, forms_of, root_class};
+ghost use Rattle.lw_laws.specs.MappedNetlists.{AreNetNames, ArePortNames, HasPorts, IsNetlistOf, IsNetlistOfForms};
 ghost use Rattle.lw_laws.specs.Matches.{IsLeastCover};
 ghost use Rattle.lw_laws.specs.Modes.{Mode};
 ghost use Rattle.lw_laws.specs.Names.{AreDifferent, AreNameable, net_names};
 ghost use Rattle.lw_laws.specs.Netlists.{AreArrivals, AreByDepth, AreNetCosts, AreNetDepths, AreNetlistValues, AreOrdered, CellTruth, HaveCellTruths, Netlist};
 ghost use Rattle.lw_laws.specs.Networks.{AreValues, IsInOrder, Network};
 ghost use Rattle.lw_laws.specs.NumberedForms.{family_of};
+ghost use Rattle.lw_laws.specs.Numbering.{numbered};
 ghost use Rattle.lw_laws.specs.Rounds.{labels_in};
+ghost use Rattle.lw_laws.specs.SignalValues.{AreNetForms, IsSoundListing};
+ghost use Rattle.lw_laws.specs.Signals.{Signal};
 ghost use Rattle.std.specs.Prelude.{◌++◌, ◌≡◌, ◌≤◌, ◌<◌, ◌^◌, ◌+◌, ℕ, List, Option, Bool, Some, None, map, length, slice_get, slice_index_or, min};
 
 // Netlists
@@ -162,6 +166,109 @@ pub fn outputs_own_their_names()
         slice_get outputs k ≡ Some name → slice_get (leaves ++ gates) j ≡ slice_get roots k }
 {}
 
+// The headline for any listing whose linked forms have one value
+
+/// The arrival of a net that is rooted at a form is the least time of a library cover of a tree that
+/// the laws derive for the form.
+pub fn rooted_nets_are_least()
+    ensures { (mode : Mode) (inputs : ℕ) (o : Listing) (g : Graph) (pats : List Pattern)
+        (timing : Timing) (cap : ℕ) (labels : List (Option ℕ)) (n : Netlist) (class : ℕ → ℕ)
+        (arrivals : List ℕ) →
+        IsSoundListing inputs o → IsMappedOverForms mode inputs o g pats timing cap labels n class →
+        AreArrivals timing n arrivals → (f : Form) (k : ℕ) → IsListed o f →
+        IsRootedAtForm o g labels n class arrivals f k →
+        HasLeastTime mode o.width o.signals pats timing f (slice_index_or arrivals k 0) }
+{}
+
+/// A net that is rooted at a form has the form's value.
+pub fn rooted_nets_have_values()
+    ensures { (mode : Mode) (inputs : ℕ) (o : Listing) (g : Graph) (pats : List Pattern)
+        (timing : Timing) (cap : ℕ) (labels : List (Option ℕ)) (n : Netlist) (class : ℕ → ℕ)
+        (arrivals : List ℕ) (truth : CellTruth) →
+        IsSoundListing inputs o → IsMappedOverForms mode inputs o g pats timing cap labels n class →
+        HaveCellTruths (map length timing.delays) truth pats → AreArrivals timing n arrivals →
+        (x : ℕ → Bool) (mapped : List Bool) → AreNetlistValues truth n x mapped →
+        (f : Form) (k : ℕ) → IsListed o f → IsRootedAtForm o g labels n class arrivals f k →
+        slice_get mapped k ≡ Some (form_value x f) }
+{}
+
+/// A net that is rooted at a form stands for a cover of a tree that the laws derive for the form,
+/// and arrives at the cover's time.
+pub fn rooted_nets_stand_for_covers()
+    ensures { (mode : Mode) (inputs : ℕ) (o : Listing) (g : Graph) (pats : List Pattern)
+        (timing : Timing) (cap : ℕ) (labels : List (Option ℕ)) (n : Netlist) (class : ℕ → ℕ)
+        (arrivals : List ℕ) →
+        IsSoundListing inputs o → IsMappedOverForms mode inputs o g pats timing cap labels n class →
+        AreArrivals timing n arrivals → (f : Form) (k : ℕ) → IsListed o f →
+        IsRootedAtForm o g labels n class arrivals f k →
+        StandsForCoverOf mode o.width o.signals pats timing n f k (slice_index_or arrivals k 0) }
+{}
+
+/// Where the class of a form has no label, no cover is of a tree that the laws derive for it.
+pub fn unlabelled_forms_have_no_cover()
+    ensures { (mode : Mode) (inputs : ℕ) (o : Listing) (g : Graph) (pats : List Pattern)
+        (timing : Timing) (cap : ℕ) (labels : List (Option ℕ)) →
+        IsListing o → IsLabelledOverForms mode inputs o g pats timing cap labels → (f : Form) →
+        IsListed o f → labels_in labels (class_in o g f) ≡ None →
+        HasNoCoverOf mode o.width o.signals pats timing f }
+{}
+
+/// A netlist whose gates are matches, with each output at the class of its form and arriving at its
+/// label, maps the forms: it computes the network's outputs, each at the least time of its form.
+pub fn rooted_netlists_map_forms()
+    ensures { (mode : Mode) (o : Listing) (form : ℕ → Form) (net : Network) (g : Graph)
+        (pats : List Pattern) (timing : Timing) (cap : ℕ) (labels : List (Option ℕ)) (n : Netlist)
+        (class : ℕ → ℕ) (arrivals : List ℕ) (truth : CellTruth) (ports mapped : Ports) →
+        IsSoundListing net.inputs o → AreNetForms net o form → HasPorts net ports →
+        IsMappedOverForms mode net.inputs o g pats timing cap labels n class →
+        HaveCellTruths (map length timing.delays) truth pats → AreArrivals timing n arrivals →
+        AreRootedAtForms net.inputs o form g labels n class arrivals ports mapped →
+        MapsForms mode o.width o.signals form net ports pats timing truth n mapped }
+{}
+
+/// The least cost at the class of a form, where it is below the cap, is the form's least time.
+pub fn least_labels_are_least_times()
+    ensures { (mode : Mode) (inputs : ℕ) (o : Listing) (g : Graph) (pats : List Pattern)
+        (timing : Timing) (cap : ℕ) →
+        IsListing o → Encodes (family_of mode (numbered inputs o)) g → (f : Form) → IsListed o f →
+        (d : ℕ) → d < cap → IsLeastCover g pats (delay_cost timing cap) (class_in o g f) (Some d) →
+        HasLeastTime mode o.width o.signals pats timing f d }
+{}
+
+/// Where no cover stands at the class of a form, the form has none.
+pub fn uncovered_forms_have_no_cover()
+    ensures { (mode : Mode) (inputs : ℕ) (o : Listing) (g : Graph) (pats : List Pattern)
+        (timing : Timing) (cap : ℕ) →
+        IsListing o → Encodes (family_of mode (numbered inputs o)) g → (f : Form) → IsListed o f →
+        IsLeastCover g pats (delay_cost timing cap) (class_in o g f) None →
+        HasNoCoverOf mode o.width o.signals pats timing f }
+{}
+
+/// The netlist that forms of a network's nets are mapped to has the network's ports and values, and
+/// the least times of the forms.
+pub fn netlists_map_forms()
+    ensures { (mode : Mode) (o : Listing) (form : ℕ → Form) (net : Network) (ports : Ports)
+        (pats : List Pattern) (timing : Timing) (cap : ℕ) (truth : CellTruth) (n : Netlist)
+        (names : List (List ℕ)) (mapped : Ports) →
+        IsSoundListing net.inputs o → AreNetForms net o form → net.inputs < 2 ^ 32 →
+        HasPorts net ports → ArePatterns (map length timing.delays) pats →
+        HaveCellTruths (map length timing.delays) truth pats →
+        (is : IsNetlistOfForms mode net.inputs o form ports pats timing cap n names mapped) →
+        ((c l : ℕ) → labels_in is.labels c ≡ Some l → l < cap) →
+        MapsForms mode o.width o.signals form net ports pats timing truth n mapped }
+{}
+
+/// The netlist that forms are mapped to is one, and so are the names of its nets and its ports.
+pub fn netlists_of_forms_are_one()
+    ensures { (mode : Mode) (inputs : ℕ) (o : Listing) (form : ℕ → Form) (ports : Ports)
+        (pats : List Pattern) (timing : Timing) (cap : ℕ) (n m : Netlist)
+        (names others : List (List ℕ)) (mapped also : Ports) →
+        IsSoundListing inputs o →
+        IsNetlistOfForms mode inputs o form ports pats timing cap n names mapped →
+        IsNetlistOfForms mode inputs o form ports pats timing cap m others also →
+        (n ≡ m) × (names ≡ others) × (mapped ≡ also) }
+{}
+
 // The headline
 
 /// The arrival of an output of a mapped netlist is the least time of a library cover of a tree that
@@ -279,9 +386,10 @@ pub fn mapped_gates_are_by_depth()
 
 /// A form has one least time.
 pub fn least_times_are_one()
-    ensures { (mode : Mode) (o : Listing) (pats : List Pattern) (timing : Timing) (f : Form)
-        (d e : ℕ) →
-        HasLeastTime mode o pats timing f d → HasLeastTime mode o pats timing f e → d ≡ e }
+    ensures { (mode : Mode) (width : ℕ) (signals : List Signal) (pats : List Pattern)
+        (timing : Timing) (f : Form) (d e : ℕ) →
+        HasLeastTime mode width signals pats timing f d →
+        HasLeastTime mode width signals pats timing f e → d ≡ e }
 {}
 
 /// The netlist that a network is mapped to is one, and so are the names of its nets and its ports.

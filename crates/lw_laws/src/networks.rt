@@ -1,18 +1,17 @@
 //! Laws about networks, their forms and the numbers of these forms. Each function has an empty
 //! body; its clauses are the law.
-ghost use Rattle.lw_laws.specs.Decompositions.{Listing, listing_of};
 ghost use Rattle.lw_laws.specs.Forms.{Form, conjunction, form_value, has_clash, joined, kept};
-ghost use Rattle.lw_laws.specs.Laws.{TreesHaveValue};
-ghost use Rattle.lw_laws.specs.Listings.{IsListing};
+ghost use Rattle.lw_laws.specs.Laws.{ListsTheOccurring, TreesHaveValue};
+ghost use Rattle.lw_laws.specs.Listings.{IsListing, Listing, listing_of};
 ghost use Rattle.lw_laws.specs.Modes.{Mode};
 ghost use Rattle.lw_laws.specs.Networks.{AreDepths, AreValues, IsInOrder, Network};
 ghost use Rattle.lw_laws.specs.NumberedForms.{AreNumberedForms};
 ghost use Rattle.lw_laws.specs.NumberedValues.{AreNumberedValues};
 ghost use Rattle.lw_laws.specs.Numbering.{HasSameTrees, numbered};
 ghost use Rattle.lw_laws.specs.Occurring.{HasInputsFirst, occurring_forms, part, sublists};
-ghost use Rattle.lw_laws.specs.SignalValues.{SignalsAgree, number_value};
-ghost use Rattle.lw_laws.specs.Signals.{factored, factored_by, shared_literal, signals_of};
-ghost use Rattle.std.specs.Prelude.{◌≡◌, ◌≤◌, ◌<◌, ◌^◌, ℕ, List, Option, Bool, Some, map, length, slice_get};
+ghost use Rattle.lw_laws.specs.SignalValues.{AreNetForms, IsLinkOf, IsSoundListing, SignalsAgree, number_value, with_links};
+ghost use Rattle.lw_laws.specs.Signals.{Signal, factored, factored_by, shared_literal, signals_of, sop_at};
+ghost use Rattle.std.specs.Prelude.{◌≡◌, ◌≤◌, ◌<◌, ◌^◌, ℕ, Contains, List, Option, Bool, Some, map, length, slice_get};
 
 // Networks
 
@@ -77,10 +76,40 @@ pub fn occurring_forms_are_listed()
     ensures { (width : ℕ) (net : Network) → 2 ≤ width → IsListing (listing_of width net) }
 {}
 
+/// The list of forms of a network has exactly the forms that occur, as they are or by their
+/// complements.
+pub fn occurring_forms_are_those_that_occur()
+    ensures { (width : ℕ) (net : Network) → 2 ≤ width → ListsTheOccurring (listing_of width net) }
+{}
+
 /// True is listed first, then the inputs in order, and no other input.
 pub fn true_and_inputs_come_first()
     ensures { (width : ℕ) (net : Network) → 2 ≤ width →
         HasInputsFirst net.inputs (occurring_forms width net) }
+{}
+
+/// The forms of a network are a listing in which linked forms have one value.
+pub fn networks_have_sound_listings()
+    ensures { (width : ℕ) (net : Network) → 2 ≤ width →
+        IsSoundListing net.inputs (listing_of width net) }
+{}
+
+/// Further links of listed forms with one value keep a listing sound.
+pub fn links_keep_listings_sound()
+    ensures { (inputs : ℕ) (o : Listing) (links : List Signal) → IsSoundListing inputs o →
+        ((x : Signal) → Contains links x → IsLinkOf o x) → IsSoundListing inputs (with_links o links) }
+{}
+
+/// The sums of products of a network's nets are listed, and have the nets' values.
+pub fn sums_of_products_are_net_forms()
+    ensures { (width : ℕ) (net : Network) → 2 ≤ width → IsInOrder net →
+        AreNetForms net (listing_of width net) (sop_at (signals_of width net)) }
+{}
+
+/// Each tree of an occurring form has the form's value, where linked forms have one.
+pub fn occurring_trees_have_the_value()
+    ensures { (mode : Mode) (o : Listing) (x : ℕ → Bool) → IsListing o → SignalsAgree o.signals x →
+        TreesHaveValue mode o x }
 {}
 
 /// Each tree of an occurring form of a network has the form's value.

@@ -9,7 +9,7 @@ use Rattle.lw_laws.proofs.MappedNames.{input_sop}
 use Rattle.lw_laws.proofs.Mapping.{sop_occurs}
 use Rattle.lw_laws.proofs.Numbers.{slice_get_map, slice_get_map_back}
 use Rattle.lw_laws.specs.Classes.{IsGraphOf, class_in}
-use Rattle.lw_laws.specs.Decompositions.{Occurs, listing_of}
+use Rattle.lw_laws.specs.Listings.{IsListed, listing_of}
 use Rattle.lw_laws.specs.Extracts.{AreDistinctLeaves}
 use Rattle.lw_laws.specs.Forms.{Form}
 use Rattle.lw_laws.specs.Graphs.{Graph}
@@ -70,7 +70,7 @@ module _ (mode : Mode) (width : ℕ) (from : Network) (outer : Ports) (g : Graph
         ∙ tied named i k name (subst (λ names. slice_get names i ≡ Some name) of.inputs at) (subst (λ names. slice_get names k ≡ Some name) of.outputs out);
   }
 
-  pub roots_known : (most : ℕ) (lists : DepthLists) → HasPorts from outer → AreLeastDepths g most lists → ((f : Form) (o : Option ℕ) → Occurs (listing_of width from) f → IsLeastDepth g most (class_in (listing_of width from) g f) o → (d : ℕ) × (o ≡ Some d)) → All (λ (root : ClassId). IsKnown lists.depths root.0) ports.roots
+  pub roots_known : (most : ℕ) (lists : DepthLists) → HasPorts from outer → AreLeastDepths g most lists → ((f : Form) (o : Option ℕ) → IsListed (listing_of width from) f → IsLeastDepth g most (class_in (listing_of width from) g f) o → (d : ℕ) × (o ≡ Some d)) → All (λ (root : ClassId). IsKnown lists.depths root.0) ports.roots
   roots_known most lists has least some = All-from_recursion (λ (root : ClassId). IsKnown lists.depths root.0) ports.roots (contains_all (λ (root : ClassId). IsKnown lists.depths root.0) ports.roots (λ root c.
       let (p, k, e) = contained_in_map (λ (p : Port). root_class width from g p.net) outer.outputs root.0 (subst (λ cs. Contains cs root.0) of.roots (contains_map (λ (r : ClassId). r.0) ports.roots root c)) in
       subst (IsKnown lists.depths) e (of_net p.net (all_contains (λ (p : Port). p.net < from.inputs + length from.nodes) outer.outputs p has k))))

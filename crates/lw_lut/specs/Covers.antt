@@ -6,7 +6,8 @@ use Rattle.lw_laws.specs.Trees.{Tree, leaf, const_one, const_zero, inv, nand, pl
 use Rattle.lw_laws.specs.Graphs.{Graph, Unfolds}
 use Rattle.lw_laws.specs.Modes.{Mode}
 use Rattle.lw_laws.specs.Forms.{Form}
-use Rattle.lw_laws.specs.Decompositions.{Listing, HasTree}
+use Rattle.lw_laws.specs.Signals.{Signal}
+use Rattle.lw_laws.specs.Decompositions.{HasTree}
 
 -- an input, or a table by a tree over its pins with a cover for each pin
 mutual
@@ -61,9 +62,9 @@ abbrev mutual
   greatest_depth (cover k ks) = max (depth_of k) (greatest_depth ks)
 
 -- Of all covers by tables of at most so many pins of trees that the laws derive for the form, the shallowest has this depth.
-pub record HasLeastDepth (mode : Mode) (o : Listing) (most : ℕ) (f : Form) (d : ℕ) : Type 0 where
-  pub attained : (k : TableCover) × IsTableCover most k × HasTree mode o f (tree_of k) × (depth_of k ≡ d)
-  pub least : (k : TableCover) → IsTableCover most k → HasTree mode o f (tree_of k) → d ≤ depth_of k
+pub record HasLeastDepth (mode : Mode) (width : ℕ) (signals : List Signal) (most : ℕ) (f : Form) (d : ℕ) : Type 0 where
+  pub attained : (k : TableCover) × IsTableCover most k × HasTree mode width signals f (tree_of k) × (depth_of k ≡ d)
+  pub least : (k : TableCover) → IsTableCover most k → HasTree mode width signals f (tree_of k) → d ≤ depth_of k
 
 -- the least depth of a cover of a tree of the class, and none where no tree unfolds there
 abbrev pub IsLeastDepth : Graph → ℕ → ℕ → Option ℕ → Type 0

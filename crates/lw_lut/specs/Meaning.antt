@@ -13,7 +13,6 @@ use Rattle.lw_laws.specs.Modes.{Mode}
 use Rattle.lw_laws.specs.Networks as laws
 use Rattle.lw_laws.specs.Networks.{AreValues, IsInOrder}
 use Rattle.lw_laws.specs.Signals.{sop_at, signals_of}
-use Rattle.lw_laws.specs.Decompositions.{listing_of}
 use Rattle.lw_net.specs.declared.draft.Draft.{Draft}
 use Rattle.lw_net.specs.declared.draft.DraftNode.{DraftNode}
 use Rattle.lw_net.specs.declared.node.Node.{Node}
@@ -93,7 +92,7 @@ pub record IsTableNetwork (g : Graph) (most : ℕ) (depths : List (Option ℕ)) 
 -- depth of any cover by tables of any tree that the laws derive for net r.
 pub record HasRoot (mode : Mode) (width : ℕ) (from : laws.Network) (most : ℕ) (net : NetworkParts) (r : ℕ) (s : NetId) : Type 0 where
   pub value : (x : ℕ → Bool) (values mapped : List Bool) → AreValues from x values → AreValues (plain net) x mapped → slice_get values r ≡ slice_get mapped s.0
-  pub depth : (ds : List ℕ) → AreTableDepths net ds → (d : ℕ) × (slice_get ds s.0 ≡ Some d) × HasLeastDepth mode (listing_of width from) most (sop_at (signals_of width from) r) d
+  pub depth : (ds : List ℕ) → AreTableDepths net ds → (d : ℕ) × (slice_get ds s.0 ≡ Some d) × HasLeastDepth mode width (signals_of width from) most (sop_at (signals_of width from) r) d
 
 -- The outputs of the network of tables are those of the network, in order.
 abbrev pub HaveRoots : Mode → ℕ → laws.Network → ℕ → Ports → NetworkParts → Type 0

@@ -4,13 +4,14 @@ ghost use Rattle.std.specs.Prelude.{◌≡◌, ◌≤◌, ◌<◌, ◌+◌, ◌^
 ghost use Rattle.lw_blif.specs.declared.fault.BlifKind.TheVariants.{LimitSignals};
 ghost use Rattle.lw_blif.specs.LineFaults.{FaultAt, first_fault};
 ghost use Rattle.lw_laws.specs.Classes.{IsGraphOf, class_in};
-ghost use Rattle.lw_laws.specs.Decompositions.{Occurs, listing_of};
+ghost use Rattle.lw_laws.specs.Listings.{IsListed, listing_of};
 ghost use Rattle.lw_laws.specs.Forms.{Form};
 ghost use Rattle.lw_laws.specs.Graphs.{Graph};
 ghost use Rattle.lw_laws.specs.Headline.{Ports};
 ghost use Rattle.lw_laws.specs.MappedNetlists.{ArePortNames, HasPorts, root_classes};
 ghost use Rattle.lw_laws.specs.Modes.{Mode};
 ghost use Rattle.lw_laws.specs.Networks.{Network, IsInOrder};
+ghost use Rattle.lw_laws.specs.Signals.{signals_of};
 ghost use Rattle.lw_net.specs.Closing.{IsClosed};
 ghost use Rattle.lw_net.specs.Networks.{NetworkParts};
 ghost use Rattle.lw_net.specs.Plain.{plain};
@@ -35,12 +36,12 @@ use lw_laws::graphs::{graphs_have_the_trees, graphs_have_the_values, input_class
 pub fn class_depths_are_form_depths()
     ensures least { (mode : Mode) (width : ℕ) (net : Network) (g : Graph) → 2 ≤ width →
         IsGraphOf mode net.inputs (listing_of width net) g → (most : ℕ) (f : Form) (d : ℕ) →
-        Occurs (listing_of width net) f →
+        IsListed (listing_of width net) f →
         IsLeastDepth g most (class_in (listing_of width net) g f) (Some d) →
-        HasLeastDepth mode (listing_of width net) most f d }
+        HasLeastDepth mode width (signals_of width net) most f d }
     ensures some { (mode : Mode) (width : ℕ) (net : Network) (g : Graph) → 2 ≤ width →
         IsGraphOf mode net.inputs (listing_of width net) g → (most : ℕ) (f : Form) (o : Option ℕ) →
-        Occurs (listing_of width net) f →
+        IsListed (listing_of width net) f →
         IsLeastDepth g most (class_in (listing_of width net) g f) o → (d : ℕ) × (o ≡ Some d) }
 {
     graphs_have_the_trees();

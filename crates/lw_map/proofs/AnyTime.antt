@@ -13,7 +13,7 @@ use Rattle.lw_laws.specs.Covers.Cover.{wire}
 use Rattle.lw_laws.specs.Graphs.{Unfolds}
 use Rattle.lw_laws.specs.Choices.{IsHeight}
 use Rattle.lw_laws.specs.Classes.{class_in}
-use Rattle.lw_laws.specs.Decompositions.{listing_of}
+use Rattle.lw_laws.specs.Listings.{listing_of}
 use Rattle.lw_laws.specs.Matches.{choices_of, IsLeastCover}
 use Rattle.lw_laws.specs.Extracts.{HaveLeafLabels, IsNetOf, class_at, net_classes}
 use Rattle.lw_laws.specs.Mapped.{root_class, IsMapped}

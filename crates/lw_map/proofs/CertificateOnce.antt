@@ -12,7 +12,7 @@ use Rattle.lw_laws.specs.Choices.{Labels, HaveLabels, IsHeight}
 use Rattle.lw_laws.specs.Matches.{choices_of, IsLeastCover}
 use Rattle.lw_laws.specs.Rounds.{labels_in}
 use Rattle.lw_laws.specs.Delays.{delay_cost}
-use Rattle.lw_laws.specs.Decompositions.{listing_of}
+use Rattle.lw_laws.specs.Listings.{listing_of}
 use Rattle.lw_laws.specs.Netlists.{Netlist}
 use Rattle.lw_laws.specs.Extracts.{Match, Supports, IsChosen, IsNeeded, AreGateClasses, IsExtracted}
 use Rattle.lw_laws.specs.Extracts.IsNeeded.{by_root, by_pin}

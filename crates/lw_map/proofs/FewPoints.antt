@@ -3,7 +3,7 @@ use Rattle.std.proofs.Common.{ℕ, zero, suc, ◌<◌, ◌≤◌, ◌≡◌, ◌
 use Rattle.std.specs.List.{AllZip}
 use Rattle.lw_pool.specs.declared.id.NetId.{NetId}
 use Rattle.lw_fixed.specs.declared.micro.Micro.{Micro}
-use Rattle.lw_laws.specs.Decompositions.{listing_of}
+use Rattle.lw_laws.specs.Listings.{listing_of}
 use Rattle.lw_laws.specs.Headline.{HasLeastArrival}
 use Rattle.lw_laws.proofs.ClassLaws.{graphs_once}
 use Rattle.lw_laws.proofs.Listed.{occurring_is_listing}

@@ -1,6 +1,6 @@
 -- The netlist that a network is mapped to computes the network's outputs, each at the least time.
 use Rattle.std.proofs.Common.{ℕ, ◌+◌, ◌*◌, ◌^◌, ◌<◌, ◌≤◌, ◌≡◌, List, length, All, Option, Some, arith, mul-le-mul_right}
-use Rattle.lw_laws.specs.Decompositions.{listing_of}
+use Rattle.lw_laws.specs.Listings.{listing_of}
 use Rattle.lw_laws.specs.Graphs.{Graph}
 use Rattle.lw_laws.specs.Classes.{IsGraphOf}
 use Rattle.lw_laws.specs.Matches.{IsLeastCover}

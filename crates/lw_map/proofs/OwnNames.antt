@@ -10,7 +10,7 @@ use Rattle.lw_pool.specs.declared.id.ClassId.{ClassId}
 use Rattle.lw_fixed.specs.declared.micro.Micro.{Micro}
 use Rattle.lw_laws.specs.Names.{AreDifferent, AreNameable, is_name_among, numbered_name, numbered_names, free_names, output_name, gate_names, net_names}
 use Rattle.lw_laws.specs.Classes.{class_in}
-use Rattle.lw_laws.specs.Decompositions.{listing_of}
+use Rattle.lw_laws.specs.Listings.{listing_of}
 use Rattle.lw_laws.specs.MappedNetlists.{AreNetNames, ArePortNames}
 use Rattle.lw_laws.specs.Headline.{Port as PlainPort}
 use Rattle.lw_laws.proofs.InputClasses.{distinct_leaves}

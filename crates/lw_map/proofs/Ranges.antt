@@ -8,7 +8,7 @@ use Rattle.lw_laws.specs.Graphs.{Graph, Pair, HoldsPair, Unfolds, class_of, AreN
 use Rattle.lw_laws.specs.Networks.{Network}
 use Rattle.lw_laws.specs.Forms.Form.{var_form, true_form}
 use Rattle.lw_laws.specs.Occurring.{occurring_forms}
-use Rattle.lw_laws.specs.Decompositions.{listing_of}
+use Rattle.lw_laws.specs.Listings.{listing_of}
 use Rattle.lw_laws.specs.Numbering.{number}
 use Rattle.lw_laws.specs.Classes.{class_in, IsGraphOf}
 use Rattle.lw_laws.proofs.Flips.{half-flip}

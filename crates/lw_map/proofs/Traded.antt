@@ -14,7 +14,8 @@ use Rattle.lw_laws.specs.Covers.Cover.{wire, gate}
 use Rattle.lw_laws.specs.Covers.Covers.{no_covers, cover}
 use Rattle.lw_laws.specs.Netlists.{Netlist, AreArrivals, AreNetCosts, AreNetlistValues, StandsFor, StandForAll}
 use Rattle.lw_laws.specs.Mapped.{root_class}
-use Rattle.lw_laws.specs.Decompositions.{listing_of, HasTree}
+use Rattle.lw_laws.specs.Decompositions.{HasTree}
+use Rattle.lw_laws.specs.Listings.{listing_of}
 use Rattle.lw_laws.specs.Headline.{HasLeastArrival}
 use Rattle.lw_laws.proofs.Mapping.{list_values, list_arrivals, sop_occurs, sop_value_is}
 use Rattle.lw_laws.proofs.Netlists.{StandsFor-value, StandsFor-time}
@@ -79,10 +80,10 @@ module _ (net : NetworkParts) (starts : List Micro) (c : Choices) (cells : List 
     in_nets o lt = let n = kept.named in let m = length-map net.nodes network.plain_node in omega arith
 
     -- the trees of an output's class are those that the laws derive for it
-    pub tree_from : (o : ℕ) (t : Tree) → o < length net.names → Unfolds c.graph t (class_of_net o) → HasTree own.mode (listing_of own.width (network.plain net)) (sop_at (signals_of own.width (network.plain net)) o) t
+    pub tree_from : (o : ℕ) (t : Tree) → o < length net.names → Unfolds c.graph t (class_of_net o) → HasTree own.mode own.width (signals_of own.width (network.plain net)) (sop_at (signals_of own.width (network.plain net)) o) t
     tree_from o t lt = (graph_trees own.mode own.width (network.plain net) c.graph are.wide.least are.graph (sop_at (signals_of own.width (network.plain net)) o) t (sop_occurs own.width are.wide.least (network.plain net) o (in_nets o lt))).0
 
-    pub tree_back : (o : ℕ) (t : Tree) → o < length net.names → HasTree own.mode (listing_of own.width (network.plain net)) (sop_at (signals_of own.width (network.plain net)) o) t → Unfolds c.graph t (class_of_net o)
+    pub tree_back : (o : ℕ) (t : Tree) → o < length net.names → HasTree own.mode own.width (signals_of own.width (network.plain net)) (sop_at (signals_of own.width (network.plain net)) o) t → Unfolds c.graph t (class_of_net o)
     tree_back o t lt = (graph_trees own.mode own.width (network.plain net) c.graph are.wide.least are.graph (sop_at (signals_of own.width (network.plain net)) o) t (sop_occurs own.width are.wide.least (network.plain net) o (in_nets o lt))).1
 
     -- such a net has the least area

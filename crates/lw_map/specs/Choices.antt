@@ -5,7 +5,7 @@ use Rattle.lw_pool.specs.declared.id.NetId.{NetId}
 use Rattle.lw_laws.specs.Graphs.{Graph, class_of, most_classes}
 use Rattle.lw_laws.specs.NumberedForms.{NumberedForms}
 use Rattle.lw_laws.specs.Classes.{IsGraphOf}
-use Rattle.lw_laws.specs.Decompositions.{listing_of}
+use Rattle.lw_laws.specs.Listings.{listing_of}
 use Rattle.lw_laws.specs.MappedNetlists.{root_classes}
 use Rattle.lw_net.specs.Networks.{NetworkParts}
 use Rattle.lw_net.specs.Plain.{plain}

@@ -7,7 +7,8 @@ use Rattle.lw_pool.specs.declared.id.NetId.{NetId}
 use Rattle.lw_fixed.specs.declared.micro.Micro.{Micro}
 use Rattle.lw_laws.specs.Networks.{AreValues}
 use Rattle.lw_laws.specs.Signals.{sop_at, signals_of}
-use Rattle.lw_laws.specs.Decompositions.{listing_of, HasTree}
+use Rattle.lw_laws.specs.Decompositions.{HasTree}
+use Rattle.lw_laws.specs.Listings.{listing_of}
 use Rattle.lw_laws.specs.Covers.{Cover, tree_of, IsCover, time_of}
 use Rattle.lw_laws.specs.Costs.{cost_of}
 use Rattle.lw_laws.specs.Graphs.{Graph}
@@ -40,7 +41,7 @@ use Rattle.lw_netlist.specs.Plain.{mapped_ports}
 -- the cover is one by the library's cells of a tree that the laws derive for the net's sum of products
 pub record IsCoverOf (options : Options) (cells : List CellParts) (net : NetworkParts) (s : ℕ) (k : Cover) : Type 0 where
   pub is_cover : IsCover (map length (delays_of_cells cells)) (library_patterns cells) k
-  pub has_tree : HasTree options.mode (listing_of options.width (plain net)) (sop_at (signals_of options.width (plain net)) s) (tree_of k)
+  pub has_tree : HasTree options.mode options.width (signals_of options.width (plain net)) (sop_at (signals_of options.width (plain net)) s) (tree_of k)
 
 -- the time is no later than the deadline, or than the least one where that is later; without a deadline each time will do
 abbrev pub IsInTime : Option Micro → ℕ → ℕ → Type 0

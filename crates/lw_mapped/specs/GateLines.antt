@@ -8,12 +8,9 @@ use Rattle.lw_netlist.specs.declared.draft.DraftGate.{DraftGate}
 use Rattle.lw_mapped.specs.declared.fault.MappedKind.{MappedKind}
 use Rattle.lw_mapped.specs.declared.fault.MappedKind.TheVariants as kind
 use Rattle.lw_words.specs.Words.{is_among, is_name}
+pub use Rattle.lw_mapped.specs.Texts.{equals_sign}
 
 -- Words `FORMAL=ACTUAL`.
-
--- the sign between the two
-abbrev pub equals_sign : ℕ
-equals_sign = 61
 
 abbrev pub is_equals : ℕ → Bool
 is_equals b = b == equals_sign

@@ -13,10 +13,13 @@ use Rattle.lw_netlist.specs.declared.gate.Gate.{Gate}
 use Rattle.lw_netlist.specs.declared.gate.Port.{Port}
 use Rattle.lw_netlist.specs.Netlists.{NetlistParts}
 use Rattle.lw_mapped.specs.declared.certificate.Certificate.{Certificate}
-use Rattle.lw_mapped.specs.GateLines.{equals_sign}
 use Rattle.lw_words.specs.Texts.{line}
 use Rattle.lw_netlist.specs.Plain.{IsOver, port_name}
 use Rattle.lw_frame.specs.Latches.{latch_line}
+
+-- the sign between a pin or an output and its net
+abbrev pub equals_sign : ℕ
+equals_sign = 61
 
 abbrev pub net_name : List (List ℕ) → NetId → List ℕ
 net_name names net = slice_index_or names net.0 []

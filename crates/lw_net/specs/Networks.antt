@@ -1,8 +1,11 @@
--- What a closed network is seen as, and what its type keeps.
+-- What a closed network is seen as, as plain data and by the names of its ports, and what its type keeps.
 use Rattle.std.specs.Prelude.{ℕ, ◌+◌, ◌<◌, ◌≤◌, ◌≡◌, List, [], Some, length, map, take, slice_get, slice_index_or, All}
 use Rattle.lw_pool.specs.declared.id.NetId.{NetId}
+use Rattle.lw_laws.specs.Networks as laws
+use Rattle.lw_laws.specs.Headline.{Port, Ports}
 use Rattle.lw_net.specs.declared.node.Node.{Node}
-use Rattle.lw_pool.specs.Numbers.{most_signals}
+use Rattle.lw_net.specs.Signs.{asked}
+use Rattle.lw_pool.specs.Numbers.{most_signals, net_number}
 
 -- Nets below `inputs` are the inputs; the nodes drive the nets after those, in order.
 pub record NetworkParts : Type 0 where
@@ -21,6 +24,21 @@ input_names net = take net.inputs net.names
 
 abbrev pub output_names : NetworkParts → List (List ℕ)
 output_names net = map (name_in net) net.outputs
+
+abbrev pub plain_node : Node → laws.Node
+plain_node node = record { fanins = map net_number node.fanins; rows = map (map asked) node.rows; on = node.on }
+
+-- the network without names
+abbrev pub plain : NetworkParts → laws.Network
+plain net = record { inputs = net.inputs; nodes = map plain_node net.nodes }
+
+-- an output: the name of its net, and the net
+abbrev pub output_port : NetworkParts → NetId → Port
+output_port net output = record { name = name_in net output; net = output.0 }
+
+-- the names of the inputs, and the outputs
+abbrev pub ports_of : NetworkParts → Ports
+ports_of net = record { inputs = input_names net; outputs = map (output_port net) net.outputs }
 
 -- what holds of node j
 pub record IsNodeAt (inputs j : ℕ) (node : Node) : Type 0 where

@@ -1,19 +1,9 @@
--- A network as plain data.
-use Rattle.std.specs.Prelude.{ℕ, List, map}
+-- A network as plain data, and the order of its nodes.
+use Rattle.std.specs.Prelude.{ℕ, List}
 use Rattle.std.specs.List.Sorted.{IsNonDecreasing}
-use Rattle.lw_laws.specs.Networks as laws
 use Rattle.lw_laws.specs.Networks.{AreDepths}
-use Rattle.lw_net.specs.declared.node.Node.{Node}
 use Rattle.lw_net.specs.Networks.{NetworkParts}
-use Rattle.lw_net.specs.Signs.{asked}
-use Rattle.lw_pool.specs.Numbers.{net_number}
-
-abbrev pub plain_node : Node → laws.Node
-plain_node node = record { fanins = map net_number node.fanins; rows = map (map asked) node.rows; on = node.on }
-
--- the network without names
-abbrev pub plain : NetworkParts → laws.Network
-plain net = record { inputs = net.inputs; nodes = map plain_node net.nodes }
+pub use Rattle.lw_net.specs.Networks.{plain_node, plain}
 
 -- the depths of the nets don't fall
 pub record HasRisingDepths (net : NetworkParts) : Type 0 where

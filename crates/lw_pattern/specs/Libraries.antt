@@ -1,17 +1,8 @@
 -- The patterns of a library, and what its cells say of them.
 use Rattle.std.specs.Prelude.{ℕ, Bool, false, List, length, map, Option, Some, None, slice_get}
-use Rattle.lw_laws.specs.Covers.{Pattern}
 use Rattle.lw_laws.specs.Netlists.{CellTruth}
-use Rattle.lw_laws.specs.Expressions.{Expr}
-use Rattle.lw_laws.specs.Patterns.{patterns_of}
 use Rattle.lw_genlib.specs.Cells.{CellParts, cell_value}
-
-abbrev pub forms_of : CellParts → List Expr
-forms_of cell = cell.forms
-
--- by cells, their forms, and the bracketings of a form
-abbrev pub library_patterns : List CellParts → List Pattern
-library_patterns cells = patterns_of (map forms_of cells)
+pub use Rattle.lw_genlib.specs.Tables.{forms_of, library_patterns}
 
 abbrev pub pin_count : CellParts → ℕ
 pin_count cell = length cell.pins

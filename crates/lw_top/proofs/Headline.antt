@@ -1,5 +1,6 @@
 -- Where the answer to a mapping is a text it is that of a mapping, and where it names an output this has no cover.
-use Rattle.std.proofs.Common.{◌≡◌, inl, inr, ℕ, Bool, true, false, List, Option, Some, None, Result, Ok, Err, ap, sym, ◌∙◌, subst, if◌then◌else◌, arith}
+use Rattle.std.proofs.Common.{◌≡◌, ◌≤◌, inl, inr, ℕ, nat_le, length, leb-true, Bool, true, false, List, [], ◌∷◌, codes, Option, Some, None, Result, Ok, Err, is_some, refl, ap, sym, ◌∙◌, subst, if◌then◌else◌, arith}
+use Rattle.std.specs.Str.{bytes_eq}
 use Rattle.lw_io.specs.declared.file.File.{File}
 use Rattle.lw_io.specs.Files.{bytes_of}
 use Rattle.lw_blif.specs.declared.parsed.Parsed.{Parsed}
@@ -14,12 +15,16 @@ use Rattle.lw_top.specs.declared.refusal.Which.TheVariants as which
 use Rattle.lw_top.specs.declared.outcome.Outcome.{Outcome}
 use Rattle.lw_top.specs.declared.outcome.Outcome.TheVariants.{Done, WriteFault, Refused}
 use Rattle.lw_top.specs.Steps.{Files}
-use Rattle.lw_top.specs.Maps.{Maps}
+use Rattle.lw_mapped.specs.declared.certificate.Certificate.{Certificate}
+use Rattle.lw_top.specs.Maps.{IsAskedFor, Maps}
 use Rattle.lw_top.specs.Words.{Command, mapping, trading, command_of}
-use Rattle.lw_top.specs.Answers.{within_limit, text_of, ReadsLibrary, ReadsModel, asked_for, IsCommandAnswer, IsAnswer}
+use Rattle.lw_words.specs.Limits.{most_bytes}
+use Rattle.lw_blif.specs.BlifNetworks.{ComesTo, IsModelOf}
+use Rattle.lw_blif.specs.LineFaults.{FaultAt, first_fault, lines_read}
+use Rattle.lw_top.specs.Answers.{within_limit, text_of, lines_in, ReadsLibrary, ReadsModel, asked_for, IsCommandAnswer, IsAnswer}
 use Rattle.lw_top.specs.Outcome.{IsDone, Meets, outcome_status}
 use Rattle.lw_top.specs.Telling.{outcome_line, refusal_line}
-use Rattle.lw_top.specs.Mappings.{AsksForMapping, AsksForTables, AreRead, IsMappingText, LacksOutput}
+use Rattle.lw_top.specs.Mappings.{AsksForMapping, AsksForTables, IsMappingText, LacksOutput, SaysLibrary, SaysModel, map_words}
 use Rattle.lw_top.specs.Tabled.{AreTables}
 use Rattle.lw_top.specs.Trades.{Trades}
 use Rattle.lw_top.specs.Traded.{AsksForTrade, IsTrade, LacksTradedOutput}
@@ -67,13 +72,62 @@ asked-lacks : (words : List (List ℕ)) (files : Files) (name : List ℕ) → Is
 asked-lacks words files name (inl (c, is, comes)) = (c, asked_some (command_of words) c is, comes)
 asked-lacks words files name (inr (e, refused, is)) = absurd (words-stand (command_of words) name (refused ∙ ap (λ c. Err c) (cause e (NoCover name) is)))
 
-module _ (words : List (List ℕ)) (files : Files) (options : Options) (certified : Bool) (library network : List ℕ) (form : command_of words ≡ Some (mapping options certified library network)) where
+-- words of this form are the command's
+pub map_asked : (words : List (List ℕ)) (c : Command) → map_words words ≡ Some c → command_of words ≡ Some c
+map_asked [] c e = cc
+map_asked (name ∷ words) c e = by_name (bytes_eq name (codes "map")) e
+  where
+    by_name : {one other : Option Command} (t : Bool) → (if t then one else None) ≡ Some c → (if t then one else other) ≡ Some c
+    by_name true s = s
+    by_name false s = cc
+
+-- a file that is there, of at most so many bytes
+read-bytes : (w : Which) (name : List ℕ) (files : Files) (bytes : List ℕ) → text_of w name files ≡ Ok bytes → (files name ≡ Some bytes) × (length bytes ≤ most_bytes)
+unfolding text_of
+read-bytes w name files bytes e = by_file (files name) e
+  where
+    by_file : (o : Option (List ℕ)) → within_limit w o ≡ Ok bytes → (o ≡ Some bytes) × (length bytes ≤ most_bytes)
+    by_file None e = cc
+    by_file (Some text) e = by_length (nat_le (length text) most_bytes) refl e
+      where
+        by_length : (t : Bool) → nat_le (length text) most_bytes ≡ t → ◌≡◌ {A = Result (List ℕ) Refusal} (if t then Ok text else Err (TooLong w)) (Ok bytes) → (Some text ≡ Some bytes) × (length bytes ≤ most_bytes)
+        by_length true le e =
+            let same : text ≡ bytes = cc in
+            (ap Some same, subst (λ (b : List ℕ). length b ≤ most_bytes) same (leb-true (length text) most_bytes le))
+        by_length false le e = cc
+
+-- what is read is what the texts say
+says-library : (name : List ℕ) (files : Files) (cells : List CellParts) → ReadsLibrary name files (Ok cells) → SaysLibrary name files cells
+says-library name files cells (inl (bytes, there, says)) = let (at, few) = read-bytes which.Library name files bytes there in (bytes, at, few, says)
+says-library name files cells (inr (e, refused, is)) = cc
+
+says-model : (name : List ℕ) (files : Files) (model : Parsed) → ReadsModel name files (Ok model) → SaysModel name files model
+says-model name files model (inl (bytes, there, says)) = let (at, few) = read-bytes which.Network name files bytes there in (bytes, at, few, by_fault (first_fault [] (lines_read (lines_in bytes))) says)
+  where
+    by_fault : (f : Option FaultAt) → ComesTo f (lines_read (lines_in bytes)) (Ok model) → IsModelOf (lines_read (lines_in bytes)) model
+    by_fault None is = is
+    by_fault (Some f) is = absurd is
+says-model name files model (inr (e, refused, is)) = cc
+
+module _ (words : List (List ℕ)) (files : Files) (asks : AsksForMapping words) where
+  abbrev options : Options
+  options = asks.options
+
+  abbrev certified : Bool
+  certified = asks.certified
+
+  abbrev library : List ℕ
+  library = asks.library
+
+  abbrev network : List ℕ
+  network = asks.network
+
+  form : command_of words ≡ Some (mapping options certified library network)
+  form = map_asked words (mapping options certified library network) asks.form
+
   -- the library and the network were read
   abbrev IsMapped : Result (List ℕ) Refusal → Type 0
   IsMapped a = IsLast (ReadsLibrary library) (ReadsModel network) (λ (cells : List CellParts) (model : Parsed). Maps options certified cells model) files a
-
-  are-read : (a : Result (List ℕ) Refusal) (m : IsMapped a) → AreRead words files options certified m.a m.b
-  are-read a m = record { library_word = library; network_word = network; form = form; library = m.one; network = m.two }
 
   mapping-text : (text : List ℕ) → IsMapped (Ok text) → IsMappingText words files text
   mapping-text text m =
@@ -81,24 +135,30 @@ module _ (words : List (List ℕ)) (files : Files) (options : Options) (certifie
       let kept = model_kept network files m.b m.two in
       let lib = cells_kept library files m.a m.one in
       record {
-        options = options;
-        certified = certified;
+        asks = asks;
         cells = m.a;
         model = m.b;
         netlist = m.comes.netlist;
         certificate = m.comes.certificate;
-        read = are-read (Ok text) m;
+        library = says-library library files m.a m.one;
+        network = says-model network files m.b m.two;
         written = m.comes.written;
+        asked = told_where_asked certified m.comes.certificate m.comes.asked;
+        model_name = m.comes.is_mapped.model_name;
         frame = kept.fits.frame;
         starts = kept.fits.starts;
-        mapped = m.comes.is_mapped;
-        asked = m.comes.asked;
         mapping_is = mapped_is_mapping options m.a m.b.network m.b.starts wide kept.network kept.fits.starts.early lib m.comes.within.forms m.comes.netlist m.comes.is_mapped;
         names = mapped_has_names options m.a m.b.network m.b.starts wide kept.network kept.names_differ kept.fits.inputs kept.fits.outputs m.comes.netlist m.comes.is_mapped;
       }
+    where
+      told_where_asked : (b : Bool) (certificate : Option Certificate) → IsAskedFor options m.a m.b.network m.b.starts m.comes.netlist m.comes.is_mapped b certificate → is_some certificate ≡ b
+      told_where_asked false None asked = refl
+      told_where_asked true (Some certificate) asked = refl
+      told_where_asked true None asked = absurd asked
+      told_where_asked false (Some certificate) asked = absurd asked
 
   lacks-output : (name : List ℕ) → IsMapped (Err (NoCover name)) → LacksOutput words files name
-  lacks-output name m = record { options = options; certified = certified; cells = m.a; model = m.b; read = are-read (Err (NoCover name)) m; lacks = m.comes }
+  lacks-output name m = record { asks = asks; cells = m.a; model = m.b; library = says-library library files m.a m.one; network = says-model network files m.b m.two; lacks = m.comes }
 
   -- the command that was asked for is this one
   own-command : (c : Command) → command_of words ≡ Some c → c ≡ mapping options certified library network
@@ -156,7 +216,7 @@ module _ {O : Type 0} (words : List (List ℕ)) (told : Option (List File)) (bef
 
   -- a run that is done wrote the text of a mapping
   pub done-maps : AsksForMapping words → (o : Outcome) → Met o → (files : List File) → told ≡ Some files → 0 ≡ outcome_status o → (text : List ℕ) × IsMappingText words (bytes_of files) text × IsDone taken is_finished old new text
-  done-maps asks Done m files is e = (m.0, answer-mapped words (bytes_of files) asks.options asks.certified asks.library asks.network asks.form m.0 (m.1 files is), m.2)
+  done-maps asks Done m files is e = (m.0, answer-mapped words (bytes_of files) asks m.0 (m.1 files is), m.2)
   done-maps asks WriteFault m files is e = absurd (omega (arith, e))
   done-maps asks (Refused (NoCover name)) m files is e = absurd (omega (arith, e))
   done-maps asks (Refused other) m files is e = absurd (omega (arith, e))
@@ -172,7 +232,7 @@ module _ {O : Type 0} (words : List (List ℕ)) (told : Option (List File)) (bef
   pub named-lacks : AsksForMapping words → (o : Outcome) → Met o → said (outcome_line (command_of words) o) → (files : List File) → told ≡ Some files → 6 ≡ outcome_status o → (name : List ℕ) × LacksOutput words (bytes_of files) name × said (refusal_line (command_of words) (NoCover name))
   named-lacks asks Done m line files is e = absurd (omega (arith, e))
   named-lacks asks WriteFault m line files is e = absurd (omega (arith, e))
-  named-lacks asks (Refused (NoCover name)) m line files is e = (name, answer-lacks words (bytes_of files) asks.options asks.certified asks.library asks.network asks.form name (m.0 files is), line)
+  named-lacks asks (Refused (NoCover name)) m line files is e = (name, answer-lacks words (bytes_of files) asks name (m.0 files is), line)
   named-lacks asks (Refused other) m line files is e = absurd (omega (arith, e))
 
   -- a run that is done wrote the text of a netlist of least area

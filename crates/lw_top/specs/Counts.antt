@@ -5,7 +5,7 @@ use Rattle.lw_fixed.specs.Printed.{decimal_text}
 use Rattle.lw_laws.specs.Modes.Mode.{plain as plain_mode}
 use Rattle.lw_laws.specs.Graphs.{Graph, Pair}
 use Rattle.lw_laws.specs.Classes.{IsGraphOf}
-use Rattle.lw_laws.specs.Decompositions.{listing_of}
+use Rattle.lw_laws.specs.Listings.{listing_of}
 use Rattle.lw_laws.specs.Netlists.{AreArrivals}
 use Rattle.lw_laws.specs.Rounds.{labels_in}
 use Rattle.lw_net.specs.Networks.{NetworkParts}
