@@ -64,9 +64,8 @@ use Rattle.lw_answers.proofs.NetNames.{nets-named}
 use Rattle.lw_top.proofs.SignalNames.{IsNamed}
 use Rattle.lw_top.proofs.Sound.{AreKept}
 use Rattle.lw_words.specs.Words.{IsSignalName}
-use Rattle.lw_pool.specs.Numbers.{numbers}
+use Rattle.lw_pool.specs.Numbers.{numbers, net_number}
 use Rattle.lw_net.specs.Ports.{output_port, ports_of}
-use Rattle.lw_pool.specs.Numbers.{net_number}
 use Rattle.lw_assoc.proofs.Built.{pairs_bound}
 use Rattle.lw_frame.proofs.Each.{each-of}
 

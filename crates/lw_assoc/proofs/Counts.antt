@@ -9,10 +9,9 @@ use Rattle.lw_laws.specs.NumberedForms.{Base}
 use Rattle.lw_laws.specs.NumberedForms.Base.{base_true}
 use Rattle.lw_laws.specs.Forms.{Form, items}
 use Rattle.lw_laws.specs.Forms.Form.{var_form, true_form, not_form, and_form}
-use Rattle.lw_laws.specs.Occurring.{splits_at, splits_of, split_count}
+use Rattle.lw_laws.specs.Occurring.{splits_at, splits_of, split_count, occurring_forms}
 use Rattle.lw_laws.specs.Numbering.{number, numbered_base}
 use Rattle.lw_laws.specs.Networks.{Network}
-use Rattle.lw_laws.specs.Occurring.{occurring_forms}
 use Rattle.lw_laws.specs.Mapped.{forms_of}
 use Rattle.lw_assoc.specs.Splits.{base_splits, numbered_splits}
 

@@ -21,10 +21,9 @@ use Rattle.lw_blif.specs.LineFaults.{command, last_word, other_words, is_row_com
 use Rattle.lw_blif.specs.Drafts.{draft_of, nodes_of, node_of, row_of, columns_of, inputs_for, inputs_on, outputs_on, latch_of, latches_for, latches_on}
 use Rattle.lw_blif.specs.Readers.{whole_nodes, are_fresh, fault_else, names_fault_of}
 use Rattle.lw_blif.proofs.Appending.{fault_or_none}
-use Rattle.lw_frame.proofs.Once.{roots_differ}
+use Rattle.lw_frame.proofs.Once.{roots_differ, none-distinct}
 use Rattle.lw_frame.specs.Frames.{input_names, output_of}
 use Rattle.lw_blif.proofs.Differing.{distinct-fresh, in-two}
-use Rattle.lw_frame.proofs.Once.{none-distinct}
 use Rattle.lw_blif.proofs.NodesBehind.{nodes-parts, rows-ignored, node-ignored, whole-ignored, rows-row, node-row, whole-row, rows-other, node-other, whole-other}
 use Rattle.lw_blif.proofs.Keeping.{defined-more, names_fault-rules, fit-names, none-whole, none-defined, none-node, none-rows, map-push}
 use Rattle.lw_words.specs.Words.{front}

@@ -15,10 +15,10 @@ use Rattle.lw_laws.specs.Rounds.{labels_in}
 use Rattle.lw_laws.proofs.Extracts.{listed_at}
 use Rattle.lw_laws.proofs.RoundLaws.{match_in}
 use Rattle.lw_graph.specs.Graphs.{IsGraph}
-use Rattle.lw_match.specs.Coming.{IsPatternMatch}
-use Rattle.lw_match.specs.Least.{AreOfCells}
-use Rattle.lw_match.proofs.CellMatches.{of_cell, of_pattern}
-use Rattle.lw_label.proofs.Marked.{place_of}
+use Rattle.lw_cost.specs.Coming.{IsPatternMatch}
+use Rattle.lw_cost.specs.Least.{AreOfCells}
+use Rattle.lw_cost.proofs.CellMatches.{of_cell, of_pattern}
+use Rattle.lw_cost.proofs.MarksAsLabels.{place_of}
 use Rattle.lw_check.specs.Claims.{class_number}
 use Rattle.lw_check.specs.Failing.{IsMatchCost, Gives, IsAbove, IsFailing, IsFirstFailing}
 use Rattle.lw_check.specs.Least.{IsLeastOf, IsLate, IsLow, IsByPattern, CostsBy, IsLowMatch, lesser_of}

@@ -9,8 +9,8 @@ use Rattle.lw_laws.specs.Costs.{Cost}
 use Rattle.lw_laws.specs.Covers.{Pattern}
 use Rattle.lw_laws.specs.Extracts.{Match}
 use Rattle.lw_laws.specs.Graphs.{Graph}
-use Rattle.lw_match.specs.Coming.{AreMatches, IsPatternMatch}
-use Rattle.lw_match.specs.Least.{AreOfCells}
+use Rattle.lw_cost.specs.Coming.{AreMatches, IsPatternMatch}
+use Rattle.lw_cost.specs.Least.{AreOfCells}
 use Rattle.lw_dag.proofs.Rising.{contains_none}
 use Rattle.lw_check.specs.Claims.{class_number}
 use Rattle.lw_check.specs.Least.{CostsBy, IsLow, IsLowMatch}

@@ -11,7 +11,7 @@ use Rattle.lw_laws.specs.Graphs.{Stands}
 use Rattle.lw_laws.proofs.Extracts.{listed_at}
 use Rattle.lw_genlib.specs.Cells.{IsLibrary, IsListed}
 use Rattle.lw_genlib.specs.Tables.{cell_delays, delays_of_cells, millionths}
-use Rattle.lw_label.proofs.Marked.{place_of}
+use Rattle.lw_cost.proofs.MarksAsLabels.{place_of}
 use Rattle.lw_netlist.specs.declared.gate.Gate.{Gate}
 use Rattle.lw_netlist.specs.Plain.{HasCell}
 use Rattle.lw_mapped.specs.Texts.{net_name}

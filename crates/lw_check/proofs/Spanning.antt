@@ -8,7 +8,7 @@ use Rattle.lw_fixed.specs.declared.micro.Micro.{Micro}
 use Rattle.lw_genlib.specs.Cells.{CellParts}
 use Rattle.lw_genlib.specs.Tables.{cell_delays, delays_of_cells}
 use Rattle.lw_label.specs.Delays.{time_cost}
-use Rattle.lw_match.specs.Least.{AreOfCells}
+use Rattle.lw_cost.specs.Least.{AreOfCells}
 use Rattle.lw_check.specs.Spans.{HasCellsBelow}
 
 -- the cells of patterns are those of the library

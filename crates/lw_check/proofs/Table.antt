@@ -6,14 +6,14 @@ use Rattle.lw_laws.specs.Costs.{Cost}
 use Rattle.lw_laws.specs.Covers.{Pattern}
 use Rattle.lw_laws.specs.Marks.{Mark as PlainMark, costs_in}
 use Rattle.lw_laws.specs.Rounds.{labels_in}
-use Rattle.lw_match.specs.declared.mark.Best.{Best}
-use Rattle.lw_match.specs.declared.mark.Mark.{Mark}
+use Rattle.lw_cost.specs.declared.mark.Best.{Best}
+use Rattle.lw_cost.specs.declared.mark.Mark.{Mark}
 use Rattle.lw_match.specs.Cutting.{IsBeforeBound, IsLeastWithin}
-use Rattle.lw_match.specs.Least.{IsLeastMatch, IsPricedAt, plain_best}
-use Rattle.lw_match.specs.Values.{AreInRange, marks_in}
-use Rattle.lw_label.specs.Labels.{cost_in, costs_of}
+use Rattle.lw_cost.specs.Least.{IsLeastMatch, IsPricedAt, plain_best}
+use Rattle.lw_cost.specs.Values.{AreInRange, marks_in}
+use Rattle.lw_cost.specs.Labels.{cost_in, costs_of}
 use Rattle.lw_label.proofs.Falling.{at_most_cost, bounded_under, label_is_cost}
-use Rattle.lw_label.proofs.Marked.{labels_of_marks, marks_of_labels, priced, standing}
+use Rattle.lw_cost.proofs.MarksAsLabels.{labels_of_marks, marks_of_labels, priced, standing}
 use Rattle.lw_check.specs.Failing.{IsAbove, IsMatchCost}
 use Rattle.lw_check.specs.Least.{AreFlat, IsLeastOf, IsLow, flat_mark}
 use Rattle.lw_check.proofs.Failures.{at_most_not_above}

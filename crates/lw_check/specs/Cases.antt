@@ -1,7 +1,7 @@
 -- A claim in hand, what is asked of it, and what its tests tell.
 use Rattle.std.specs.Prelude.{◌≤◌, ◌≡◌, All, length, Option, None, Some}
 use Rattle.lw_genlib.specs.Cells.{IsSmall}
-use Rattle.lw_match.specs.Least.{AreOfCells}
+use Rattle.lw_cost.specs.Least.{AreOfCells}
 use Rattle.lw_netlist.specs.Netlists.{most_gates}
 use Rattle.lw_netlist.specs.Plain.{IsOver}
 use Rattle.lw_mapped.specs.Standing.{AreLabels}

@@ -3,7 +3,7 @@ use Rattle.std.specs.Prelude.{ℕ, ◌<◌, ◌⊎◌, Option, length}
 use Rattle.lw_laws.specs.Costs.{Cost}
 use Rattle.lw_laws.specs.Extracts.{Match}
 use Rattle.lw_laws.specs.Rounds.{labels_in}
-use Rattle.lw_match.specs.Least.{AreOfCells}
+use Rattle.lw_cost.specs.Least.{AreOfCells}
 use Rattle.lw_check.specs.declared.labelling.Labelling.{Labelling}
 use Rattle.lw_check.specs.declared.labelling.Trial.{Trial}
 use Rattle.lw_check.specs.declared.trial.Unbounded.{Unbounded}

@@ -10,10 +10,10 @@ use Rattle.lw_laws.specs.Extracts.{Match}
 use Rattle.lw_laws.specs.Laws.{IsLeafCost}
 use Rattle.lw_laws.specs.Mapped.{IsPotentialOf}
 use Rattle.lw_laws.specs.Rounds.{labels_in}
-use Rattle.lw_match.specs.Bounds.{AreBounds, BoundsFit, BoundsState}
-use Rattle.lw_match.specs.Least.{AreOfCells}
-use Rattle.lw_match.specs.Values.{AreInRange}
-use Rattle.lw_match.specs.declared.mark.Mark.{Mark}
+use Rattle.lw_bounds.specs.Bounds.{AreBounds, BoundsFit, BoundsState}
+use Rattle.lw_cost.specs.Least.{AreOfCells}
+use Rattle.lw_cost.specs.Values.{AreInRange}
+use Rattle.lw_cost.specs.declared.mark.Mark.{Mark}
 use Rattle.lw_check.specs.declared.trial.Unbounded.{Unbounded}
 use Rattle.lw_check.specs.Failing.{IsMatchCost, IsAbove, Gives, IsFirstFailing}
 

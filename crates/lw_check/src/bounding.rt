@@ -3,8 +3,8 @@ ghost use Rattle.std.specs.Prelude.{◌≡◌, ◌↔◌, ◌<◌, ◌≤◌, If
 ghost use Rattle.lw_laws.specs.Laws.{BoundsCovers};
 ghost use Rattle.lw_laws.specs.Mapped.{IsPotentialOf};
 ghost use Rattle.lw_laws.specs.Rounds.{labels_in};
-ghost use Rattle.lw_match.specs.Least.{AreOfCells};
-ghost use Rattle.lw_match.specs.Values.{plain_match};
+ghost use Rattle.lw_cost.specs.Least.{AreOfCells};
+ghost use Rattle.lw_cost.specs.Values.{plain_match};
 ghost use Rattle.lw_check.specs.Claims.{class_number};
 ghost use Rattle.lw_check.specs.Failing.{IsAbove, IsFirstFailing};
 ghost use Rattle.lw_check.specs.Labelling.{HasCells, HasPattern, IsCostBy, IsLateIn, IsLowBy, IsLowIn};
@@ -12,8 +12,9 @@ ghost use Rattle.lw_check.specs.Least.{IsLeastOf, ReadsLabels, lesser_of};
 ghost use Rattle.lw_pool.specs.Numbers.{numbers};
 
 use crate::labelling::{Labelling, Prices};
+use lw_cost::{Cost, Match};
+use lw_cursor::Cursor;
 use lw_graph::Graph;
-use lw_match::{Cost, Cursor, Match};
 use lw_pattern::Patterns;
 use lw_pool::ClassId;
 

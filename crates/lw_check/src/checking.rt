@@ -2,7 +2,7 @@
 ghost use Rattle.std.specs.Prelude.{◌≡◌, ◌≤◌, All, IfOk, length};
 ghost use Rattle.lw_genlib.specs.Cells.{IsSmall};
 ghost use Rattle.lw_label.specs.Delays.{time_cost};
-ghost use Rattle.lw_match.specs.Least.{AreOfCells};
+ghost use Rattle.lw_cost.specs.Least.{AreOfCells};
 ghost use Rattle.lw_netlist.specs.Netlists.{most_gates};
 ghost use Rattle.lw_netlist.specs.Plain.{IsOver};
 ghost use Rattle.lw_mapped.specs.Standing.{AreLabels};

@@ -14,7 +14,7 @@ use crate::Reason;
 use crate::case::Case;
 use crate::spans::{Span, spans_of};
 use crate::standing::class_of_pattern;
-use lw_match::Pins;
+use lw_cost::Pins;
 use lw_netlist::Gate;
 use lw_pool::{CellId, ClassId, Name, NetId, PatId};
 use std::alloc::{AllocError, Global};

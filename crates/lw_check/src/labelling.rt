@@ -1,10 +1,11 @@
 // Labels that are tested, and the prices that they are tested by.
 ghost use Rattle.std.specs.Prelude.{◌≡◌, length};
-ghost use Rattle.lw_label.specs.Labels.{costs_of};
+ghost use Rattle.lw_cost.specs.Labels.{costs_of};
 ghost use Rattle.lw_check.specs.Least.{AreFlat};
 
+use lw_bounds::Bounds;
+use lw_cost::Mark;
 use lw_graph::Graph;
-use lw_match::{Bounds, Mark};
 use lw_pattern::Patterns;
 
 /// The patterns of cells, and what inputs and cells cost.

@@ -12,10 +12,11 @@ use crate::Reason;
 use crate::case::Case;
 use crate::labelling::{Labelling, Prices, Trial};
 use crate::trial::Unbounded;
+use lw_bounds::Bounds;
+use lw_cost::{Cost, Mark};
 use lw_fixed::Micro;
 use lw_graph::Graph;
 use lw_label::DelayCost;
-use lw_match::{Bounds, Cost, Mark};
 use lw_pool::ClassId;
 use std::alloc::{AllocError, Global};
 

@@ -7,7 +7,8 @@ ghost use Rattle.lw_check.specs.Least.{IsLeastOf};
 use crate::bounding::earlier;
 use crate::labelling::Trial;
 use crate::labels::{least_input, lesser};
-use lw_match::{Cost, least_within};
+use lw_cost::Cost;
+use lw_match::least_within;
 use lw_pool::ClassId;
 
 /// A class whose label is no bound, and the least that an input of it or a match at it costs.

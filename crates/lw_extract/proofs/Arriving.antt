@@ -14,12 +14,12 @@ use Rattle.lw_fixed.specs.declared.micro.Micro.{Micro}
 use Rattle.lw_genlib.specs.Cells.{CellParts, IsLibrary, IsSmall}
 use Rattle.lw_genlib.specs.Tables.{timing_of}
 use Rattle.lw_graph.specs.Graphs.{IsGraph}
-use Rattle.lw_match.specs.declared.mark.Mark.{Mark}
-use Rattle.lw_match.specs.Least.{AreOfCells}
+use Rattle.lw_cost.specs.declared.mark.Mark.{Mark}
+use Rattle.lw_cost.specs.Least.{AreOfCells}
 use Rattle.lw_label.specs.Delays.{most_time, time_cost}
-use Rattle.lw_label.specs.Labels.{AreLeastMarks}
+use Rattle.lw_cost.specs.Labels.{AreLeastMarks}
 use Rattle.lw_label.proofs.Low.{labels_below_cap}
-use Rattle.lw_label.proofs.Marked.{patterns_of_cells}
+use Rattle.lw_cost.proofs.MarksAsLabels.{patterns_of_cells}
 use Rattle.lw_netlist.specs.Plain.{plain}
 use Rattle.lw_extract.specs.declared.ports.Ports.{Ports}
 use Rattle.lw_extract.specs.declared.ports.Cover.{Cover as Extracted}

@@ -17,9 +17,9 @@ use Rattle.lw_laws.specs.Extracts.IsNeeded.{by_root, by_pin}
 use Rattle.lw_laws.proofs.ExtractLaws.{gate_once}
 use Rattle.lw_laws.proofs.Extracts.{extracted_ordered}
 use Rattle.lw_laws.proofs.Numbers.{slice_get_map, slice_get_map_back}
-use Rattle.lw_match.specs.declared.mark.Mark.{Mark}
-use Rattle.lw_match.specs.Values.{plain_match}
-use Rattle.lw_label.specs.Labels.{cost_in}
+use Rattle.lw_cost.specs.declared.mark.Mark.{Mark}
+use Rattle.lw_cost.specs.Values.{plain_match}
+use Rattle.lw_cost.specs.Labels.{cost_in}
 use Rattle.lw_genlib.specs.Cells.{CellParts, IsLibrary, IsListed}
 use Rattle.lw_genlib.specs.Tables.{cell_delays, delays_of_cells, millionths}
 use Rattle.lw_netlist.specs.declared.gate.Gate.{Gate}

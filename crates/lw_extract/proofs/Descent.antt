@@ -17,9 +17,9 @@ use Rattle.lw_naming.specs.declared.places.Place.{Place}
 use Rattle.lw_naming.specs.Needed.{IsNoted, AreNoted, AreRoots, HasAlso}
 use Rattle.lw_naming.specs.Places.{IsPlaceBefore}
 use Rattle.lw_naming.proofs.Noting.{still_noted}
-use Rattle.lw_match.specs.declared.mark.Mark.{Mark}
-use Rattle.lw_match.specs.declared.mark.Match.{Match}
-use Rattle.lw_match.specs.Values.{plain_match}
+use Rattle.lw_cost.specs.declared.mark.Mark.{Mark}
+use Rattle.lw_cost.specs.declared.mark.Match.{Match}
+use Rattle.lw_cost.specs.Values.{plain_match}
 use Rattle.lw_extract.specs.declared.choosing.Chosen.{Chosen}
 use Rattle.lw_extract.specs.Choosing.{labels, heights, chosen_classes, AreChosen, IsChoice}
 use Rattle.lw_extract.specs.Nets.{AreInputNets}

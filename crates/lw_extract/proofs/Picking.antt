@@ -15,13 +15,13 @@ use Rattle.lw_laws.specs.Choices.{Labels, HaveLabels, IsPotential, IsHeight}
 use Rattle.lw_laws.specs.Priced.{IsPriced, AreMarks}
 use Rattle.lw_laws.specs.Extracts.{IsChosen, IsLeafClass}
 use Rattle.lw_laws.proofs.MarkLaws.{priced_above, supports_priced, some_supports, least_chosen}
-use Rattle.lw_match.specs.declared.mark.Mark.{Mark}
-use Rattle.lw_match.specs.declared.mark.Best.{Best}
-use Rattle.lw_match.specs.Values.{marks_in, plain_mark, plain_match}
-use Rattle.lw_match.specs.Least.{Priced, IsPricedAt, IsLeastMatch, IsLeastBelow, IsMarkBefore}
+use Rattle.lw_cost.specs.declared.mark.Mark.{Mark}
+use Rattle.lw_cost.specs.declared.mark.Best.{Best}
+use Rattle.lw_cost.specs.Values.{marks_in, plain_mark, plain_match}
+use Rattle.lw_cost.specs.Least.{Priced, IsPricedAt, IsLeastMatch, IsLeastBelow, IsMarkBefore}
 use Rattle.lw_match.specs.Picks.{IsLastBefore, AreLastBefore}
-use Rattle.lw_label.specs.Labels.{AreLeastMarks}
-use Rattle.lw_label.proofs.Marked.{label_at, mark_of_label}
+use Rattle.lw_cost.specs.Labels.{AreLeastMarks}
+use Rattle.lw_cost.proofs.MarksAsLabels.{label_at, mark_of_label}
 use Rattle.lw_extract.specs.Choosing.{labels, heights, RootsHaveMarks, IsChoice}
 use Rattle.lw_extract.proofs.ClassNets.{some_of}
 use Rattle.lw_pool.specs.Numbers.{numbers}

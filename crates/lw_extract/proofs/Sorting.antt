@@ -10,7 +10,7 @@ use Rattle.lw_pool.specs.declared.id.NetId.{NetId}
 use Rattle.lw_naming.specs.declared.places.Place.{Place}
 use Rattle.lw_naming.specs.Places.{IsPlaceBefore, AreInDepthOrder}
 use Rattle.lw_naming.proofs.Sorting.{AreInOrderBelow, in_order_push, in_order_skip}
-use Rattle.lw_match.specs.declared.mark.Mark.{Mark}
+use Rattle.lw_cost.specs.declared.mark.Mark.{Mark}
 use Rattle.lw_extract.specs.Orders.{ArePlaces, AreMarked}
 
 module _ (nets : List (Option NetId)) (marks : List (Option Mark)) where

@@ -8,10 +8,10 @@ use Rattle.lw_laws.specs.Choices.{Labels}
 use Rattle.lw_laws.specs.Marks.{heights_of}
 use Rattle.lw_laws.specs.Rounds.{labels_in}
 use Rattle.lw_laws.specs.Extracts.{IsChosen, AreGateClasses}
-use Rattle.lw_match.specs.declared.mark.Mark.{Mark}
-use Rattle.lw_match.specs.declared.mark.Match.{Match}
-use Rattle.lw_match.specs.Values.{marks_in, plain_match}
-use Rattle.lw_label.specs.Labels.{costs_of}
+use Rattle.lw_cost.specs.declared.mark.Mark.{Mark}
+use Rattle.lw_cost.specs.declared.mark.Match.{Match}
+use Rattle.lw_cost.specs.Values.{marks_in, plain_match}
+use Rattle.lw_cost.specs.Labels.{costs_of}
 use Rattle.lw_extract.specs.declared.choosing.Chosen.{Chosen}
 use Rattle.lw_pool.specs.Numbers.{numbers}
 

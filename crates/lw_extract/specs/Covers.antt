@@ -11,9 +11,9 @@ use Rattle.lw_laws.specs.Netlists.{AreArrivals, AreNetCosts}
 use Rattle.lw_laws.specs.Extracts.{AreGateClasses, HaveLeafLabels, IsExtracted, IsNetOf}
 use Rattle.lw_genlib.specs.Cells.{CellParts}
 use Rattle.lw_genlib.specs.Tables.{delays_of_cells, timing_of}
-use Rattle.lw_match.specs.declared.mark.Mark.{Mark}
-use Rattle.lw_match.specs.Least.{AreOfCells}
-use Rattle.lw_label.specs.Labels.{AreLeastMarks}
+use Rattle.lw_cost.specs.declared.mark.Mark.{Mark}
+use Rattle.lw_cost.specs.Least.{AreOfCells}
+use Rattle.lw_cost.specs.Labels.{AreLeastMarks}
 use Rattle.lw_netlist.specs.declared.gate.Port.{Port}
 use Rattle.lw_netlist.specs.Plain.{IsOver, plain}
 use Rattle.lw_extract.specs.declared.ports.Ports.{Ports}

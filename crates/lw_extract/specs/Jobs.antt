@@ -3,9 +3,9 @@ use Rattle.std.specs.Prelude.{ℕ, ◌<◌, ◌≡◌, List, length, Option, Som
 use Rattle.lw_laws.specs.Graphs.{Graph}
 use Rattle.lw_laws.specs.Costs.{Cost}
 use Rattle.lw_laws.specs.Extracts.{IsLeafClass}
-use Rattle.lw_match.specs.declared.mark.Mark.{Mark}
-use Rattle.lw_match.specs.declared.mark.Match.{Match}
-use Rattle.lw_match.specs.Bounds.{AreBounds, BoundsFit, BoundsState}
+use Rattle.lw_cost.specs.declared.mark.Mark.{Mark}
+use Rattle.lw_cost.specs.declared.mark.Match.{Match}
+use Rattle.lw_bounds.specs.Bounds.{AreBounds, BoundsFit, BoundsState}
 use Rattle.lw_extract.specs.declared.job.Job.{Job}
 use Rattle.lw_extract.specs.declared.choosing.Chosen.{Chosen}
 use Rattle.lw_extract.specs.declared.ports.Cover.{Cover}

@@ -1,7 +1,7 @@
 -- Classes by height and then number.
 use Rattle.std.specs.Prelude.{ℕ, ◌≡◌, List, Contains, Option, Some, None, slice_index_or}
 use Rattle.lw_pool.specs.declared.id.NetId.{NetId}
-use Rattle.lw_match.specs.declared.mark.Mark.{Mark}
+use Rattle.lw_cost.specs.declared.mark.Mark.{Mark}
 use Rattle.lw_naming.specs.declared.places.Place.{Place}
 use Rattle.lw_naming.specs.Places.{AreInClassOrder, AreInDepthOrder}
 

@@ -7,7 +7,9 @@ ghost use Rattle.lw_extract.specs.Nets.{AreInputNets};
 
 use crate::job::Job;
 use crate::ordering::by_height;
-use lw_match::{Bounds, Cost, Mark, Match, Tops, least_before};
+use lw_bounds::Bounds;
+use lw_cost::{Cost, Mark, Match};
+use lw_match::{Tops, least_before};
 use lw_naming::{Place, need, needed_by};
 use lw_pool::{ClassId, NetId};
 use std::alloc::{AllocError, Global};

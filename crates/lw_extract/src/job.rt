@@ -1,8 +1,8 @@
 // What a netlist is extracted from.
 use crate::Ports;
+use lw_cost::Mark;
 use lw_genlib::Library;
 use lw_graph::Graph;
-use lw_match::Mark;
 use lw_pattern::Patterns;
 
 /// What a cover is made from: the labels of a graph's classes by patterns of a library's cells, and

@@ -1,9 +1,8 @@
 -- The list of base forms as places in a table, and the steps by which a form is added to it.
 use Rattle.std.specs.Prelude.{ℕ, ◌+◌, ◌/◌, ◌<◌, ◌≤◌, ◌≡◌, ◌≢◌, List, [], ◌∷◌, ◌++◌, map, length, Some, slice_get, slice_index_or, Result, OnOk, IfErr}
-use Rattle.lw_laws.specs.Forms.{Form, FormList}
+use Rattle.lw_laws.specs.Forms.{Form, FormList, items}
 use Rattle.lw_laws.specs.Forms.Form.{var_form, true_form, not_form, and_form}
 use Rattle.lw_laws.specs.Forms.FormList.{no_forms, more_forms}
-use Rattle.lw_laws.specs.Forms.{items}
 use Rattle.lw_laws.specs.Occurring.{sublists, append_parts, add_form}
 use Rattle.lw_laws.specs.SignalValues.{form_of}
 use Rattle.lw_form.specs.declared.fault.FormFault.{FormFault}

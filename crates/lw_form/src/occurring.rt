@@ -1,6 +1,6 @@
 // The forms of the nets of a network, and the list of what occurs in them.
 ghost use Rattle.std.specs.Prelude.{◌≡◌, ◌<◌, ◌≤◌, ◌++◌, [], ◌∷◌, List, map, length, All, IfOk, IfErr, OnOk, slice_index_or};
-ghost use Rattle.lw_pool.specs.Numbers.{most_signals};
+ghost use Rattle.lw_pool.specs.Numbers.{most_signals, net_number};
 ghost use Rattle.lw_net.specs.Plain.{plain, plain_node};
 ghost use Rattle.lw_net.specs.Signs.{asked};
 ghost use Rattle.lw_laws.specs.Forms.Form.{true_form};
@@ -12,7 +12,6 @@ ghost use Rattle.lw_form.specs.Listed.{base_at, HasListed, IsTooLong};
 ghost use Rattle.lw_form.specs.Nets.{signal_at, AddsSignals, AreBothForms, CanAddNet, CanAddNode, CanAddNodes, HasNoNets, HasSignals, IsSignalFault};
 ghost use Rattle.lw_form.specs.Products.{AreRowsOver};
 ghost use Rattle.lw_form.specs.Tables.{made};
-ghost use Rattle.lw_pool.specs.Numbers.{net_number};
 
 use crate::factoring::have_shared;
 use crate::listing::{Listing, Step};

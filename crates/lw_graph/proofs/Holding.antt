@@ -7,9 +7,8 @@ use Rattle.lw_facts.proofs.Numbers.{min_max_cases}
 use Rattle.lw_laws.specs.Graphs.{Graph as PlainGraph, Pair as PlainPair, AreRising, HoldsPair}
 use Rattle.lw_pool.specs.declared.id.ClassId.{ClassId}
 use Rattle.lw_graph.specs.declared.pair.Pair.{Pair}
-use Rattle.lw_graph.specs.Graphs.{plain_graph, plain_pair, plain_row}
+use Rattle.lw_graph.specs.Graphs.{plain_graph, plain_pair, plain_row, IsGraph, flat_graph}
 use Rattle.lw_graph.specs.Ordered.{ordered_pair}
-use Rattle.lw_graph.specs.Graphs.{IsGraph, flat_graph}
 use Rattle.lw_graph.specs.Index.{IsIndex, entry_of}
 use Rattle.lw_graph.specs.Rows.{rows_from}
 use Rattle.lw_graph.specs.declared.index.Entry.{Entry}

@@ -12,8 +12,8 @@ use Rattle.lw_laws.proofs.Lists.{all_map}
 use Rattle.lw_genlib.specs.Cells.{CellParts, IsListed, IsLibrary, IsSmall}
 use Rattle.lw_genlib.specs.Tables.{millionths, cell_delays, delays_of_cells, timing_of, truth_in, truth_of_cells}
 use Rattle.lw_pattern.specs.Libraries.{forms_of, pin_counts, value_of, library_patterns, library_truth}
-use Rattle.lw_match.specs.Least.{AreOfCells}
-use Rattle.lw_match.proofs.OfCells.{of_cells}
+use Rattle.lw_cost.specs.Least.{AreOfCells}
+use Rattle.lw_cost.proofs.OfCells.{of_cells}
 
 -- a cell has a delay for each pin
 delay_counts : (cells : List CellParts) → AllByRecursion IsListed cells → map length (delays_of_cells cells) ≡ pin_counts cells

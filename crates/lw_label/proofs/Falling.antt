@@ -15,18 +15,18 @@ use Rattle.lw_graph.specs.Graphs.{IsGraph}
 use Rattle.lw_laws.proofs.Rounds.{total_weight_falls}
 use Rattle.lw_laws.proofs.RoundLaws.{lowered_sound, values_capped, match_in}
 use Rattle.std.proofs.lemmas.Option.{same_Some}
-use Rattle.lw_match.specs.declared.mark.Best.{Best}
-use Rattle.lw_match.specs.declared.mark.Mark.{Mark}
-use Rattle.lw_match.specs.Values.{plain_mark, marks_in}
-use Rattle.lw_match.specs.Bounds.{BoundsState, BoundsFit, AreBounds, AreSettledAt, bounds_weight}
+use Rattle.lw_cost.specs.declared.mark.Best.{Best}
+use Rattle.lw_cost.specs.declared.mark.Mark.{Mark}
+use Rattle.lw_cost.specs.Values.{plain_mark, marks_in}
+use Rattle.lw_bounds.specs.Bounds.{BoundsState, BoundsFit, AreBounds, AreSettledAt, bounds_weight}
 use Rattle.lw_match.specs.Cutting.{IsBeforeBound, IsLeastWithin}
-use Rattle.lw_match.specs.Least.{Priced, plain_best, IsPricedAt, IsPricedAtMost, IsLeastMatch}
-use Rattle.lw_match.proofs.Settled.{settled_bounds_are_bounds}
-use Rattle.lw_label.specs.Labels.{cost_in, costs_of}
+use Rattle.lw_cost.specs.Least.{Priced, plain_best, IsPricedAt, IsPricedAtMost, IsLeastMatch}
+use Rattle.lw_bounds.proofs.Settled.{settled_bounds_are_bounds}
+use Rattle.lw_cost.specs.Labels.{cost_in, costs_of}
 use Rattle.lw_label.specs.Lowering.{AreLowering, LabelState, state, state_weight, weight, IsBounded, IsLabelled, Lowers, Takes}
 use Rattle.lw_label.specs.Passes.{Passes}
 use Rattle.lw_label.proofs.Passing.{passes_lower}
-use Rattle.lw_label.proofs.Marked.{label_of_mark, labels_of_marks, marks_of_labels, costs_set, mark_set_same, mark_set_other, priced, standing}
+use Rattle.lw_cost.proofs.MarksAsLabels.{label_of_mark, labels_of_marks, marks_of_labels, costs_set, mark_set_same, mark_set_other, priced, standing}
 
 pub not_below : (m n : ℕ) → (m < n → ⊥) → n ≤ m
 not_below m n not = cases (dec_lt m n)

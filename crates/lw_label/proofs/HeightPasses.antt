@@ -17,18 +17,18 @@ use Rattle.lw_laws.proofs.Heights.{IsWithin_more}
 use Rattle.lw_laws.proofs.RoundLaws.{bounded_least, labels_capped, match_in}
 use Rattle.lw_laws.proofs.LabelLaws.{class_height}
 use Rattle.lw_graph.specs.Graphs.{IsGraph}
-use Rattle.lw_match.specs.declared.mark.Best.{Best}
-use Rattle.lw_match.specs.declared.mark.Mark.{Mark}
-use Rattle.lw_match.specs.Values.{plain_mark, marks_in, AreInRange}
-use Rattle.lw_match.specs.Bounds.{BoundsState, AreBounds}
-use Rattle.lw_match.proofs.Settled.{bounds_of_fewer}
-use Rattle.lw_match.specs.Cutting.{IsFloor}
-use Rattle.lw_match.specs.Least.{Priced, plain_best, IsPricedAt, IsMarkBefore, IsLeastBelow}
-use Rattle.lw_label.specs.Labels.{cost_in, costs_of, AreLeastMarks}
+use Rattle.lw_cost.specs.Values.{marks_in, plain_mark, AreInRange}
+use Rattle.lw_cost.specs.declared.mark.Mark.{Mark}
+use Rattle.lw_cost.specs.Labels.{marked, AreLeastMarks, cost_in, costs_of}
+use Rattle.lw_label.specs.Heights.{height_weight, heights_weight, AreHeightMarks, HasHeightAtMost, IsReached, IsWithinSteps, LowersHeights, TakesHeight, height_limit}
+use Rattle.lw_bounds.specs.Bounds.{AreBounds, BoundsState}
 use Rattle.lw_label.specs.Lowering.{AreLowering}
-use Rattle.lw_label.specs.Heights.{IsWithinSteps, HasHeightAtMost, marked, AreHeightMarks, height_weight, height_limit, heights_weight, IsReached, LowersHeights, TakesHeight}
-use Rattle.lw_label.proofs.Marked.{label_at, label_of_mark, mark_of_label, mark_set_same, mark_set_other, priced, standing}
-use Rattle.lw_label.proofs.Falling.{not_below, graph_classes}
+use Rattle.lw_cost.specs.declared.mark.Best.{Best}
+use Rattle.lw_match.specs.Cutting.{IsFloor}
+use Rattle.lw_cost.specs.Least.{IsLeastBelow, IsMarkBefore, IsPricedAt, Priced, plain_best}
+use Rattle.lw_bounds.proofs.Settled.{bounds_of_fewer}
+use Rattle.lw_label.proofs.Falling.{graph_classes, not_below}
+use Rattle.lw_cost.proofs.MarksAsLabels.{label_at, label_of_mark, mark_of_label, mark_set_other, mark_set_same, marked_more, marked_most, priced, standing}
 
 pub none_marked : (n c : ℕ) (m : PlainMark) → marks_in (replicate n None) c ≡ Some m → ⊥
 none_marked zero c m e = absurd (none-some m e)
@@ -46,23 +46,6 @@ same_lists [] [] e at = refl
 same_lists [] (y ∷ ys) e at = absurd (omega arith)
 same_lists (x ∷ xs) [] e at = absurd (omega arith)
 same_lists (x ∷ xs) (y ∷ ys) e at = ap₂ (λ a as'. a ∷ as') (at 0) (same_lists xs ys (omega arith) (λ i. at (suc i)))
-
--- Numbers of marks and of heights.
-
-pub marked_most : (marks : List (Option Mark)) → marked marks ≤ length marks
-marked_most [] = omega arith
-marked_most (None ∷ marks) = let ih = marked_most marks in omega arith
-marked_most (Some m ∷ marks) = let ih = marked_most marks in omega arith
-
--- a class without a mark gets one
-pub marked_more : (marks : List (Option Mark)) (c : ℕ) (new : Mark) → c < length marks → slice_index_or marks c None ≡ None → marked (slice_set marks c (Some new)) ≡ marked marks + 1
-marked_more (None ∷ marks) zero new below e = let one : suc (marked marks) ≡ marked marks + 1 = omega arith in one
-marked_more (Some m ∷ marks) zero new below e = absurd (none-some m (sym e))
-marked_more (None ∷ marks) (suc c) new below e = marked_more marks c new (omega arith) e
-marked_more (Some m ∷ marks) (suc c) new below e =
-    let ih : marked (slice_set marks c (Some new)) ≡ marked marks + 1 = marked_more marks c new (omega arith) e in
-    let one : suc (marked (slice_set marks c (Some new))) ≡ suc (marked marks) + 1 = omega (arith, ih) in one
-marked_more [] c new below e = absurd (omega arith)
 
 -- a class with a mark gets another
 pub marked_same : (marks : List (Option Mark)) (c : ℕ) (old new : Mark) → slice_index_or marks c None ≡ Some old → marked (slice_set marks c (Some new)) ≡ marked marks

@@ -6,13 +6,13 @@ use Rattle.lw_laws.specs.Graphs.{Graph}
 use Rattle.lw_laws.specs.Costs.{Cost}
 use Rattle.lw_laws.specs.Covers.{Pattern}
 use Rattle.lw_graph.specs.Graphs.{IsGraph}
-use Rattle.lw_match.specs.declared.heights.HeightBounds.{HeightBounds}
-use Rattle.lw_match.specs.declared.mark.Mark.{Mark}
-use Rattle.lw_match.specs.Shapes.{AreClosed}
-use Rattle.lw_match.specs.Bounds.{AreSettledAt, BoundsState, IsTableBut}
+use Rattle.lw_bounds.specs.declared.heights.HeightBounds.{HeightBounds}
+use Rattle.lw_cost.specs.declared.mark.Mark.{Mark}
+use Rattle.lw_bounds.specs.Shapes.{AreClosed}
+use Rattle.lw_bounds.specs.Bounds.{AreSettledAt, BoundsState, IsTableBut}
 use Rattle.lw_match.specs.Cutting.{TopsState}
-use Rattle.lw_match.specs.HeightBounds.{AreFlat, AreHeightBounds, height_mark, heights_of}
-use Rattle.lw_match.proofs.Tables.{but_same, fits_but, lowered_settled, settled_low}
+use Rattle.lw_bounds.specs.HeightBounds.{AreFlat, AreHeightBounds, height_mark, heights_of}
+use Rattle.lw_bounds.proofs.Tables.{but_same, fits_but, lowered_settled, settled_low}
 use Rattle.lw_label.specs.declared.heights.Given.{Given}
 use Rattle.lw_label.specs.Heights.{AreSameBut, AreStill, IsHeightSearch, IsReachedFrom}
 use Rattle.lw_label.specs.HeightTables.{AreHeightsFalling, HasHeightsOf, IsHeightTable, IsNewTable, IsTableAround, with_heights}

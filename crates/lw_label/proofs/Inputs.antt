@@ -9,11 +9,11 @@ use Rattle.lw_laws.specs.Covers.{Pattern}
 use Rattle.lw_laws.specs.Marks.{Mark as PlainMark}
 use Rattle.lw_laws.specs.Laws.{IsLeafCost}
 use Rattle.lw_laws.proofs.RoundLaws.{first_sound}
-use Rattle.lw_match.specs.declared.mark.Mark.{Mark}
-use Rattle.lw_match.specs.Values.{plain_mark, marks_in}
-use Rattle.lw_label.specs.Labels.{costs_of}
+use Rattle.lw_cost.specs.declared.mark.Mark.{Mark}
+use Rattle.lw_cost.specs.Values.{plain_mark, marks_in}
+use Rattle.lw_cost.specs.Labels.{costs_of}
 use Rattle.lw_label.specs.Lowering.{AreLowering, HasCostAtMost, IsLowerOf}
-use Rattle.lw_label.proofs.Marked.{label_of_mark, mark_of_label, mark_set_same, mark_set_other}
+use Rattle.lw_cost.proofs.MarksAsLabels.{label_of_mark, mark_of_label, mark_set_same, mark_set_other}
 
 -- The first inputs have given their classes their costs.
 pub record AreInputs (g : Graph) (cost : Cost) (count : ℕ) (marks : List (Option Mark)) : Type 0 where

@@ -11,12 +11,12 @@ use Rattle.lw_laws.proofs.NetlistOf.{least_costs_bound}
 use Rattle.lw_genlib.specs.Cells.{CellParts, IsLibrary, IsSmall}
 use Rattle.lw_genlib.specs.Tables.{timing_of}
 use Rattle.lw_graph.specs.Graphs.{IsGraph}
-use Rattle.lw_match.specs.declared.mark.Mark.{Mark}
-use Rattle.lw_match.specs.Least.{AreOfCells}
+use Rattle.lw_cost.specs.declared.mark.Mark.{Mark}
+use Rattle.lw_cost.specs.Least.{AreOfCells}
 use Rattle.lw_label.specs.Delays.{most_time, time_cost}
-use Rattle.lw_label.specs.Labels.{cost_in, costs_of, AreLeastMarks}
+use Rattle.lw_cost.specs.Labels.{cost_in, costs_of, AreLeastMarks}
 use Rattle.lw_label.proofs.CellLaws.{timing_up}
-use Rattle.lw_label.proofs.Marked.{cover_problem}
+use Rattle.lw_cost.proofs.MarksAsLabels.{cover_problem}
 
 module _ (g : Graph) (cells : List CellParts) (starts : List Micro) (pats : List Pattern) (marks : List (Option Mark)) (graph : IsGraph g) (lib : IsLibrary cells) (small : All IsSmall starts) (of_cells : AreOfCells (time_cost cells starts).pin_counts pats) where
   -- each label is below a million units for each class and one more

@@ -14,22 +14,23 @@ use Rattle.lw_laws.specs.Marks.{Mark as PlainMark, HaveMarks, costs_in}
 use Rattle.lw_laws.specs.Rounds.{labels_in}
 use Rattle.lw_laws.specs.Laws.{IsCoverProblem}
 use Rattle.lw_graph.specs.Graphs.{IsGraph}
-use Rattle.lw_match.specs.declared.mark.Best.{Best}
-use Rattle.lw_match.specs.declared.mark.Mark.{Mark}
-use Rattle.lw_match.specs.Values.{plain_mark, marks_in}
-use Rattle.lw_match.specs.Shapes.{AreClosed}
-use Rattle.lw_match.specs.Bounds.{AreBounds, AreRows, AreSettledAt, AreZero, BoundsFit, BoundsState, IsTableBut}
+use Rattle.lw_cost.specs.declared.mark.Best.{Best}
+use Rattle.lw_cost.specs.declared.mark.Mark.{Mark}
+use Rattle.lw_cost.specs.Values.{plain_mark, marks_in}
+use Rattle.lw_bounds.specs.Shapes.{AreClosed}
+use Rattle.lw_bounds.specs.Bounds.{AreBounds, AreRows, AreSettledAt, AreZero, BoundsFit, BoundsState, IsTableBut}
 use Rattle.lw_match.specs.Cutting.{AreKnown, IsLeastWithin, TopsState, bound_below}
-use Rattle.lw_match.specs.Least.{AreOfCells}
-use Rattle.lw_match.proofs.Marked.{each_cost, length-costs as length-costs_in, length-marks}
-use Rattle.lw_match.proofs.Settled.{settled_bounds_are_bounds}
-use Rattle.lw_match.proofs.Tables.{but_same, fits_but, lowered_settled, settled_kept, settled_low, zero_or_bare, zero_settled}
-use Rattle.lw_label.specs.Labels.{cost_in, costs_of}
+use Rattle.lw_cost.specs.Least.{AreOfCells}
+use Rattle.lw_cost.proofs.Marked.{each_cost, length-costs as length-costs_in, length-marks}
+use Rattle.lw_bounds.proofs.Settled.{settled_bounds_are_bounds}
+use Rattle.lw_bounds.proofs.Tables.{but_same, fits_but, lowered_settled, settled_kept, settled_low, zero_or_bare, zero_settled}
+use Rattle.lw_cost.specs.Labels.{cost_in, costs_of}
 use Rattle.lw_label.specs.Heights.{AreSameBut}
 use Rattle.lw_label.specs.Lowering.{AreLowering, IsBounded, IsLabelled, LabelState, state}
 use Rattle.lw_label.specs.OneVisit.{AreBoundsAround, AreFalling, AreLabelsStill, ArePartsElsewhere, AreSetAt, AreSought, AreZeroOrSettled, IsFirstRound, IsNoCheaper, IsRound, IsRoundAfter, IsSameBut, IsSearch, IsSearchAround, IsZeroAt, with_label}
 use Rattle.lw_label.specs.Orders.{ArePartsStill, AreVisitsAfter, IsReady, IsStillAfter, IsStillAt, VisitState, places_of}
-use Rattle.lw_label.proofs.Marked.{label_of_mark, labels_of_marks, lowering_in_range, mark_set_same, marks_of_labels, priced}
+use Rattle.lw_cost.proofs.MarksAsLabels.{label_of_mark, labels_of_marks, mark_set_same, marks_of_labels, priced}
+use Rattle.lw_label.proofs.Marked.{lowering_in_range}
 use Rattle.lw_label.proofs.Falling.{bounded_under, label_is_cost, not_below}
 use Rattle.lw_label.proofs.Still.{cost_most, have_split, of_pair, same_but_more, stands_still, still_elsewhere, still_nowhere, still_too}
 

@@ -4,31 +4,31 @@ use Rattle.std.specs.List.{AllByRecursion}
 use Rattle.std.proofs.lemmas.Bool.{cases_eq}
 use Rattle.std.proofs.lemmas.Option.{same_Some, slice_get_within, slice_get-get_or}
 use Rattle.std.proofs.lemmas.List.{get_or-set_same, get_or-set_other}
-use Rattle.lw_match.proofs.HeightCuts.{no_higher}
+use Rattle.lw_bounds.proofs.HeightCuts.{no_higher}
 use Rattle.lw_laws.proofs.Flips.{half-flip}
 use Rattle.lw_laws.specs.Flip.{flip}
 use Rattle.lw_laws.specs.Trees.{Tree, leaf, const_one, const_zero, inv, nand, HasLeaf}
 use Rattle.lw_laws.specs.Graphs.{Graph, Pair as PlainPair, Stands}
 use Rattle.lw_graph.specs.declared.pair.Pair.{Pair}
 use native.Mathlib.Nat.{eq-or-lt_of_le}
-use Rattle.lw_match.proofs.Pairs.{pair_at}
+use Rattle.lw_cost.proofs.GoalPlaces.{pair_at}
 use Rattle.lw_label.proofs.Passing.{of_place, passes_both, passes_fewer}
 use Rattle.lw_laws.specs.Covers.{Pattern, HasPins}
 use Rattle.lw_laws.specs.Costs.{Cost, IsCost, IsCall}
 use Rattle.lw_laws.specs.Marks.{Mark as PlainMark, HaveMarks, costs_in, greatest_height}
-use Rattle.lw_match.specs.declared.mark.Mark.{Mark}
-use Rattle.lw_match.specs.Least.{AreOfCells, IsLeastBelow, IsMarkBefore}
+use Rattle.lw_cost.specs.declared.mark.Mark.{Mark}
+use Rattle.lw_cost.specs.Least.{AreOfCells, IsLeastBelow, IsMarkBefore}
 use Rattle.lw_match.specs.Cutting.{IsMatchWithin, IsLeastWithin, bound_after}
-use Rattle.lw_match.specs.declared.mark.Best.{Best}
+use Rattle.lw_cost.specs.declared.mark.Best.{Best}
 use Rattle.lw_laws.specs.Laws.{AreBoundedIn, IsCoverProblem}
 use Rattle.lw_graph.specs.Graphs.{IsGraph, plain_row}
 use Rattle.lw_label.proofs.HeightPasses.{heights_in_range, reached_under, attains_under}
 use Rattle.lw_label.specs.Lowering.{AreLowering}
-use Rattle.lw_match.specs.Values.{plain_mark, marks_in, AreInRange}
-use Rattle.lw_match.proofs.Marked.{each_cost, length-costs as length-costs_in, length-marks}
+use Rattle.lw_cost.specs.Values.{plain_mark, marks_in, AreInRange}
+use Rattle.lw_cost.proofs.Marked.{each_cost, length-costs as length-costs_in, length-marks}
 use Rattle.lw_label.proofs.Falling.{not_below}
-use Rattle.lw_label.proofs.Marked.{mark_set_same, priced}
-use Rattle.lw_label.specs.Labels.{costs_of}
+use Rattle.lw_cost.proofs.MarksAsLabels.{mark_set_same, priced}
+use Rattle.lw_cost.specs.Labels.{costs_of}
 use Rattle.lw_label.specs.Heights.{AreHeightMarks, AreSameBut, AreStill, HasHeightAtMost, IsNoPin, IsReached, LowersHeights, TakesHeight, height_limit, heights_weight, with_mark}
 use Rattle.lw_label.specs.Orders.{ArePartsStill, IsStillAfter, IsStillAt}
 use Rattle.lw_laws.specs.Rounds.{labels_in}

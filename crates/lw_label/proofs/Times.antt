@@ -1,16 +1,15 @@
 -- Times and starts that are cut at a greatest one.
-use Rattle.std.proofs.Common.{ℕ, zero, suc, ◌+◌, ◌<◌, ◌≤◌, ◌≡◌, min, max, List, [], ◌∷◌, length, map, take, get_or, slice_get, Some, ap, sym, ◌∙◌, arith}
+use Rattle.std.proofs.Common.{ℕ, zero, suc, ◌+◌, ◌<◌, ◌≤◌, ◌≡◌, min, max, List, [], ◌∷◌, length, map, take, get_or, ap, sym, ◌∙◌, arith}
 use Rattle.std.proofs.lemmas.List.{get_or-map, length-map}
-use Rattle.std.proofs.lemmas.Option.{same_Some, none-some}
 use Rattle.std.specs.List.{AllByRecursion}
 use Rattle.std.specs.Prelude.{All}
 use Rattle.std.proofs.lemmas.List.Elements.{recursion_from_All}
-use Rattle.lw_laws.specs.Covers.{latest, start_of, HasPins}
-use Rattle.lw_genlib.specs.Cells.{CellParts, IsSmall}
+use Rattle.lw_laws.specs.Covers.{latest, start_of}
+use Rattle.lw_genlib.specs.Cells.{IsSmall}
 use Rattle.lw_fixed.specs.declared.micro.Micro.{Micro}
-use Rattle.lw_genlib.specs.Tables.{millionths, delays_of_cells}
-use Rattle.lw_label.specs.Delays.{most_time, start_at}
+use Rattle.lw_genlib.specs.Tables.{millionths}
 use Rattle.lw_laws.proofs.Shared.{latest_suc}
+use Rattle.lw_label.specs.Delays.{most_time, start_at}
 
 -- one more pin, of the code's numbers, where both sides are cut
 pub cut_step : (delays : List Micro) (pins : List ℕ) (k so_far sum next : ℕ) → k < length delays → k < length pins → min so_far most_time ≡ min most_time (latest (take k (map millionths delays)) pins) → min sum most_time ≡ min most_time (get_or pins k 0 + (get_or delays k (record { 0 = 0 })).0) → next ≡ max so_far sum → min next most_time ≡ min most_time (latest (take (k + 1) (map millionths delays)) pins)
@@ -31,12 +30,6 @@ latest_pin (m ∷ delays) [] k same inside = absurd (omega arith)
 latest_pin (m ∷ delays) (d ∷ ds) zero same inside = omega arith
 latest_pin (m ∷ delays) (d ∷ ds) (suc k) same inside =
     let ih = latest_pin delays ds k (omega arith) (omega arith) in omega arith
-
--- how many pins it has
-pub pins_at : (cells : List CellParts) (place n : ℕ) (cell : CellParts) → slice_get cells place ≡ Some cell → HasPins (map length (delays_of_cells cells)) place n → length cell.delays ≡ n
-pins_at [] place n cell at has = absurd (none-some cell at)
-pins_at (other ∷ cells) zero n cell at has = ap (λ (c : CellParts). length c.delays) (sym (same_Some other cell at)) ∙ (sym (length-map other.delays millionths) ∙ same_Some (length (map millionths other.delays)) n has)
-pins_at (other ∷ cells) (suc place) n cell at has = pins_at cells place n cell at has
 
 start_cut_each : (starts : List Micro) (i : ℕ) → AllByRecursion IsSmall starts → start_at starts i ≡ min most_time (start_of (map millionths starts) i)
 start_cut_each [] i a = omega arith

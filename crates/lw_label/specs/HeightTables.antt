@@ -6,13 +6,13 @@ use Rattle.lw_laws.specs.Covers.{Pattern}
 use Rattle.lw_laws.specs.Flip.{flip}
 use Rattle.lw_laws.specs.Laws.{AreBoundedIn}
 use Rattle.lw_laws.specs.Rounds.{labels_in}
-use Rattle.lw_match.specs.declared.mark.Best.{Best}
-use Rattle.lw_match.specs.declared.mark.Mark.{Mark}
-use Rattle.lw_match.specs.Bounds.{AreZero, BoundsFit}
+use Rattle.lw_cost.specs.declared.mark.Best.{Best}
+use Rattle.lw_cost.specs.declared.mark.Mark.{Mark}
+use Rattle.lw_bounds.specs.Bounds.{AreZero, BoundsFit}
 use Rattle.lw_match.specs.Cutting.{AreKnown, IsMatchWithin, TopsState}
-use Rattle.lw_match.specs.HeightBounds.{AreFlat, heights_of}
-use Rattle.lw_match.specs.Least.{AreOfCells}
-use Rattle.lw_match.specs.Values.{marks_in}
+use Rattle.lw_bounds.specs.HeightBounds.{AreFlat, heights_of}
+use Rattle.lw_cost.specs.Least.{AreOfCells}
+use Rattle.lw_cost.specs.Values.{marks_in}
 use Rattle.lw_label.specs.declared.heights.Given.{Given}
 use Rattle.lw_label.specs.declared.heights.HeightRounds.{HeightRounds}
 use Rattle.lw_label.specs.declared.heights.Heights.{Heights}
@@ -20,7 +20,7 @@ use Rattle.lw_label.specs.declared.heights.Visit.{Visit}
 use Rattle.lw_label.specs.declared.labelling.Task.{Task}
 use Rattle.lw_label.specs.declared.labels.Room.{Room}
 use Rattle.lw_label.specs.Heights.{AreGiven, AreHeightMarks, AreSameBut, AreStill, IsHeightSearch, IsReachedFrom, LowersFrom, TakesFrom, TakesHeight, height_limit, heights_weight, with_mark}
-use Rattle.lw_label.specs.Labels.{costs_of}
+use Rattle.lw_cost.specs.Labels.{costs_of}
 use Rattle.lw_label.specs.Lowering.{AreLowering, LabelState, state}
 use Rattle.lw_label.specs.OneVisit.{AreBoundsAround, AreZeroOrSettled}
 use Rattle.lw_label.specs.Orders.{VisitState, places_of}

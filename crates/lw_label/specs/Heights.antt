@@ -7,19 +7,19 @@ use Rattle.lw_laws.specs.Choices.{IsWithin}
 use Rattle.lw_laws.specs.Matches.{IsMatchAt, choices_of}
 use Rattle.lw_laws.specs.Marks.{Mark as PlainMark, HaveMarks, costs_in, greatest_height}
 use Rattle.lw_laws.specs.Rounds.{labels_in}
-use Rattle.lw_match.specs.declared.mark.Best.{Best}
-use Rattle.lw_match.specs.declared.mark.Mark.{Mark}
 use Rattle.lw_laws.specs.Laws.{AreBoundedIn, IsCoverProblem}
 use Rattle.lw_graph.specs.Graphs.{IsGraph}
-use Rattle.lw_match.specs.Bounds.{BoundsState, BoundsFit, AreBounds}
-use Rattle.lw_match.specs.Least.{AreOfCells}
-use Rattle.lw_match.specs.Cutting.{AreKnown, TopsState}
-use Rattle.lw_match.specs.Values.{marks_in}
-use Rattle.lw_label.specs.declared.heights.Given.{Given}
-use Rattle.lw_label.specs.Labels.{costs_of}
+use Rattle.lw_cost.specs.declared.mark.Mark.{Mark}
+use Rattle.lw_cost.specs.Labels.{costs_of, marked}
+use Rattle.lw_cost.specs.Values.{marks_in}
+use Rattle.lw_cost.specs.declared.mark.Best.{Best}
+use Rattle.lw_bounds.specs.Bounds.{AreBounds, BoundsFit, BoundsState}
 use Rattle.lw_label.specs.Lowering.{AreLowering}
+use Rattle.lw_cost.specs.Least.{AreOfCells}
 use Rattle.lw_label.specs.Orders.{ArePartsStill, IsStillAt}
 use Rattle.lw_label.specs.Passes.{Passes}
+use Rattle.lw_match.specs.Cutting.{AreKnown, TopsState}
+use Rattle.lw_label.specs.declared.heights.Given.{Given}
 
 -- gates along matches that attain the labels lead from the class to inputs in h steps at most
 abbrev pub IsWithinSteps : Graph → Cost → List Pattern → List (Option Mark) → ℕ → ℕ → Type 0
@@ -28,12 +28,6 @@ IsWithinSteps g cost pats labels c h = IsWithin (choices_of g cost.pin_counts pa
 -- the class has a mark, whose height is at most h
 abbrev pub HasHeightAtMost : List (Option Mark) → ℕ → ℕ → Type 0
 HasHeightAtMost marks c h = (m : PlainMark) × (marks_in marks c ≡ Some m) × (m.height ≤ h)
-
--- how many classes have a mark
-abbrev pub marked : List (Option Mark) → ℕ
-marked [] = 0
-marked (None ∷ marks) = marked marks
-marked (Some m ∷ marks) = suc (marked marks)
 
 -- Some classes have a mark: their label, and a number of steps to inputs, which is not above the number of marks.
 pub record AreHeightMarks (g : Graph) (cost : Cost) (pats : List Pattern) (labels marks : List (Option Mark)) : Type 0 where

@@ -7,10 +7,10 @@ use Rattle.lw_laws.specs.Matches.{choices_of}
 use Rattle.lw_laws.specs.Marks.{Mark as PlainMark}
 use Rattle.lw_laws.specs.Rounds.{labels_in, total_weight, IsBoundedAt}
 use Rattle.lw_laws.specs.Laws.{AreSoundIn}
-use Rattle.lw_match.specs.declared.mark.Mark.{Mark}
-use Rattle.lw_match.specs.Values.{marks_in}
-use Rattle.lw_match.specs.Bounds.{BoundsState, AreBounds, AreSettledAt, bounds_weight}
-use Rattle.lw_label.specs.Labels.{costs_of}
+use Rattle.lw_cost.specs.declared.mark.Mark.{Mark}
+use Rattle.lw_cost.specs.Values.{marks_in}
+use Rattle.lw_bounds.specs.Bounds.{BoundsState, AreBounds, AreSettledAt, bounds_weight}
+use Rattle.lw_cost.specs.Labels.{costs_of}
 use Rattle.lw_label.specs.Passes.{Passes}
 
 -- a mark for each class, all of height 0, with costs of covers

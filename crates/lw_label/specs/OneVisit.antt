@@ -5,12 +5,12 @@ use Rattle.lw_laws.specs.Costs.{Cost}
 use Rattle.lw_laws.specs.Covers.{Pattern}
 use Rattle.lw_laws.specs.Laws.{IsCoverProblem}
 use Rattle.lw_graph.specs.Graphs.{IsGraph}
-use Rattle.lw_match.specs.declared.mark.Best.{Best}
-use Rattle.lw_match.specs.declared.mark.Mark.{Mark}
-use Rattle.lw_match.specs.Numbers.{number_from, start_of}
-use Rattle.lw_match.specs.Bounds.{BoundsState, AreBounds, AreRows, AreSettledAt, BoundsFit, IsTableBut}
+use Rattle.lw_cost.specs.declared.mark.Best.{Best}
+use Rattle.lw_cost.specs.declared.mark.Mark.{Mark}
+use Rattle.lw_bounds.specs.Numbers.{number_from, start_of}
+use Rattle.lw_bounds.specs.Bounds.{BoundsState, AreBounds, AreRows, AreSettledAt, BoundsFit, IsTableBut}
 use Rattle.lw_match.specs.Cutting.{AreKnown, TopsState}
-use Rattle.lw_match.specs.Least.{AreOfCells}
+use Rattle.lw_cost.specs.Least.{AreOfCells}
 use Rattle.lw_label.specs.Heights.{AreSameBut}
 use Rattle.lw_label.specs.Lowering.{AreLowering, IsBounded, LabelState}
 use Rattle.lw_label.specs.Orders.{ArePartsStill, IsStillAt, VisitState, places_of}

@@ -5,11 +5,11 @@ use Rattle.lw_laws.specs.Covers.{Pattern}
 use Rattle.lw_laws.specs.Flip.{flip}
 use Rattle.lw_laws.specs.Graphs.{Graph}
 use Rattle.lw_laws.specs.Laws.{IsCoverProblem}
-use Rattle.lw_match.specs.declared.mark.Best.{Best}
-use Rattle.lw_match.specs.Bounds.{AreBounds, AreZero, BoundsFit}
+use Rattle.lw_cost.specs.declared.mark.Best.{Best}
+use Rattle.lw_bounds.specs.Bounds.{AreBounds, AreZero, BoundsFit}
 use Rattle.lw_match.specs.Cutting.{AreKnown, IsMatchWithin}
-use Rattle.lw_match.specs.Least.{AreOfCells}
-use Rattle.lw_match.specs.Values.{marks_in}
+use Rattle.lw_cost.specs.Least.{AreOfCells}
+use Rattle.lw_cost.specs.Values.{marks_in}
 use Rattle.lw_label.specs.declared.heights.Visit.{Visit}
 use Rattle.lw_label.specs.declared.labelling.LabelRounds.{LabelRounds}
 use Rattle.lw_label.specs.declared.labelling.Labelling.{Labelling}

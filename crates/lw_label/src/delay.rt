@@ -5,9 +5,9 @@ ghost use Rattle.lw_genlib.specs.Cells.{IsSmall};
 ghost use Rattle.lw_genlib.specs.Tables.{millionths};
 ghost use Rattle.lw_label.specs.Delays.{most_time, start_at};
 
+use lw_cost::Cost;
 use lw_fixed::{Micro, Micros};
 use lw_genlib::Library;
-use lw_match::Cost;
 use lw_pool::CellId;
 
 /// The time of a cover, without loads, in millionths: an input arrives at its start, and a cell at

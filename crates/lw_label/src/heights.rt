@@ -1,7 +1,7 @@
 // Heights in rounds.
 ghost use Rattle.std.specs.Prelude.{◌≡◌, ◌<◌, ◌/◌, ◌⊎◌, None, true, false, IfSome, length, slice_index_or};
-ghost use Rattle.lw_match.specs.Bounds.{AreBounds};
-ghost use Rattle.lw_label.specs.Labels.{AreLeastMarks};
+ghost use Rattle.lw_bounds.specs.Bounds.{AreBounds};
+ghost use Rattle.lw_cost.specs.Labels.{AreLeastMarks};
 ghost use Rattle.lw_label.specs.Orders.{IsVisited, places_of};
 ghost use Rattle.lw_label.specs.Heights.{IsNoPin, height_limit};
 ghost use Rattle.lw_label.specs.HeightTables.{AreHeightRounds, HasHeightsOf, HaveStarted, LowersHeight, LowersHeightBeside, LowersHeightPair, LowersHeightRound, LowersHeightRounds, LowersHeightsAt, MayLowerHeights, MayStart, MayStartRounds, PutsHeight};
@@ -10,8 +10,10 @@ use crate::labelling::Task;
 use crate::lowering::{both, either, is_ahead};
 use crate::table::{HeightTable, put_in, seen_in, set_if_still};
 use crate::visits::Visits;
+use lw_bounds::Bounds;
+use lw_cost::{Best, Cost, Mark};
 use lw_graph::Graph;
-use lw_match::{Best, Bounds, Cost, Mark, Tops, lower_within};
+use lw_match::{Tops, lower_within};
 use lw_pool::ClassId;
 
 /// What heights are found from: labels for a task, and a table of bounds for them.
@@ -161,8 +163,8 @@ impl Heights<'_> {
         Visit { lowered, is_still }
     }
 
-    // The same, and says whether the class may now be the pin of a match that lowers the height of
-    // its complement.
+    // Lowers the height of a class as `lower` does, and says whether the class may now be the pin
+    // of a match that lowers the height of its complement.
     fn lower_beside<C: Cost>(&mut self, given: &Given<C>, class: ClassId) -> (Visit, bool)
         requires place { class.0 / 2 < places_of given.now.task.now.graph.now }
         requires may { MayLowerHeights C.costs given.now self.old (class.0 / 2) }

@@ -2,8 +2,10 @@
 ghost use Rattle.std.specs.Prelude.{◌≡◌, ◌<◌, None, length, slice_index_or};
 
 use crate::visits::Visits;
+use lw_bounds::Bounds;
+use lw_cost::Mark;
 use lw_graph::Graph;
-use lw_match::{Bounds, Mark, Tops};
+use lw_match::Tops;
 use lw_pattern::Patterns;
 use lw_pool::ClassId;
 

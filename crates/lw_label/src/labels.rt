@@ -1,9 +1,10 @@
 // The labels of all classes, and how they are found.
 ghost use Rattle.std.specs.Prelude.{◌≡◌, ◌<◌, None, IfOk, length, slice_index_or};
-ghost use Rattle.lw_match.specs.Bounds.{BoundsFit, AreBounds};
-ghost use Rattle.lw_match.specs.Least.{AreOfCells};
+ghost use Rattle.lw_bounds.specs.Bounds.{BoundsFit, AreBounds};
+ghost use Rattle.lw_cost.specs.Least.{AreOfCells};
 ghost use Rattle.lw_label.specs.HeightTables.{IsUnmarked, MayMark};
-ghost use Rattle.lw_label.specs.Labels.{AreBoundedMarks, AreLeastMarks};
+ghost use Rattle.lw_label.specs.Labels.{AreBoundedMarks};
+ghost use Rattle.lw_cost.specs.Labels.{AreLeastMarks};
 ghost use Rattle.lw_label.specs.Searches.{HasCells};
 
 use crate::heights::{Given, HeightRounds};
@@ -11,52 +12,14 @@ use crate::labelling::{LabelRounds, Labelling, Task};
 use crate::lowering::no_marks;
 use crate::table::{HeightTable, height_table};
 use crate::visits::Visits;
+use lw_bounds::Bounds;
+use lw_cost::{Cost, Labels, Mark};
 use lw_graph::Graph;
-use lw_match::{Bounds, Cost, Mark, Tops};
+use lw_match::Tops;
 use lw_pattern::Patterns;
 use lw_pool::ClassId;
 use std::alloc::{AllocError, Global};
 use std::marker::Model;
-
-/// Marks of the classes of a graph, in the order of their numbers.
-#[derive(Drop)]
-pub struct Labels {
-    marks: Vec<Option<Mark>>,
-}
-
-impl Model for Labels {
-    ghost use Rattle.std.specs.Prelude.{List, Option};
-    ghost use Rattle.lw_match.specs.declared.mark.Mark.{Mark};
-
-    ghost Value = { List (Option Mark) };
-
-    ghost view = { λ l. l.marks.items };
-}
-
-impl Labels {
-    /// The marks of all classes, in the order of their numbers.
-    pub fn from_marks(marks: Vec<Option<Mark>>) -> Self
-        ensures { result ≡ marks.items }
-    {
-        Labels { marks }
-    }
-
-    /// The mark of a class: the least cost of its covers, and its height. None where it has no
-    /// cover.
-    pub fn mark(&self, class: ClassId) -> Option<Mark>
-        requires { class.0 < length self.now }
-        ensures { result ≡ slice_index_or self.now class.0 None }
-    {
-        self.marks[class.0 as usize]
-    }
-
-    /// The marks of all classes.
-    pub fn marks(&self) -> &[Option<Mark>]
-        ensures { result.now ≡ self.now }
-    {
-        &self.marks
-    }
-}
 
 /// The least cost of a cover of each class, and the height of the class. The memory is taken first;
 /// the rounds take none.

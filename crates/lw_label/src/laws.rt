@@ -10,10 +10,10 @@ ghost use Rattle.lw_genlib.specs.Cells.{CellParts, IsLibrary, IsSmall};
 ghost use Rattle.lw_genlib.specs.Tables.{delays_of_cells, timing_of, truth_of_cells};
 ghost use Rattle.lw_pattern.specs.Libraries.{library_patterns, library_truth, pin_counts};
 ghost use Rattle.lw_graph.specs.Graphs.{IsGraph};
-ghost use Rattle.lw_match.specs.declared.mark.Mark.{Mark};
-ghost use Rattle.lw_match.specs.Least.{AreOfCells};
+ghost use Rattle.lw_cost.specs.declared.mark.Mark.{Mark};
+ghost use Rattle.lw_cost.specs.Least.{AreOfCells};
 ghost use Rattle.lw_label.specs.Delays.{most_time, time_cost};
-ghost use Rattle.lw_label.specs.Labels.{AreLeastMarks, costs_of};
+ghost use Rattle.lw_cost.specs.Labels.{AreLeastMarks, costs_of};
 
 /// The patterns of a library are of its cells, each with the pins of its cell.
 pub fn library_patterns_are_of_cells()

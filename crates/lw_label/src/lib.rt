@@ -22,5 +22,6 @@ mod table;
 mod visits;
 
 pub use delay::DelayCost;
-pub use labels::{BoundedLabels, Labels, relabel, relabel_with_bounds};
+pub use labels::{BoundedLabels, relabel, relabel_with_bounds};
 pub use laws::{library_patterns_are_of_cells, library_times_are_low, times_stay_low};
+pub use lw_cost::Labels;

@@ -7,8 +7,9 @@ ghost use Rattle.lw_label.specs.Searches.{AreLabelled, AreRounds, AreUnlabelled,
 use crate::heights::Visit;
 use crate::labelling::{LabelRounds, Labelling, Task};
 use crate::once::forget_moving;
+use lw_cost::{Best, Cost, Mark};
 use lw_graph::Graph;
-use lw_match::{Best, Cost, Mark, better_bare, better_within};
+use lw_match::{better_bare, better_within};
 use lw_pool::ClassId;
 use std::alloc::{AllocError, Global};
 

@@ -1,6 +1,6 @@
 // Labels by one visit of each place.
 ghost use Rattle.std.specs.Prelude.{◌≡◌, ◌<◌, ◌/◌, ◌⊎◌, false, length};
-ghost use Rattle.lw_match.specs.Bounds.{AreRows, AreSettledAt, AreZero, IsTableBut};
+ghost use Rattle.lw_bounds.specs.Bounds.{AreRows, AreSettledAt, AreZero, IsTableBut};
 ghost use Rattle.lw_label.specs.OneVisit.{AreRowsAround, AreSetAt, IsNoCheaper};
 ghost use Rattle.lw_label.specs.Orders.{IsStillAt, places_of};
 ghost use Rattle.lw_label.specs.Searches.{AreFirstRounds, ArePairFound, AreRounds, IsFound, IsFoundBeside, MayLowerAround, SetsNumbers};
@@ -8,8 +8,9 @@ ghost use Rattle.lw_label.specs.Searches.{AreFirstRounds, ArePairFound, AreRound
 use crate::heights::first_of;
 use crate::labelling::{LabelRounds, Labelling, Task};
 use crate::visits::Visits;
+use lw_bounds::Bounds;
+use lw_cost::{Cost, Mark};
 use lw_graph::Graph;
-use lw_match::{Bounds, Cost, Mark};
 use lw_pool::ClassId;
 
 // Gives a class the numbers that its pairs give.
@@ -86,8 +87,8 @@ impl Labelling<'_> {
         true
     }
 
-    // The same, and says whether the class may now be the pin of a match that lowers the label of
-    // its complement.
+    // Lowers the label of a class as `lower_whole` does, and says whether the class may now be the
+    // pin of a match that lowers the label of its complement.
     fn lower_beside<C: Cost>(&mut self, task: &Task<C>, class: ClassId) -> bool
         requires place { class.0 / 2 < places_of task.now.graph.now }
         requires may { MayLowerAround C.costs task.now self.old (class.0 / 2) }

@@ -1,6 +1,6 @@
 // A table of bounds on heights.
 ghost use Rattle.std.specs.Prelude.{◌≡◌, ◌<◌, IfOk, IfSome, length, option_map, slice_set};
-ghost use Rattle.lw_match.specs.HeightBounds.{height_mark};
+ghost use Rattle.lw_bounds.specs.HeightBounds.{height_mark};
 ghost use Rattle.lw_label.specs.HeightTables.{IsNewTable, MaySetRows, SetsRows};
 ghost use Rattle.lw_label.specs.Lowering.{state};
 ghost use Rattle.lw_label.specs.OneVisit.{AreRowsAround, AreSetAt};
@@ -10,8 +10,9 @@ use crate::heights::Given;
 use crate::lowering::no_marks;
 use crate::once::set_pair;
 use crate::visits::Visits;
+use lw_bounds::{Bounds, HeightBounds};
+use lw_cost::{Cost, Mark};
 use lw_graph::Graph;
-use lw_match::{Bounds, Cost, HeightBounds, Mark};
 use lw_pattern::Patterns;
 use lw_pool::ClassId;
 use std::alloc::{AllocError, Global};

@@ -180,7 +180,7 @@ impl Visits {
         None
     }
 
-    // The same, but never a place that is still.
+    // The place of a visit of a round as `due` gives it, but never one that is still.
     pub(crate) fn due_unless_still(
         &mut self,
         graph: &Graph,

@@ -19,14 +19,13 @@ use Rattle.std.proofs.lemmas.List.FromFn.{get_or-range_with_len}
 use Rattle.std.proofs.lemmas.Option.{slice_get_within, get_or_from_slice_get}
 use Rattle.lw_graph.specs.Graphs.{IsGraph}
 use Rattle.lw_lut.specs.Cuts.{PlainCut, IsCutAt, is_odd}
-use Rattle.lw_lut.specs.Searches.{AreCounts, AreBounded, AreSettled, IsBelow}
+use Rattle.lw_lut.specs.Searches.{AreCounts, AreBounded, AreSettled, IsBelow, depth_in, IsKnown, AreDepthsUpTo, IsBoundedAt, count_at}
 use Rattle.lw_lut.specs.declared.search.Search.{Search}
 use Rattle.lw_lut.proofs.Joining.{class_cut}
 use Rattle.lw_lut.proofs.Places.{none_some}
 use Rattle.lw_lut.specs.Covers.{TableCover, TableCovers, tree_of, trees_of, leaves_of, HasPinsOnce, IsTableCover, AreTableCovers, depth_of, greatest_depth, IsLeastDepth}
 use Rattle.lw_lut.specs.Covers.TableCover.{wire, table}
 use Rattle.lw_lut.specs.Covers.TableCovers.{no_covers, cover}
-use Rattle.lw_lut.specs.Searches.{depth_in, IsKnown, AreDepthsUpTo, IsBoundedAt, count_at}
 use Rattle.lw_pool.specs.Numbers.{numbers}
 use Rattle.lw_laws.proofs.Shared.{pair_within}
 use Rattle.lw_lut.proofs.TableValues.{long}

@@ -5,14 +5,13 @@ use Rattle.std.proofs.lemmas.List.Elements.{Contains-push, Contains-push_cases, 
 use Rattle.std.proofs.lemmas.Option.{none-some, same_Some, slice_get-get_or, slice_get_within}
 use Rattle.lw_facts.proofs.Lists.{contains_cases, contains_tail, contained_in_map, at_contained, contained_at, some_within}
 use Rattle.lw_pool.specs.declared.id.ClassId.{ClassId}
-use Rattle.lw_laws.specs.Graphs.{Graph}
+use Rattle.lw_laws.specs.Graphs.{Graph, Unfolds}
 use Rattle.lw_laws.specs.Extracts.{IsLeafClass}
 use Rattle.lw_naming.specs.declared.places.Place.{Place}
 use Rattle.lw_naming.specs.Needed.{IsNoted, AreNoted, AreRoots, HasAlso}
 use Rattle.lw_naming.specs.Places.{IsPlaceBefore}
 use Rattle.lw_naming.proofs.Noting.{still_noted}
 use Rattle.lw_lut.specs.declared.table.Table.{Table}
-use Rattle.lw_laws.specs.Graphs.{Unfolds}
 use Rattle.lw_laws.specs.Trees.{leaf}
 use Rattle.lw_lut.specs.Covers.{TableCover, IsTableCover, tree_of, depth_of, IsLeastDepth}
 use Rattle.lw_lut.specs.Covers.TableCover.{wire, table}

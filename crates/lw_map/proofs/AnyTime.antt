@@ -33,13 +33,12 @@ use Rattle.lw_net.specs.Plain as network
 use Rattle.lw_genlib.specs.Cells.{CellParts, IsLibrary}
 use Rattle.lw_genlib.specs.Tables.{timing_of}
 use Rattle.lw_pattern.specs.Libraries.{library_patterns}
-use Rattle.lw_match.specs.declared.mark.Mark.{Mark}
-use Rattle.lw_match.specs.Values.{plain_mark}
-use Rattle.lw_laws.specs.Marks.{Mark as PlainMark}
-use Rattle.lw_label.specs.Labels.{AreLeastMarks, costs_of}
-use Rattle.lw_label.proofs.Marked.{label_at, mark_of_label}
+use Rattle.lw_cost.specs.declared.mark.Mark.{Mark}
+use Rattle.lw_cost.specs.Values.{plain_mark}
+use Rattle.lw_laws.specs.Marks.{Mark as PlainMark, heights_of}
+use Rattle.lw_cost.specs.Labels.{AreLeastMarks, costs_of}
+use Rattle.lw_cost.proofs.MarksAsLabels.{label_at, mark_of_label}
 use Rattle.lw_laws.specs.Rounds.{labels_in}
-use Rattle.lw_laws.specs.Marks.{heights_of}
 use Rattle.lw_netlist.specs.declared.gate.Port.{Port}
 use Rattle.lw_netlist.specs.Netlists.{IsNetlist}
 use Rattle.lw_netlist.specs.Plain as netlist

@@ -6,8 +6,8 @@ use Rattle.lw_fixed.specs.declared.micro.Micro.{Micro}
 use Rattle.lw_laws.specs.Rounds.{labels_in}
 use Rattle.lw_net.specs.Networks.{NetworkParts}
 use Rattle.lw_genlib.specs.Cells.{CellParts}
-use Rattle.lw_match.specs.declared.mark.Mark.{Mark}
-use Rattle.lw_label.specs.Labels.{cost_in, costs_of}
+use Rattle.lw_cost.specs.declared.mark.Mark.{Mark}
+use Rattle.lw_cost.specs.Labels.{cost_in, costs_of}
 use Rattle.lw_netlist.specs.Plain.{plain_gate}
 use Rattle.lw_mapped.specs.declared.certificate.Certificate.{Certificate}
 use Rattle.lw_mapped.specs.Certified.{IsCertificateOf}

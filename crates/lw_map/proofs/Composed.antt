@@ -24,14 +24,13 @@ use Rattle.lw_net.specs.Plain as network
 use Rattle.lw_genlib.specs.Cells.{CellParts}
 use Rattle.lw_genlib.specs.Tables.{delays_of_cells, timing_of}
 use Rattle.lw_pattern.specs.Libraries.{library_patterns}
-use Rattle.lw_match.specs.declared.mark.Mark.{Mark}
-use Rattle.lw_match.specs.Values.{plain_mark}
+use Rattle.lw_cost.specs.declared.mark.Mark.{Mark}
+use Rattle.lw_cost.specs.Values.{plain_mark}
 use Rattle.lw_label.specs.Delays.{most_time, time_cost}
-use Rattle.lw_label.specs.Labels.{cost_in, costs_of, AreLeastMarks}
-use Rattle.lw_label.proofs.Marked.{label_at}
+use Rattle.lw_cost.specs.Labels.{cost_in, costs_of, AreLeastMarks}
+use Rattle.lw_cost.proofs.MarksAsLabels.{label_at}
 use Rattle.lw_netlist.specs.Netlists.{IsNetlist}
-use Rattle.lw_netlist.specs.Plain.{plain_gate}
-use Rattle.lw_netlist.specs.Plain.{plain as plain_netlist}
+use Rattle.lw_netlist.specs.Plain.{plain_gate, plain as plain_netlist}
 use Rattle.lw_extract.specs.declared.ports.Ports.{Ports}
 use Rattle.lw_extract.specs.declared.ports.Cover.{Cover as NetlistCover}
 use Rattle.lw_extract.specs.Choosing.{heights}

@@ -19,9 +19,9 @@ use Rattle.lw_laws.specs.Names.{gate_names, free_names, net_names}
 use Rattle.lw_laws.specs.Mapped.{root_class}
 use Rattle.lw_laws.specs.Headline.{Port as PlainPort}
 use Rattle.lw_laws.specs.MappedNetlists.{root_classes, IsNetlistOf}
-use Rattle.lw_match.specs.declared.mark.Mark.{Mark}
-use Rattle.lw_label.specs.Labels.{costs_of, AreLeastMarks}
-use Rattle.lw_label.proofs.Marked.{mark_of_label}
+use Rattle.lw_cost.specs.declared.mark.Mark.{Mark}
+use Rattle.lw_cost.specs.Labels.{costs_of, AreLeastMarks}
+use Rattle.lw_cost.proofs.MarksAsLabels.{mark_of_label}
 use Rattle.lw_netlist.specs.declared.gate.Port.{Port}
 use Rattle.lw_netlist.specs.Plain.{plain, plain_port, mapped_ports}
 use Rattle.lw_extract.specs.declared.ports.Ports.{Ports}

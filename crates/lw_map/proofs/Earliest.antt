@@ -22,11 +22,11 @@ use Rattle.lw_net.specs.Plain as network
 use Rattle.lw_genlib.specs.Cells.{CellParts, IsLibrary, IsSmall}
 use Rattle.lw_genlib.specs.Tables.{timing_of}
 use Rattle.lw_pattern.specs.Libraries.{library_patterns}
-use Rattle.lw_match.specs.declared.mark.Mark.{Mark}
-use Rattle.lw_match.specs.Values.{plain_mark}
+use Rattle.lw_cost.specs.declared.mark.Mark.{Mark}
+use Rattle.lw_cost.specs.Values.{plain_mark}
 use Rattle.lw_label.specs.Delays.{most_time, time_cost}
-use Rattle.lw_label.specs.Labels.{costs_of, AreLeastMarks}
-use Rattle.lw_label.proofs.Marked.{label_at}
+use Rattle.lw_cost.specs.Labels.{costs_of, AreLeastMarks}
+use Rattle.lw_cost.proofs.MarksAsLabels.{label_at}
 use Rattle.lw_map.specs.declared.choices.Choices.{Choices}
 use Rattle.lw_map.specs.Options.{plain_options}
 use Rattle.lw_extract.specs.declared.ports.Ports.{Ports}

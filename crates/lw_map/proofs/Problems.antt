@@ -1,9 +1,9 @@
 -- A problem can be mapped by time and by area, and what the mapping by time is.
 use Rattle.std.proofs.Common.{ℕ, ◌≡◌, List, Option, refl, subst}
 use Rattle.lw_laws.specs.Costs.{Cost}
-use Rattle.lw_match.specs.declared.mark.Mark.{Mark}
+use Rattle.lw_cost.specs.declared.mark.Mark.{Mark}
 use Rattle.lw_label.specs.Delays.{time_cost}
-use Rattle.lw_label.specs.Labels.{AreLeastMarks}
+use Rattle.lw_cost.specs.Labels.{AreLeastMarks}
 use Rattle.lw_netlist.specs.Netlists.{IsNetlist}
 use Rattle.lw_trade.specs.Areas.{area_cost}
 use Rattle.lw_extract.specs.declared.fault.ExtractFault.{ExtractFault}

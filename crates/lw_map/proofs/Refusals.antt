@@ -8,9 +8,9 @@ use Rattle.lw_laws.specs.Covers.{Pattern}
 use Rattle.lw_net.specs.Networks.{NetworkParts, IsNetwork, name_in}
 use Rattle.lw_genlib.specs.Cells.{CellParts}
 use Rattle.lw_pattern.specs.Libraries.{library_patterns}
-use Rattle.lw_match.specs.declared.mark.Mark.{Mark}
+use Rattle.lw_cost.specs.declared.mark.Mark.{Mark}
 use Rattle.lw_label.specs.Delays.{time_cost}
-use Rattle.lw_label.specs.Labels.{AreLeastMarks}
+use Rattle.lw_cost.specs.Labels.{AreLeastMarks}
 use Rattle.lw_extract.specs.declared.fault.ExtractFault.{ExtractFault}
 use Rattle.lw_extract.specs.declared.fault.ExtractFault.TheVariants as extract
 use Rattle.lw_extract.specs.Covers.{IsFirstUncovered}

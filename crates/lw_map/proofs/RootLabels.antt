@@ -4,7 +4,7 @@ use Rattle.std.proofs.lemmas.Bool.{cases_lt}
 use Rattle.std.proofs.lemmas.Option.{get_or_from_slice_get, slice_get-get_or}
 use Rattle.lw_pool.specs.declared.id.ClassId.{ClassId}
 use Rattle.lw_fixed.specs.declared.micro.Micro.{Micro}
-use Rattle.lw_match.specs.declared.mark.Mark.{Mark}
+use Rattle.lw_cost.specs.declared.mark.Mark.{Mark}
 use Rattle.lw_extract.specs.Covers.{IsFirstUncovered}
 use Rattle.lw_map.specs.Trading.{HaveLabelsTo}
 

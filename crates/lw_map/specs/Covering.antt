@@ -8,9 +8,9 @@ use Rattle.lw_laws.specs.Matches.{IsLeastCover}
 use Rattle.lw_laws.specs.Rounds.{labels_in}
 use Rattle.lw_genlib.specs.Tables.{delays_of_cells}
 use Rattle.lw_net.specs.Networks.{output_names}
-use Rattle.lw_match.specs.declared.mark.Mark.{Mark}
-use Rattle.lw_match.specs.Least.{AreOfCells}
-use Rattle.lw_label.specs.Labels.{AreLeastMarks, costs_of}
+use Rattle.lw_cost.specs.declared.mark.Mark.{Mark}
+use Rattle.lw_cost.specs.Least.{AreOfCells}
+use Rattle.lw_cost.specs.Labels.{AreLeastMarks, costs_of}
 use Rattle.lw_netlist.specs.Plain.{IsOver}
 use Rattle.lw_extract.specs.declared.fault.ExtractFault.{ExtractFault}
 use Rattle.lw_extract.specs.declared.fault.ExtractFault.TheVariants.{NoCover, Memory}

@@ -5,8 +5,8 @@ use Rattle.lw_laws.specs.Covers.{Pattern}
 use Rattle.lw_laws.specs.Costs.{Cost}
 use Rattle.lw_laws.specs.Graphs.{Graph}
 use Rattle.lw_laws.specs.Rounds.{labels_in}
-use Rattle.lw_match.specs.Bounds.{AreBounds, BoundsFit}
-use Rattle.lw_label.specs.Labels.{AreLeastMarks, costs_of}
+use Rattle.lw_bounds.specs.Bounds.{AreBounds, BoundsFit}
+use Rattle.lw_cost.specs.Labels.{AreLeastMarks, costs_of}
 use Rattle.lw_settle.specs.Steps.{AreSteps}
 use Rattle.lw_map.specs.declared.labeller.Labeller.{Labeller}
 use Rattle.lw_map.specs.declared.labeller.Labeller.TheVariants.{Rounds, Store}

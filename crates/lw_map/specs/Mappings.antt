@@ -4,10 +4,10 @@ use Rattle.lw_pool.specs.declared.id.ClassId.{ClassId}
 use Rattle.lw_fixed.specs.declared.micro.Micro.{Micro}
 use Rattle.lw_genlib.specs.Cells.{CellParts}
 use Rattle.lw_net.specs.Networks.{NetworkParts}
-use Rattle.lw_match.specs.declared.mark.Mark.{Mark}
+use Rattle.lw_cost.specs.declared.mark.Mark.{Mark}
 use Rattle.lw_laws.specs.Rounds.{labels_in}
 use Rattle.lw_pattern.specs.Libraries.{library_patterns}
-use Rattle.lw_label.specs.Labels.{costs_of}
+use Rattle.lw_cost.specs.Labels.{costs_of}
 use Rattle.lw_mapped.specs.declared.certificate.Certificate.{Certificate}
 use Rattle.lw_map.specs.declared.choices.Choices.{Choices}
 use Rattle.lw_map.specs.declared.labeller.Labeller.{Labeller}

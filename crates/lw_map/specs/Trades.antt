@@ -2,7 +2,7 @@
 use Rattle.std.specs.Prelude.{All, ℕ, ◌^◌, ◌<◌, ◌≡◌, List, Option, map, length}
 use Rattle.lw_pool.specs.declared.id.ClassId.{ClassId}
 use Rattle.lw_fixed.specs.declared.micro.Micro.{Micro}
-use Rattle.lw_match.specs.declared.mark.Mark.{Mark}
+use Rattle.lw_cost.specs.declared.mark.Mark.{Mark}
 use Rattle.lw_netlist.specs.Netlists.{NetlistParts}
 use Rattle.lw_trade.specs.declared.targets.Targets.{Targets}
 use Rattle.lw_map.specs.declared.fault.MapFault.{MapFault}

@@ -26,8 +26,8 @@ use Rattle.lw_netlist.specs.Netlists.{NetlistParts, IsNetlist}
 use Rattle.lw_netlist.specs.Plain as netlist
 use Rattle.lw_trade.specs.Areas.{area_cost}
 use Rattle.lw_trade.specs.Points.{task, AreTooMany}
-use Rattle.lw_match.specs.declared.mark.Mark.{Mark}
-use Rattle.lw_match.specs.Least.{AreOfCells}
+use Rattle.lw_cost.specs.declared.mark.Mark.{Mark}
+use Rattle.lw_cost.specs.Least.{AreOfCells}
 use Rattle.lw_extract.specs.declared.fault.ExtractFault.{ExtractFault}
 use Rattle.lw_extract.specs.declared.fault.ExtractFault.TheVariants.{NoCover, Memory}
 use Rattle.lw_extract.specs.Covers.{IsFirstUncovered}

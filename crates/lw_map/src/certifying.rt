@@ -2,10 +2,10 @@
 ghost use Rattle.std.specs.Prelude.{◌≡◌, Some, IfOk, map, option_map};
 ghost use Rattle.lw_map.specs.Mappings.{AreCertified, label_of};
 
+use lw_cost::Mark;
 use lw_fixed::Micro;
 use lw_label::Labels;
 use lw_mapped::{Certificate, OptClasses, OptMicros};
-use lw_match::Mark;
 use lw_pool::{ClassId, Classes};
 use std::alloc::{AllocError, Global};
 

@@ -1,13 +1,14 @@
 // Labels of the classes of a graph.
 ghost use Rattle.std.specs.Prelude.{IfOk};
-ghost use Rattle.lw_match.specs.Least.{AreOfCells};
+ghost use Rattle.lw_cost.specs.Least.{AreOfCells};
 ghost use Rattle.lw_map.specs.Covering.{CanBeMapped};
 ghost use Rattle.lw_map.specs.Labelled.{AreFoundBy};
 
 use crate::Labeller;
 use crate::problem::Problem;
+use lw_bounds::Bounds;
+use lw_cost::Cost;
 use lw_label::{Labels, relabel_with_bounds};
-use lw_match::{Bounds, Cost};
 use lw_settle::{StoreFault, settle, store_matches};
 use std::alloc::AllocError;
 

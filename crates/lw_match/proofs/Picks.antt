@@ -7,24 +7,25 @@ use Rattle.lw_laws.specs.Costs.{Cost, IsCost}
 use Rattle.lw_laws.specs.Graphs.{Graph}
 use Rattle.lw_laws.specs.Covers.{Pattern}
 use Rattle.lw_laws.specs.Marks.{Marks}
-use Rattle.lw_match.specs.declared.mark.Best.{Best}
-use Rattle.lw_match.specs.declared.mark.Mark.{Mark}
-use Rattle.lw_match.specs.declared.job.Scope.{Scope}
-use Rattle.lw_match.specs.declared.parts.Kind.TheVariants.{Any}
-use Rattle.lw_match.specs.declared.parts.Root.{Root}
+use Rattle.lw_cost.specs.declared.mark.Best.{Best}
+use Rattle.lw_cost.specs.declared.mark.Mark.{Mark}
+use Rattle.lw_branch.specs.declared.job.Scope.{Scope}
+use Rattle.lw_bounds.specs.declared.parts.Kind.TheVariants.{Any}
+use Rattle.lw_bounds.specs.declared.parts.Root.{Root}
 use Rattle.lw_match.specs.declared.query.Query.{Query}
 use Rattle.lw_match.specs.declared.target.Target.{Target}
 use Rattle.lw_match.specs.declared.choosing.Pick.{Pick}
-use Rattle.lw_match.specs.Values.{plain_mark, marks_in, AreInRange}
-use Rattle.lw_match.specs.Numbers.{never}
-use Rattle.lw_match.specs.Shapes.{plain}
-use Rattle.lw_match.specs.Least.{Priced, IsPricedAt, IsPricedBy, IsPricedAtMost, IsMarkBefore, plain_best}
-use Rattle.lw_match.specs.Places.{list_of, list_at, root_of, AreListed, IsFar}
-use Rattle.lw_match.specs.Cutting.{cuts_state, root_side, IsCertifiedBy, AreSureCuts, IsFloor, IsTopOf}
+use Rattle.lw_cost.specs.Values.{plain_mark, marks_in, AreInRange}
+use Rattle.lw_bounds.specs.Numbers.{never}
+use Rattle.lw_bounds.specs.Shapes.{plain}
+use Rattle.lw_cost.specs.Least.{Priced, IsPricedAt, IsPricedBy, IsPricedAtMost, IsMarkBefore, plain_best}
+use Rattle.lw_bounds.specs.Places.{list_of, list_at, root_of, AreListed, IsFar}
+use Rattle.lw_bounds.specs.Cuts.{cuts_state, root_side, IsCertifiedBy}
+use Rattle.lw_match.specs.Cutting.{AreSureCuts, IsFloor, IsTopOf}
 use Rattle.lw_match.specs.Queries.{IsQuery, IsPricedIn}
-use Rattle.lw_match.specs.Searching.{Improves, HasAtMost, always}
+use Rattle.lw_branch.specs.Searching.{Improves, HasAtMost, always}
 use Rattle.lw_match.specs.Picks.{IsLastBefore, AreLastBefore, IsPick, IsBelow, IsInList, IsByRoot, those}
-use Rattle.lw_match.proofs.Improving.{above_kept, improves_cut}
+use Rattle.lw_branch.proofs.Improving.{above_kept, improves_cut}
 use Rattle.lw_match.proofs.RootLists.{by_lists, far}
 
 -- what is before the bound is before each match that is last before it by a pattern behind its own

@@ -4,16 +4,17 @@ use Rattle.lw_laws.specs.Graphs.{Graph}
 use Rattle.lw_laws.specs.Covers.{Pattern}
 use Rattle.lw_laws.specs.Costs.{Cost}
 use Rattle.lw_laws.specs.Marks.{Mark, Marks}
-use Rattle.lw_match.specs.declared.mark.Best.{Best}
+use Rattle.lw_cost.specs.declared.mark.Best.{Best}
 use Rattle.lw_match.specs.declared.choosing.Pick.{Pick}
-use Rattle.lw_match.specs.declared.parts.Root.{Root}
+use Rattle.lw_bounds.specs.declared.parts.Root.{Root}
 use Rattle.lw_match.specs.declared.query.Query.{Query}
-use Rattle.lw_match.specs.Values.{plain_mark, marks_in}
-use Rattle.lw_match.specs.Least.{Priced, IsPricedAt, IsMarkBefore}
-use Rattle.lw_match.specs.Cutting.{cuts_state, root_side, AreCertified}
-use Rattle.lw_match.specs.Places.{list_at, list_of, root_of}
+use Rattle.lw_cost.specs.Values.{plain_mark, marks_in}
+use Rattle.lw_cost.specs.Least.{Priced, IsPricedAt, IsMarkBefore}
+use Rattle.lw_bounds.specs.Cuts.{cuts_state, root_side}
+use Rattle.lw_match.specs.Cutting.{AreCertified}
+use Rattle.lw_bounds.specs.Places.{list_at, list_of, root_of}
 use Rattle.lw_match.specs.Queries.{AreTrue, IsPricedIn, IsQuery}
-use Rattle.lw_match.specs.Searching.{Improves}
+use Rattle.lw_branch.specs.Searching.{Improves}
 
 -- a mark that is not before the bound when it is one higher
 abbrev pub IsLastBefore : Mark → Mark → Type 0

@@ -1,57 +1,37 @@
-//! Matches of a library's patterns at the classes of a graph, and the least of them under a cost.
+//! The least match at a class, and matches that are better than a bound, under a cost.
+//!
+//! A call makes a `site` of its arguments, and of that a `query`, which has the numbers of sides at
+//! the class. `finding` goes through all patterns for the least match; `bettering` asks for a match
+//! before a bound: what is sought stands in `want`, what a match has to be before in `target`,
+//! `hunting` asks one pattern, and `sweeping` those whose roots are near enough. `tops` remembers at
+//! which numbers the gaps of all patterns may be trusted. `choosing` finds the least match where the
+//! least mark is known.
+//!
+//! The definitions to read are `IsLeastMatch` in `specs/Least.antt` of `lw_cost`, and `IsOutcome` in
+//! `specs/Hunts.antt`. `lw_label` calls `better_within`, `better_bare` and `lower_within`,
+//! `lw_extract` calls `least_before`, and `lw_check` calls `least_within`; `least` and `least_below`
+//! are the same without a table, and tests compare them. What matches are and what they cost stands
+//! in `lw_cost`, the table in `lw_bounds`, the search by one pattern in `lw_branch`, and the cursor
+//! in `lw_cursor`; what a caller needs of them is given on here.
 #![tactic(auto)]
 
-mod bare;
 mod bettering;
-mod binding;
-mod bisecting;
-mod bounds;
 mod choosing;
-mod cost;
-mod counting;
-mod cursor;
-mod cuts;
 mod finding;
-mod gaps;
-mod goals;
-mod heights;
 mod hunting;
-mod job;
-mod laws;
-mod lowering;
-mod making;
-mod mark;
-mod needs;
-mod numbers;
-mod parts;
-mod pins;
-mod places;
-mod pruning;
 mod query;
-mod renewing;
-mod rows;
-mod search;
-mod seeking;
-mod settling;
-mod shapes;
 mod site;
-mod starts;
 mod sweeping;
 mod target;
-mod times;
 mod tops;
 mod want;
 
 pub use bettering::{Outcome, better_bare, better_within, lower_within};
-pub use bounds::Bounds;
 pub use choosing::least_before;
-pub use cost::Cost;
-pub use cursor::Cursor;
 pub use finding::{least, least_below, least_within};
-pub use heights::HeightBounds;
-pub use laws::{
-    bounds_of_fewer, library_patterns_are_of_cells, matches_have_cells, settled_bounds_are_bounds,
+pub use lw_bounds::{Bounds, HeightBounds, bounds_of_fewer, settled_bounds_are_bounds};
+pub use lw_cost::{
+    Best, Cost, Mark, Match, Pins, library_patterns_are_of_cells, matches_have_cells,
 };
-pub use mark::{Best, Mark, Match};
-pub use pins::Pins;
+pub use lw_cursor::Cursor;
 pub use tops::Tops;

@@ -1,11 +1,10 @@
 // What is asked at a class, with the numbers of sides there.
 ghost use Rattle.std.specs.Prelude.{◌≡◌, length};
-ghost use Rattle.lw_match.specs.Cutting.{cuts_state, cuts_reading};
-ghost use Rattle.lw_match.specs.Places.{HasSides};
+ghost use Rattle.lw_bounds.specs.Cuts.{cuts_state, cuts_reading};
+ghost use Rattle.lw_bounds.specs.Places.{HasSides};
 
-use crate::Mark;
-use crate::cuts::Cuts;
-use crate::rows::View;
+use lw_bounds::{Cuts, View};
+use lw_cost::Mark;
 use lw_graph::Graph;
 use lw_pattern::Patterns;
 use lw_pool::ClassId;

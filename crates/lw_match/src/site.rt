@@ -1,13 +1,12 @@
 // A class with all that a search there reads, of which a query is made.
 ghost use Rattle.std.specs.Prelude.{◌≡◌};
-ghost use Rattle.lw_match.specs.Places.{leaves_of};
+ghost use Rattle.lw_bounds.specs.Places.{leaves_of};
 ghost use Rattle.lw_match.specs.Queries.{IsQuery};
 ghost use Rattle.lw_match.specs.Sites.{site_of, site_reading, IsSite};
 
-use crate::cuts::{Cuts, numbers_of};
 use crate::query::Query;
-use crate::rows::{leaves_at, view_at};
-use crate::{Cost, Mark};
+use lw_bounds::{Cuts, leaves_at, numbers_of, view_at};
+use lw_cost::{Cost, Mark};
 use lw_graph::Graph;
 use lw_pattern::Patterns;
 use lw_pool::ClassId;

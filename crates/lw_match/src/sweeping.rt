@@ -1,18 +1,16 @@
 // Hunts by all patterns at a class: those alone are searched whose roots have numbers low enough.
 ghost use Rattle.std.specs.Prelude.{ℕ, ◌↔◌, IsTrue, IsFalse};
-ghost use Rattle.lw_match.specs.Places.{IsFar};
+ghost use Rattle.lw_bounds.specs.Places.{IsFar};
 ghost use Rattle.lw_match.specs.Queries.{IsQuery, IsQueryBy, AreRootsIn, HasRootsListed};
 ghost use Rattle.lw_match.specs.Hunts.{HuntsOn, HasNoneAtAll, HasNoneByRoot, HasNoneInList, HasNoneLeft, IsNewHunt, IsWholeHunt};
 
-use crate::binding::Unbound;
 use crate::hunting::better_by;
-use crate::numbers::shifted;
-use crate::parts::Root;
 use crate::query::Query;
-use crate::rows::list_at;
 use crate::target::Target;
 use crate::want::{Want, target_after, target_of};
-use crate::{Best, Cost};
+use lw_bounds::{Root, list_at, shifted};
+use lw_branch::Unbound;
+use lw_cost::{Best, Cost};
 use lw_pool::PatId;
 
 /// What was found so far, what a match has to be before that is better, and the binding that

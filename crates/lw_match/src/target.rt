@@ -2,7 +2,7 @@
 ghost use Rattle.std.specs.Prelude.{◌≡◌, false};
 ghost use Rattle.lw_match.specs.Cutting.{IsSharper, IsTopOf};
 
-use crate::Mark;
+use lw_cost::Mark;
 
 /// What a match has to be before, the number from which on none is, and whether marks count, so
 /// that the least mark is sought and not any before the bound.

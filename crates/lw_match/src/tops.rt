@@ -1,13 +1,13 @@
 // Numbers at which the gaps of all patterns may be trusted, remembered over many searches.
 ghost use Rattle.std.specs.Prelude.{◌≡◌, ◌<◌, ◌≤◌, ◌≢◌, IsTrue, ℕ, length};
-ghost use Rattle.lw_match.specs.Least.{AreOfCells};
-ghost use Rattle.lw_match.specs.Numbers.{never};
+ghost use Rattle.lw_cost.specs.Least.{AreOfCells};
+ghost use Rattle.lw_bounds.specs.Numbers.{never};
 ghost use Rattle.lw_match.specs.Queries.{AreCertifiedFor, AreKnownFor, HasPatternsOfCells};
 ghost use Rattle.lw_match.specs.Cutting.{AreCertified, AreKnown, IsLikeLast, most_tops};
 
-use crate::gaps::{gaps_at, is_certified_by, known_of};
 use crate::query::Query;
-use crate::{Bounds, Cost};
+use lw_bounds::{Bounds, gaps_at, is_certified_by, known_of};
+use lw_cost::Cost;
 use lw_pattern::Patterns;
 use lw_pool::PatId;
 use std::marker::Model;

@@ -1,12 +1,12 @@
 // What is sought, and the targets that stand for it.
 ghost use Rattle.std.specs.Prelude.{◌≡◌, Some, true, false};
-ghost use Rattle.lw_match.specs.Values.{plain_mark};
-ghost use Rattle.lw_match.specs.Least.{IsWithin};
+ghost use Rattle.lw_cost.specs.Values.{plain_mark};
+ghost use Rattle.lw_cost.specs.Least.{IsWithin};
 ghost use Rattle.lw_match.specs.Cutting.{IsSharper};
 ghost use Rattle.lw_match.specs.Hunts.{IsCheaper, IsTargetOf, IsTargetAfter, IsUnlimited, any_before, lowest_before};
 
-use crate::Mark;
 use crate::target::{Target, sharpened, top_of};
+use lw_cost::Mark;
 
 /// What is sought: a match before the bound, where there is one, and one with the least mark where
 /// marks count.

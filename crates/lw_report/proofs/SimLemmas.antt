@@ -32,8 +32,7 @@ use Rattle.lw_report.specs.Simulated.{AreLines, IsNetworkLine, IsNetlistLine, va
 use Rattle.lw_report.specs.Simulated.AreLines.{no_lines, next_line}
 use Rattle.lw_report.proofs.Bits.{bit_and_is, bit_or_is, bit_zero}
 use Rattle.lw_report.proofs.BlockLemmas.{bits_read}
-use Rattle.lw_pool.specs.Numbers.{net_number}
-use Rattle.lw_pool.specs.Numbers.{values_at}
+use Rattle.lw_pool.specs.Numbers.{net_number, values_at}
 
 -- Rows.
 

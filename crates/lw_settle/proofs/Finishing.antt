@@ -14,11 +14,10 @@ use Rattle.lw_laws.specs.Marks.{Mark as PlainMark, Marks, HaveMarks, IsMarkAtMos
 use Rattle.lw_laws.specs.Rounds.{labels_in}
 use Rattle.lw_laws.proofs.Potentials.{labels_are_least, IsLeast_once}
 use Rattle.lw_laws.proofs.Heights.{heights_are}
-use Rattle.lw_match.specs.declared.mark.Mark.{Mark}
-use Rattle.lw_match.specs.Values.{marks_in}
-use Rattle.lw_label.specs.Labels.{costs_of}
-use Rattle.lw_label.proofs.HeightPasses.{marked_most}
-use Rattle.lw_label.proofs.Marked.{label_at, label_of_mark, mark_of_label, labels_of_marks, marks_of_labels}
+use Rattle.lw_cost.specs.declared.mark.Mark.{Mark}
+use Rattle.lw_cost.specs.Values.{marks_in}
+use Rattle.lw_cost.specs.Labels.{costs_of}
+use Rattle.lw_cost.proofs.MarksAsLabels.{marked_most, label_at, label_of_mark, mark_of_label, labels_of_marks, marks_of_labels}
 use Rattle.lw_settle.specs.Queues.{AreNone}
 use Rattle.lw_settle.specs.Stores.{Stored, Placed, placed, pins_of, AreOfStoredCells}
 use Rattle.lw_settle.specs.Settled.{choices_among, AreSettledMarks, HaveLeafCosts, labelled, labelled_uses, labelled_matches, settle_steps}

@@ -4,8 +4,8 @@ use Rattle.std.proofs.lemmas.Bool.{cases_lt, cases_eq, cases_order, cases_Bool, 
 use Rattle.std.proofs.lemmas.List.{length-map, length-drop, length-replicate, get_or-drop, get_or-map, get_or-set_same, get_or-set_other, get_or_past, map-set, get_or-replicate, ext_get_or}
 use Rattle.std.proofs.lemmas.Option.{slice_get-map, slice_get-get_or, same_Some}
 use Rattle.lw_laws.specs.Marks.{IsMarkAtMost}
-use Rattle.lw_match.specs.declared.mark.Mark.{Mark}
-use Rattle.lw_match.specs.Values.{plain_mark}
+use Rattle.lw_cost.specs.declared.mark.Mark.{Mark}
+use Rattle.lw_cost.specs.Values.{plain_mark}
 use Rattle.lw_settle.specs.declared.entry.Entry.{Entry}
 use Rattle.lw_settle.specs.declared.queue.Taken.{Taken}
 use Rattle.lw_settle.specs.Queues.{no_cost, no_height, no_entry, mark_of, is_before, lesser, node, IsWonAt, AreWonBut, IsLeafOf, IsTree, waiting, AreNone, IsFirst, IsLowered}

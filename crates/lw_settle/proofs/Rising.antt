@@ -7,11 +7,10 @@ use Rattle.std.proofs.lemmas.Option.{same_Some, slice_get_within, get_or_from_sl
 use Rattle.lw_laws.specs.Graphs.{Graph}
 use Rattle.lw_laws.specs.Costs.{Cost, IsCost}
 use Rattle.lw_laws.specs.Marks.{Mark as PlainMark, Marks, HaveMarks, IsMarkAtMost, leaf_mark, price}
-use Rattle.lw_match.specs.declared.mark.Mark.{Mark}
-use Rattle.lw_match.specs.Values.{marks_in, plain_mark}
-use Rattle.lw_label.specs.Heights.{marked}
-use Rattle.lw_label.proofs.HeightPasses.{marked_more, marked_most}
-use Rattle.lw_label.proofs.Marked.{mark_set_same, mark_set_other}
+use Rattle.lw_cost.specs.declared.mark.Mark.{Mark}
+use Rattle.lw_cost.specs.Values.{marks_in, plain_mark}
+use Rattle.lw_cost.specs.Labels.{marked}
+use Rattle.lw_cost.proofs.MarksAsLabels.{marked_more, marked_most, mark_set_same, mark_set_other}
 use Rattle.lw_settle.specs.declared.queue.Taken.{Taken}
 use Rattle.lw_settle.specs.Queues.{IsFirst, IsLowered}
 use Rattle.lw_settle.specs.Stores.{Stored, Placed, placed, pins_of, times, uses_from, uses_of, AreKeptLists, AreOfStoredCells}

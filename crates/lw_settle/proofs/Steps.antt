@@ -6,7 +6,7 @@ use Rattle.lw_laws.specs.Graphs.{Graph}
 use Rattle.lw_laws.specs.Covers.{Pattern}
 use Rattle.lw_laws.specs.Choices.{Labels}
 use Rattle.lw_laws.specs.Extracts.{Match}
-use Rattle.lw_match.specs.Coming.{AreMatches}
+use Rattle.lw_cost.specs.Coming.{AreMatches}
 use Rattle.lw_settle.specs.Stores.{Stored, Placed, placed, placed_at, placed_from, pins_of, with_cell, IsStoreOf, AreStoredAt}
 use Rattle.lw_settle.specs.Settled.{labelled, labelled_uses, labelled_matches, settle_steps}
 use Rattle.lw_settle.specs.Steps.{AreSteps}

@@ -1,8 +1,8 @@
 -- A queue of classes by their marks: a tree whose leaves are the classes, and in which each other node is the lesser of two nodes.
 use Rattle.std.specs.Prelude.{ℕ, ◌+◌, ◌-◌, ◌*◌, ◌^◌, ◌<◌, ◌≤◌, ◌≡◌, ◌≢◌, ◌⊎◌, ◌==◌, ◌||◌, ◌&&◌, Bool, nat_lt, if◌then◌else◌, List, length, map, drop, Option, Some, None, slice_get, slice_set, slice_index_or}
 use Rattle.lw_laws.specs.Marks.{IsMarkAtMost}
-use Rattle.lw_match.specs.declared.mark.Mark.{Mark}
-use Rattle.lw_match.specs.Values.{plain_mark}
+use Rattle.lw_cost.specs.declared.mark.Mark.{Mark}
+use Rattle.lw_cost.specs.Values.{plain_mark}
 use Rattle.lw_settle.specs.declared.entry.Entry.{Entry}
 use Rattle.lw_settle.specs.declared.queue.Taken.{Taken}
 

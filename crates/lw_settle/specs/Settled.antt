@@ -5,9 +5,9 @@ use Rattle.lw_laws.specs.Costs.{Cost}
 use Rattle.lw_laws.specs.Choices.{Choices, Labels, IsLeastCost, IsHeight}
 use Rattle.lw_laws.specs.Marks.{Mark as PlainMark}
 use Rattle.lw_laws.specs.Rounds.{labels_in}
-use Rattle.lw_match.specs.declared.mark.Mark.{Mark}
-use Rattle.lw_match.specs.Values.{marks_in, AreInRange}
-use Rattle.lw_label.specs.Labels.{costs_of}
+use Rattle.lw_cost.specs.declared.mark.Mark.{Mark}
+use Rattle.lw_cost.specs.Values.{marks_in, AreInRange}
+use Rattle.lw_cost.specs.Labels.{costs_of}
 use Rattle.lw_settle.specs.Stores.{Stored, StoreState, Placed, placed, pins_of, AreOfStoredCells}
 
 -- a match that is stored at the class, of this cell and with these classes as its pins

@@ -3,9 +3,9 @@ use Rattle.std.specs.Prelude.{ℕ, zero, suc, ◌+◌, ◌-◌, ◌^◌, ◌<◌
 use Rattle.lw_laws.specs.Graphs.{Graph}
 use Rattle.lw_laws.specs.Costs.{Cost}
 use Rattle.lw_laws.specs.Marks.{Mark as PlainMark, Marks, HaveMarks, IsMarkAtMost, leaf_mark, price}
-use Rattle.lw_match.specs.declared.mark.Mark.{Mark}
-use Rattle.lw_match.specs.Values.{marks_in}
-use Rattle.lw_label.specs.Heights.{marked}
+use Rattle.lw_cost.specs.declared.mark.Mark.{Mark}
+use Rattle.lw_cost.specs.Values.{marks_in}
+use Rattle.lw_cost.specs.Labels.{marked}
 use Rattle.lw_settle.specs.Queues.{AreNone}
 use Rattle.lw_settle.specs.Stores.{Stored, StoreState, Placed, placed, pins_of, times, uses_of, AreOfStoredCells, HasMarkedPins, IsReadOnce}
 

@@ -2,7 +2,7 @@
 ghost use Rattle.std.specs.Prelude.{◌≡◌, ◌<◌, ◌^◌, ◌-◌};
 ghost use Rattle.lw_settle.specs.Queues.{is_before, lesser, IsIdleLeaf, IsWaitingLeaf};
 
-use lw_match::Mark;
+use lw_cost::Mark;
 
 /// A class with the mark that it waits with. The greatest cost and height stand for no mark.
 #[derive(Clone, Copy)]

@@ -3,7 +3,7 @@ ghost use Rattle.std.specs.Prelude.{◌≡◌, ◌+◌, ◌*◌, ◌/◌, ◌^�
 ghost use Rattle.lw_settle.specs.Queues.{IsLowered, IsWonBut, TakesFirst};
 
 use crate::entry::{Entry, is_before, lesser, no_mark, with_mark};
-use lw_match::Mark;
+use lw_cost::Mark;
 use lw_pool::ClassId;
 use std::alloc::{AllocError, Global};
 use std::marker::Model;
@@ -27,7 +27,7 @@ pub(crate) struct Queue {
 
 impl Model for Queue {
     ghost use Rattle.std.specs.Prelude.{List, Option};
-    ghost use Rattle.lw_match.specs.declared.mark.Mark.{Mark};
+    ghost use Rattle.lw_cost.specs.declared.mark.Mark.{Mark};
 
     ghost Value = { List (Option Mark) };
 

@@ -1,17 +1,17 @@
 // Marks of classes by stored matches.
 ghost use Rattle.std.specs.Prelude.{◌≡◌, ◌+◌, ◌^◌, ◌<◌, None, IfOk, OnErr, length, map, replicate};
 ghost use Rattle.lw_laws.specs.Rounds.{labels_in};
-ghost use Rattle.lw_label.specs.Labels.{costs_of};
-ghost use Rattle.lw_match.specs.Values.{marks_in, plain_mark};
+ghost use Rattle.lw_cost.specs.Labels.{costs_of};
+ghost use Rattle.lw_cost.specs.Values.{marks_in, plain_mark};
 ghost use Rattle.lw_settle.specs.Settled.{AreSettledMarks, AreUnsettled, HaveLeafCosts, IsSettledBy, MaySettle, settle_steps};
 ghost use Rattle.lw_settle.specs.Settling.{AreAllTaken, AreInputsOffered, HasOfferedPinless, HasPriced, HasRead, IsOffering, MayOffer, MayOfferPinless, MayPrice, MayRead, MayTakeAll, pin_count};
 ghost use Rattle.lw_settle.specs.Stores.{AreOfStoredCells, placed, uses_of};
 
 use crate::queue::Queue;
 use crate::store::Store;
+use lw_cost::{Cost, Mark};
 use lw_graph::Graph;
-use lw_label::Labels;
-use lw_match::{Cost, Mark};
+use lw_cost::Labels;
 use lw_pool::ClassId;
 use std::alloc::{AllocError, Global};
 

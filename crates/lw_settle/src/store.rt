@@ -3,13 +3,13 @@ ghost use Rattle.std.specs.Prelude.{◌≡◌, ◌+◌, ◌^◌, ◌<◌, ◌≤
 ghost use Rattle.std.specs.List.{slice_range};
 ghost use Rattle.lw_laws.specs.Covers.{HasPins};
 ghost use Rattle.lw_laws.specs.Marks.{Mark as PlainMark, HaveMarks, costs_in, greatest_height, price};
-ghost use Rattle.lw_match.specs.Values.{AreInRange, marks_in, plain_mark};
+ghost use Rattle.lw_cost.specs.Values.{AreInRange, marks_in, plain_mark};
 ghost use Rattle.lw_settle.specs.Kept.{start_at};
 ghost use Rattle.lw_settle.specs.Stores.{AreKeptLists, AreMarkedPins, IsFound, IsHeadOf, IsPriceable, IsPriceOf, IsReadOnce, pin_total, placed, uses_of};
 ghost use Rattle.lw_pool.specs.Numbers.{numbers};
 
 use crate::row::Row;
-use lw_match::{Cost, Mark, Pins};
+use lw_cost::{Cost, Mark, Pins};
 use lw_pool::{CellId, ClassId};
 use std::marker::Model;
 

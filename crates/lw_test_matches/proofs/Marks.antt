@@ -3,8 +3,8 @@ use Rattle.std.proofs.Common.{zero, suc, ◌-◌, ◌^◌, ◌<◌, ◌≤◌, �
 use Rattle.std.specs.Prelude.{All}
 use Rattle.std.proofs.lemmas.Option.{same_Some}
 use Rattle.lw_laws.specs.Marks.{Mark as PlainMark}
-use Rattle.lw_match.specs.declared.mark.Mark.{Mark}
-use Rattle.lw_match.specs.Values.{plain_mark, AreInRange}
+use Rattle.lw_cost.specs.declared.mark.Mark.{Mark}
+use Rattle.lw_cost.specs.Values.{plain_mark, AreInRange}
 use Rattle.lw_label.specs.Delays.{most_time}
 use Rattle.lw_test_matches.specs.Drawing.{IsInRange}
 

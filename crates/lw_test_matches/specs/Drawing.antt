@@ -1,6 +1,6 @@
 -- What drawn marks keep.
 use Rattle.std.specs.Prelude.{◌-◌, ◌^◌, ◌<◌, ◌≤◌, Option, IfSome}
-use Rattle.lw_match.specs.declared.mark.Mark.{Mark}
+use Rattle.lw_cost.specs.declared.mark.Mark.{Mark}
 use Rattle.lw_label.specs.Delays.{most_time}
 
 -- no cost above the cap of times, and a height that can rise by one

@@ -1,6 +1,6 @@
 // Graphs and marks that are drawn.
 ghost use Rattle.std.specs.Prelude.{◌≡◌, ◌≤◌, length, All, IfOk};
-ghost use Rattle.lw_match.specs.Values.{AreInRange};
+ghost use Rattle.lw_cost.specs.Values.{AreInRange};
 ghost use Rattle.lw_label.specs.Delays.{most_time};
 ghost use Rattle.lw_test_matches.specs.Drawing.{IsInRange};
 

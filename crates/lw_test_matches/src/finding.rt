@@ -1,7 +1,7 @@
 // The least match against the matches of a cursor, and marks against rounds over all matches, in
 // graphs that are drawn.
 ghost use Rattle.std.specs.Prelude.{◌≡◌, ◌<◌, All, length};
-ghost use Rattle.lw_match.specs.Values.{AreInRange};
+ghost use Rattle.lw_cost.specs.Values.{AreInRange};
 ghost use Rattle.lw_genlib.specs.Cells.{IsSmall};
 ghost use Rattle.lw_test_matches.specs.Fitting.{Fits};
 ghost use Rattle.lw_label.specs.Delays.{most_time};

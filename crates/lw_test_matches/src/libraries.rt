@@ -2,7 +2,7 @@
 ghost use Rattle.std.specs.Prelude.{◌≡◌, ◌+◌, ◌≤◌, false, [], All, IfOk, length, map};
 ghost use Rattle.lw_genlib.specs.Cells.{IsSmall};
 ghost use Rattle.lw_genlib.specs.Tables.{delays_of_cells};
-ghost use Rattle.lw_match.specs.Least.{AreOfCells};
+ghost use Rattle.lw_cost.specs.Least.{AreOfCells};
 ghost use Rattle.lw_words.specs.Standing.{is_finished, fed_count};
 
 use lw_fixed::Micros;

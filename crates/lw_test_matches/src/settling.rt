@@ -1,7 +1,7 @@
 // Stores against the matches of cursors, and marks that are settled against those that are found in
 // rounds, in graphs that are drawn.
 ghost use Rattle.std.specs.Prelude.{◌≡◌, ◌<◌, ℕ, length, OnOk};
-ghost use Rattle.lw_match.specs.Least.{AreOfCells};
+ghost use Rattle.lw_cost.specs.Least.{AreOfCells};
 ghost use Rattle.lw_test_matches.specs.Fitting.{Fits};
 
 use crate::drawing::{Dice, drawn_graphs};

@@ -10,7 +10,7 @@ use Rattle.lw_blif.specs.BlifNetworks.{IsModel}
 use Rattle.lw_netlist.specs.Plain.{IsOver, plain_port}
 use Rattle.lw_laws.specs.Graphs.{Graph}
 use Rattle.lw_laws.specs.Rounds.{labels_in}
-use Rattle.lw_label.specs.Labels.{costs_of}
+use Rattle.lw_cost.specs.Labels.{costs_of}
 use Rattle.lw_settle.specs.Steps.{AreSteps}
 use Rattle.lw_pattern.specs.Libraries.{library_patterns}
 use Rattle.lw_big.specs.Generated.{IsGenerated}

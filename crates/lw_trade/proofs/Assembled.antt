@@ -39,7 +39,7 @@ use Rattle.lw_trade.proofs.Places.{order_length, order_low, stands_there}
 use Rattle.lw_trade.proofs.Standing.{pins_before_gate, placed_input, placed_node}
 use Rattle.lw_trade.proofs.Walked.{roots_low, walk_graph, walk_high}
 use Rattle.lw_pool.specs.Numbers.{net_number}
-use Rattle.lw_label.proofs.Times.{pins_at}
+use Rattle.lw_cost.proofs.CellPins.{pins_at}
 
 all_below : (m : ℕ) (places : List ℕ) (b : ℕ) (xs : List ℕ) → ((k d : ℕ) → k < length xs → placed_net m places (slice_index_or xs k d) < b) → AllByRecursion (λ p. p < b) (map (placed_net m places) xs)
 all_below m places b [] h = tt

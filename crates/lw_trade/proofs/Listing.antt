@@ -4,9 +4,9 @@ use native.Mathlib.Nat.{eq-or-lt_of_le}
 use Rattle.std.proofs.lemmas.Option.{same_Some, slice_get_within}
 use Rattle.lw_laws.specs.Covers.{Pattern}
 use Rattle.lw_laws.specs.Extracts.{Match, IsMatchOf}
-use Rattle.lw_match.specs.Coming.{AreMatches, IsPatternMatch}
-use Rattle.lw_match.specs.Least.{AreOfCells}
-use Rattle.lw_match.proofs.CellMatches.{of_cell, of_pattern}
+use Rattle.lw_cost.specs.Coming.{AreMatches, IsPatternMatch}
+use Rattle.lw_cost.specs.Least.{AreOfCells}
+use Rattle.lw_cost.proofs.CellMatches.{of_cell, of_pattern}
 use Rattle.lw_trade.specs.declared.choices.Row.{Row}
 use Rattle.lw_trade.specs.Areas.{area_cost}
 use Rattle.lw_trade.specs.Choices.{Part, Choice, MayStand, AreListedChoices}

@@ -2,7 +2,7 @@
 use Rattle.std.proofs.Common.{◌≡◌, ℕ, ◌+◌, ◌<◌, ◌⊎◌, inl, inr, length, List, [], ◌∷◌, ◌++◌, Some, slice_get, ap, sym, ◌∙◌, subst, arith}
 use native.Mathlib.Nat.{eq-or-lt_of_le}
 use Rattle.std.proofs.lemmas.Option.{same_Some, slice_get_within}
-use Rattle.lw_match.specs.Least.{AreOfCells}
+use Rattle.lw_cost.specs.Least.{AreOfCells}
 use Rattle.lw_settle.specs.Stores.{Placed, Stored, IsStoreOf, AreKeptLists, placed, pins_of}
 use Rattle.lw_settle.proofs.Agreeing.{match_stored, stored_is}
 use Rattle.lw_trade.specs.Areas.{area_cost}

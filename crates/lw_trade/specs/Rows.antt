@@ -4,7 +4,7 @@ use Rattle.lw_fixed.specs.declared.micro.Micro.{Micro}
 use Rattle.lw_genlib.specs.Cells.{CellParts}
 use Rattle.lw_laws.specs.Covers.{Pattern}
 use Rattle.lw_laws.specs.Graphs.{Graph}
-use Rattle.lw_match.specs.Least.{AreOfCells}
+use Rattle.lw_cost.specs.Least.{AreOfCells}
 use Rattle.lw_settle.specs.Stores.{Stored, IsStoreOf}
 use Rattle.lw_pool.specs.declared.id.CellId.{CellId}
 use Rattle.lw_pool.specs.declared.id.ClassId.{ClassId}

@@ -2,8 +2,8 @@
 ghost use Rattle.std.specs.Prelude.{◌≡◌, ◌+◌, min};
 ghost use Rattle.lw_trade.specs.Areas.{most_area, total};
 
+use lw_cost::Cost;
 use lw_genlib::Library;
-use lw_match::Cost;
 use lw_pool::CellId;
 
 /// The area of a cover, in millionths: an input has none, and a cell its own and those of its pins

@@ -5,8 +5,9 @@ ghost use Rattle.lw_fixed.specs.declared.micro.Micro.{Micro as MicroOf};
 ghost use Rattle.lw_trade.specs.Points.{task};
 ghost use Rattle.lw_trade.specs.Rows.{AreAllChoices, AreMatchesListed, AreStoredListed, IsClassListed, IsGatePushed, IsListing, plain_rows};
 
+use lw_cost::Pins;
+use lw_cursor::Cursor;
 use lw_graph::Graph;
-use lw_match::{Cursor, Pins};
 use lw_pattern::Patterns;
 use lw_pool::{CellId, ClassId};
 use lw_settle::{Store, StoreFault, store_matches};

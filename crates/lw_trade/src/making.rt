@@ -1,6 +1,6 @@
 // From a graph to the points of its classes.
 ghost use Rattle.std.specs.Prelude.{◌<◌, ◌≤◌, IfErr, IfOk, OnOk, length};
-ghost use Rattle.lw_match.specs.Least.{AreOfCells};
+ghost use Rattle.lw_cost.specs.Least.{AreOfCells};
 ghost use Rattle.lw_trade.specs.Areas.{area_cost};
 ghost use Rattle.lw_trade.specs.Groups.{HaveWays};
 ghost use Rattle.lw_trade.specs.Jobs.{AreListedSomewhere, HasNoPoints, HaveFronts, HaveFrontsIn, HaveFrontsOf, IsJob, IsStopFor, IsStopOf, MayBegin};

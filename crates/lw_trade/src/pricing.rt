@@ -1,9 +1,8 @@
 // The least area that a choice gives by a time.
 ghost use Rattle.std.specs.Prelude.{◌≡◌, ◌<◌, ◌≤◌, List, All, IfSome, length, map};
 ghost use Rattle.lw_genlib.specs.Tables.{millionths};
-ghost use Rattle.lw_laws.specs.Covers.{start_of};
+ghost use Rattle.lw_laws.specs.Covers.{start_of, Pattern as TreeOfCell};
 ghost use Rattle.lw_laws.specs.Graphs.{Graph as PlainGraph};
-ghost use Rattle.lw_laws.specs.Covers.{Pattern as TreeOfCell};
 ghost use Rattle.lw_trade.specs.Areas.{most_area};
 ghost use Rattle.lw_trade.specs.Jobs.{task_of};
 ghost use Rattle.lw_trade.specs.Pricing.{IsBestOfPins, IsPartFor};

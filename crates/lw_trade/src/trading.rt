@@ -1,6 +1,6 @@
 // The netlist of least area under a deadline.
 ghost use Rattle.std.specs.Prelude.{IfOk};
-ghost use Rattle.lw_match.specs.Least.{AreOfCells};
+ghost use Rattle.lw_cost.specs.Least.{AreOfCells};
 ghost use Rattle.lw_trade.specs.Areas.{area_cost};
 ghost use Rattle.lw_trade.specs.Points.{task};
 ghost use Rattle.lw_trade.specs.Targets.{AreCurvesFor, AreTargets};

@@ -26,13 +26,12 @@ use Rattle.lw_verilog.specs.Tokens.{last_line, tokens, tokens_from}
 use Rattle.lw_verilog.specs.Verdicts.{ComesTo, IsRead}
 use Rattle.lw_verilog.specs.Windows.{number_limit}
 use Rattle.lw_verilog.specs.Writable.{IsWritable}
-use Rattle.lw_verilog.proofs.Leading.{Says, at, header-reads, inputs-say, outputs-say, says-both, statement, wires-say}
+use Rattle.lw_verilog.proofs.Leading.{Says, at, header-reads, inputs-say, outputs-say, says-both, statement, wires-say, IsGood}
 use Rattle.lw_verilog.proofs.LeadingGates.{assignments-say, gates-say}
 use Rattle.lw_verilog.proofs.Parsing.{read-done}
 use Rattle.lw_verilog.proofs.Spellings.{leads-end}
 use Rattle.lw_verilog.proofs.Stepping.{Leads, Reads, leads-both, reads-both}
 use Rattle.lw_verilog.proofs.Writables.{gates-sayable, ins, ins-good, ins-new, model-good, nets-good, outs, outs-good, outs-new, ports-kept, ports-new, ports-sayable}
-use Rattle.lw_verilog.proofs.Leading.{IsGood}
 use Rattle.lw_netlist.specs.Plain.{port_name}
 use Rattle.lw_frame.proofs.Each.{each-append}
 

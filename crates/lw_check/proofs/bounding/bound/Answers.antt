@@ -1,4 +1,4 @@
-use Rattle.lw_label.proofs.Marked.{cover_problem}
+use Rattle.lw_cost.proofs.MarksAsLabels.{cover_problem}
 use Rattle.lw_laws.proofs.Together.{bounds_covers}
 use Rattle.lw_check.proofs.Failures.{fails_least, none_is_potential, some_is_first}
 use Rattle.lw_check.proofs.bounding.bound.Goals as goal

@@ -1,8 +1,8 @@
 use Rattle.std.proofs.Common.{ap, length, sym, ◌∙◌, subst}
 use Rattle.std.proofs.lemmas.List.{length-map}
-use Rattle.lw_label.specs.Labels.{costs_of}
-use Rattle.lw_match.specs.Bounds.{AreBounds}
-use Rattle.lw_match.specs.Values.{AreInRange}
+use Rattle.lw_cost.specs.Labels.{costs_of}
+use Rattle.lw_bounds.specs.Bounds.{AreBounds}
+use Rattle.lw_cost.specs.Values.{AreInRange}
 use Rattle.lw_check.specs.Least.{AreFlat, flat_mark}
 use Rattle.lw_check.proofs.Table.{flat_costs, flat_in_range, flat_marks}
 use Rattle.lw_check.proofs.labels.sought.Goals as goal

@@ -1,6 +1,6 @@
 use Rattle.std.proofs.Common.{◌+◌, refl, subst, arith}
-use Rattle.lw_match.specs.declared.mark.Mark.{Mark}
-use Rattle.lw_match.specs.Values.{plain_mark, AreInRange}
+use Rattle.lw_cost.specs.declared.mark.Mark.{Mark}
+use Rattle.lw_cost.specs.Values.{plain_mark, AreInRange}
 use Rattle.lw_extract.proofs.Picking.{chosen_by, some_match, can_rise, before_next, last_before}
 use Rattle.lw_extract.proofs.choosing.choice.Goals as goal
 

@@ -1,8 +1,8 @@
 use Rattle.std.proofs.Common.{All, IsSome, Option, None, List, IfSome, slice_index_or, sym, subst, subst₂}
 use Rattle.lw_facts.proofs.Results.{some_both}
 use Rattle.lw_pool.specs.declared.id.ClassId.{ClassId}
-use Rattle.lw_match.specs.declared.mark.Mark.{Mark}
-use Rattle.lw_match.specs.Bounds.{AreBounds}
+use Rattle.lw_cost.specs.declared.mark.Mark.{Mark}
+use Rattle.lw_bounds.specs.Bounds.{AreBounds}
 use Rattle.lw_extract.specs.Choosing.{RootsHaveMarks}
 use Rattle.lw_extract.specs.Covers.{AreLibraryLabels}
 use Rattle.lw_extract.proofs.Uncovered.{covered_ok, covered_memory}

@@ -1,7 +1,7 @@
 use Rattle.std.proofs.Common.{◌∙◌, sym, subst}
-use Rattle.lw_match.specs.Bounds.{AreBounds}
+use Rattle.lw_bounds.specs.Bounds.{AreBounds}
 use Rattle.lw_label.specs.Heights.{AreGiven}
-use Rattle.lw_label.specs.Labels.{AreLeastMarks}
+use Rattle.lw_cost.specs.Labels.{AreLeastMarks}
 use Rattle.lw_label.proofs.labels.mark_all.Goals as goal
 
 pub lower_all-requires : goal.lower_all-requires

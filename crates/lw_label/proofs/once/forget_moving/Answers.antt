@@ -1,6 +1,6 @@
 use Rattle.std.proofs.Common.{◌≡◌, ◌/◌, ◌∙◌, true, false, slice_index_or, true≢false, sym, subst}
-use Rattle.lw_match.specs.Bounds.{IsTableBut}
-use Rattle.lw_match.proofs.Tables.{but_both, but_same}
+use Rattle.lw_bounds.specs.Bounds.{IsTableBut}
+use Rattle.lw_bounds.proofs.Tables.{but_both, but_same}
 use Rattle.lw_label.specs.Orders.{IsStillAt}
 use Rattle.lw_label.proofs.once.forget_moving.Goals.{then-not-is_still, else-not-is_still}
 use Rattle.lw_label.proofs.once.forget_moving.Goals as goal

@@ -1,4 +1,4 @@
-use Rattle.lw_match.specs.Bounds.{IsTableBut}
+use Rattle.lw_bounds.specs.Bounds.{IsTableBut}
 use Rattle.lw_label.specs.Orders.{IsStillAt}
 use Rattle.lw_label.proofs.once.forget_moving.Given as goal
 

@@ -1,5 +1,5 @@
 use Rattle.std.proofs.Common.{◌≡◌, ◌/◌, refl}
-use Rattle.lw_match.proofs.Tables.{but_both, lowered_settled, rows_fit_but}
+use Rattle.lw_bounds.proofs.Tables.{but_both, lowered_settled, rows_fit_but}
 use Rattle.lw_label.proofs.OneVisit.{pair_out}
 use Rattle.lw_label.proofs.once.set_class.Goals as goal
 

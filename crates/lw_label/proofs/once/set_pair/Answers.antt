@@ -1,6 +1,6 @@
 use Rattle.std.proofs.Common.{◌≡◌, inl, inr, ◌+◌, ◌*◌, ◌/◌, refl, subst, sym, arith}
-use Rattle.lw_match.specs.Bounds.{AreSettledAt}
-use Rattle.lw_match.proofs.Tables.{but_both, rows_fit_but, settled_kept}
+use Rattle.lw_bounds.specs.Bounds.{AreSettledAt}
+use Rattle.lw_bounds.proofs.Tables.{but_both, rows_fit_but, settled_kept}
 use Rattle.lw_label.specs.OneVisit.{ArePartsElsewhere}
 use Rattle.lw_label.proofs.OneVisit.{pair_out, odd_of, even_of}
 use Rattle.lw_label.proofs.Passing.{of_place}

@@ -1,7 +1,8 @@
 use Rattle.std.proofs.Common.{sym, subst, arith}
-use Rattle.lw_match.specs.Cutting.{CutsState, AreCutsOf, AreKnown}
+use Rattle.lw_bounds.specs.Cuts.{CutsState, AreCutsOf}
+use Rattle.lw_match.specs.Cutting.{AreKnown}
 use Rattle.lw_match.specs.Sites.{AreKnownAt, IsSite}
-use Rattle.lw_match.proofs.CutsOfBounds.{bounds_cut_well}
+use Rattle.lw_bounds.proofs.CutsOfBounds.{bounds_cut_well}
 use Rattle.lw_match.proofs.Sites.{bounds_site, outcome_of}
 use Rattle.lw_match.proofs.bettering.better_within.Goals as goal
 

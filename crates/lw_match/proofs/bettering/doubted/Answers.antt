@@ -1,5 +1,5 @@
 use Rattle.std.proofs.Common.{arith}
-use Rattle.lw_match.specs.Cutting.{cuts_state}
+use Rattle.lw_bounds.specs.Cuts.{cuts_state}
 use Rattle.lw_match.proofs.Better.{doubts_start, doubts_next, none_if}
 use Rattle.lw_match.proofs.bettering.doubted.Goals as goal
 

@@ -1,4 +1,4 @@
-use Rattle.lw_match.specs.Cutting.{cuts_state}
+use Rattle.lw_bounds.specs.Cuts.{cuts_state}
 use Rattle.lw_match.proofs.Better.{AreSureOrNoneBelow}
 use Rattle.lw_match.proofs.bettering.doubted.Given as goal
 

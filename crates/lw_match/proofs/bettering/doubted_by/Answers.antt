@@ -1,5 +1,5 @@
 use Rattle.std.proofs.Common.{subst, inl, inr}
-use Rattle.lw_match.specs.Values.{marks_in}
+use Rattle.lw_cost.specs.Values.{marks_in}
 use Rattle.lw_match.specs.Cutting.{IsNoneBy, bound_after}
 use Rattle.lw_match.specs.Queries.{FindsWithin}
 use Rattle.lw_match.proofs.bettering.doubted_by.Goals as goal

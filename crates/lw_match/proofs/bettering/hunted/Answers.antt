@@ -1,5 +1,6 @@
 use Rattle.std.proofs.Common.{◌≡◌, Bool, None, rules, sym, subst, ◌∙◌, inl}
-use Rattle.lw_match.specs.Cutting.{bound_after, bound_past, cuts_state}
+use Rattle.lw_match.specs.Cutting.{bound_after, bound_past}
+use Rattle.lw_bounds.specs.Cuts.{cuts_state}
 use Rattle.lw_match.specs.Queries.{FindsLeast, IsWhole}
 use Rattle.lw_match.proofs.Better.{hunted_none, none_if, no_best, past_none, past_whole}
 use Rattle.lw_match.proofs.Sites.{new_hunt}

@@ -1,8 +1,8 @@
 use Rattle.std.proofs.Common.{◌<◌, false, Some, None, length, refl, sym, subst, inl, arith}
-use Rattle.lw_match.specs.declared.mark.Mark.{Mark}
+use Rattle.lw_cost.specs.declared.mark.Mark.{Mark}
 use Rattle.lw_match.specs.declared.target.Target.{Target}
-use Rattle.lw_match.specs.Values.{AreInRange}
-use Rattle.lw_match.specs.Cutting.{cuts_state}
+use Rattle.lw_cost.specs.Values.{AreInRange}
+use Rattle.lw_bounds.specs.Cuts.{cuts_state}
 use Rattle.lw_match.proofs.Better.{hunted_none, same_bound, top_flat}
 use Rattle.lw_match.proofs.RootLists.{all_far}
 use Rattle.lw_match.proofs.bettering.is_cheapest.Goals as goal

@@ -1,8 +1,9 @@
 use Rattle.std.proofs.Common.{sym, subst}
-use Rattle.lw_match.specs.Cutting.{CutsState, CutsFit, AreCutsOf, AreKnown}
+use Rattle.lw_bounds.specs.Cuts.{CutsState, CutsFit, AreCutsOf}
+use Rattle.lw_match.specs.Cutting.{AreKnown}
 use Rattle.lw_match.specs.Sites.{AreKnownAt, IsSite}
-use Rattle.lw_match.proofs.CutsOfBounds.{bounds_cut, bounds_cut_well}
-use Rattle.lw_match.proofs.HeightCuts.{heights_fit, heights_cut, gaps_with}
+use Rattle.lw_bounds.proofs.CutsOfBounds.{bounds_cut, bounds_cut_well}
+use Rattle.lw_bounds.proofs.HeightCuts.{heights_fit, heights_cut, gaps_with}
 use Rattle.lw_match.proofs.Sites.{outcome_of}
 use Rattle.lw_match.proofs.bettering.lower_within.Goals as goal
 

@@ -1,8 +1,9 @@
 use Rattle.std.proofs.Common.{◌∙◌, sym, subst}
-use Rattle.lw_match.specs.Values.{marks_in}
-use Rattle.lw_match.specs.Cutting.{CutsState, AreCutsOf, AreKnown}
+use Rattle.lw_cost.specs.Values.{marks_in}
+use Rattle.lw_bounds.specs.Cuts.{CutsState, AreCutsOf}
+use Rattle.lw_match.specs.Cutting.{AreKnown}
 use Rattle.lw_match.specs.Sites.{AreKnownAt, AreTrueAt, IsSite}
-use Rattle.lw_match.proofs.CutsOfBounds.{bounds_cut_well}
+use Rattle.lw_bounds.proofs.CutsOfBounds.{bounds_cut_well}
 use Rattle.lw_match.proofs.Picks.{last_floor}
 use Rattle.lw_match.proofs.Sites.{bounds_site, sure_query, least_at, last_at}
 use Rattle.lw_match.proofs.choosing.least_before.Goals as goal

@@ -1,7 +1,7 @@
 use Rattle.std.proofs.Common.{◌≡◌, Some, slice_get, slice_index_or, sym, subst, arith}
 use Rattle.std.proofs.lemmas.Option.{slice_get-get_or}
-use Rattle.lw_match.specs.declared.parts.Root.{Root}
-use Rattle.lw_match.specs.Values.{AreInRange}
+use Rattle.lw_bounds.specs.declared.parts.Root.{Root}
+use Rattle.lw_cost.specs.Values.{AreInRange}
 use Rattle.lw_match.specs.Picks.{IsByRoot, PicksOf}
 use Rattle.lw_match.proofs.Picks.{far_list, among_start, among_next, among_all}
 use Rattle.lw_match.proofs.choosing.pick_list.Goals as goal

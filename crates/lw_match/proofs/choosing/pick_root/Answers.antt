@@ -1,6 +1,6 @@
 use Rattle.std.proofs.Common.{refl, sym, subst, arith}
-use Rattle.lw_match.specs.declared.job.Scope.{Scope}
-use Rattle.lw_match.specs.Values.{AreInRange}
+use Rattle.lw_branch.specs.declared.job.Scope.{Scope}
+use Rattle.lw_cost.specs.Values.{AreInRange}
 use Rattle.lw_match.specs.Queries.{SearchesBy, least_scope}
 use Rattle.lw_match.proofs.Picks.{past_root, far_root, ahead_root, searched_root}
 use Rattle.lw_match.proofs.choosing.pick_root.Goals as goal

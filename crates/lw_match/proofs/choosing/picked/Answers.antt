@@ -1,8 +1,8 @@
 use Rattle.std.proofs.Common.{◌<◌, Some, sym, subst, arith}
-use Rattle.lw_match.specs.declared.mark.Mark.{Mark}
-use Rattle.lw_match.specs.Values.{marks_in}
+use Rattle.lw_cost.specs.declared.mark.Mark.{Mark}
+use Rattle.lw_cost.specs.Values.{marks_in}
 use Rattle.lw_match.specs.Queries.{AreTrue, IsPricedIn}
-use Rattle.lw_match.specs.Searching.{always}
+use Rattle.lw_branch.specs.Searching.{always}
 use Rattle.lw_match.proofs.Found.{within_least}
 use Rattle.lw_match.proofs.Picks.{below_next, improves_below}
 use Rattle.lw_match.proofs.choosing.picked.Goals as goal

@@ -1,4 +1,4 @@
-use Rattle.lw_match.specs.Values.{marks_in}
+use Rattle.lw_cost.specs.Values.{marks_in}
 use Rattle.lw_match.proofs.Better.{match_twice}
 use Rattle.lw_match.proofs.Sites.{aimed}
 use Rattle.lw_match.proofs.hunting.aimed_by.Goals as goal

@@ -1,6 +1,6 @@
 use Rattle.std.proofs.Common.{subst, sym, arith}
-use Rattle.lw_match.specs.Values.{AreInRange}
-use Rattle.lw_match.specs.Cutting.{cuts_state}
+use Rattle.lw_cost.specs.Values.{AreInRange}
+use Rattle.lw_bounds.specs.Cuts.{cuts_state}
 use Rattle.lw_match.proofs.Better.{root_none}
 use Rattle.lw_match.proofs.hunting.better_by.Goals as goal
 

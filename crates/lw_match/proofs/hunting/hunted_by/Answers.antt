@@ -1,7 +1,8 @@
 use Rattle.std.proofs.Common.{subst}
-use Rattle.lw_match.specs.declared.job.Scope.{Scope}
-use Rattle.lw_match.specs.Values.{marks_in}
-use Rattle.lw_match.specs.Cutting.{cuts_state, AreSureCuts}
+use Rattle.lw_branch.specs.declared.job.Scope.{Scope}
+use Rattle.lw_cost.specs.Values.{marks_in}
+use Rattle.lw_bounds.specs.Cuts.{cuts_state}
+use Rattle.lw_match.specs.Cutting.{AreSureCuts}
 use Rattle.lw_match.specs.Queries.{SearchesBy, scope_of}
 use Rattle.lw_match.proofs.Better.{match_by, none_by, ahead_of}
 use Rattle.lw_match.proofs.Opens.{open_kept, nothing_kept}

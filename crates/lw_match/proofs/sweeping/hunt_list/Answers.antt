@@ -1,9 +1,9 @@
 use Rattle.std.proofs.Common.{◌≡◌, Some, slice_get, slice_index_or, refl, sym, ap, subst, ◌∙◌, arith}
 use Rattle.std.proofs.lemmas.Option.{slice_get-get_or}
-use Rattle.lw_match.specs.declared.parts.Root.{Root}
-use Rattle.lw_match.specs.Values.{AreInRange}
-use Rattle.lw_match.specs.Cutting.{cuts_state, root_side}
-use Rattle.lw_match.specs.Places.{list_at, root_of}
+use Rattle.lw_bounds.specs.declared.parts.Root.{Root}
+use Rattle.lw_cost.specs.Values.{AreInRange}
+use Rattle.lw_bounds.specs.Cuts.{cuts_state, root_side}
+use Rattle.lw_bounds.specs.Places.{list_at, root_of}
 use Rattle.lw_match.specs.Hunts.{HasNoneByRoot}
 use Rattle.lw_match.specs.Queries.{IsRootOf}
 use Rattle.lw_match.proofs.RootLists.{far, hunts_on, stays_on, done_start, done_next, done_all}

@@ -1,5 +1,5 @@
 use Rattle.std.proofs.Common.{◌<◌, length, arith}
-use Rattle.lw_match.specs.Cutting.{cuts_state, root_side}
+use Rattle.lw_bounds.specs.Cuts.{cuts_state, root_side}
 use Rattle.lw_match.specs.Queries.{HasNoneIfSure}
 use Rattle.lw_match.proofs.RootLists.{by_lists, hunts_on, none_still, was_whole}
 use Rattle.lw_match.proofs.sweeping.hunt_near.Goals as goal

@@ -1,6 +1,6 @@
 use Rattle.std.proofs.Common.{ℕ, sym, ap, subst}
-use Rattle.lw_match.specs.declared.parts.Root.{Root}
-use Rattle.lw_match.specs.Values.{AreInRange}
+use Rattle.lw_bounds.specs.declared.parts.Root.{Root}
+use Rattle.lw_cost.specs.Values.{AreInRange}
 use Rattle.lw_match.specs.Hunts.{HasNoneLeft}
 use Rattle.lw_match.proofs.RootLists.{far}
 use Rattle.lw_match.proofs.sweeping.hunt_root.Goals as goal

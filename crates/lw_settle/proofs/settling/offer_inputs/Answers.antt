@@ -1,5 +1,5 @@
 use Rattle.std.proofs.Common.{ℕ, ap, arith}
-use Rattle.lw_match.specs.declared.mark.Mark.{Mark}
+use Rattle.lw_cost.specs.declared.mark.Mark.{Mark}
 use Rattle.lw_settle.proofs.Rising.{inputs_more}
 use Rattle.lw_laws.specs.Marks.{Mark as PlainMark}
 use Rattle.lw_settle.proofs.settling.offer_inputs.Goals as goal

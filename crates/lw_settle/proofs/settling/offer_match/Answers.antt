@@ -1,12 +1,12 @@
 use Rattle.std.proofs.Common.{◌≤◌, ap, sym, subst, subst₂, ◌∙◌, arith}
 use Rattle.std.proofs.lemmas.Option.{same_Some}
 use Rattle.lw_laws.specs.Marks.{Mark}
-use Rattle.lw_label.proofs.HeightPasses.{marked_most}
-use Rattle.lw_match.specs.Values.{marks_in}
+use Rattle.lw_cost.proofs.MarksAsLabels.{marked_most}
+use Rattle.lw_cost.specs.Values.{marks_in}
 use Rattle.lw_settle.specs.Settling.{IsOffering}
 use Rattle.lw_settle.specs.Stores.{Placed, pins_of}
 use Rattle.lw_settle.proofs.Taking.{greatest_fits}
-use Rattle.lw_label.specs.Heights.{marked}
+use Rattle.lw_cost.specs.Labels.{marked}
 use Rattle.lw_settle.proofs.settling.offer_match.Goals as goal
 
 pub price-mark-requires : goal.price-mark-requires

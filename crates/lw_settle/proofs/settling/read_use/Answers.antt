@@ -2,7 +2,7 @@ use Rattle.std.proofs.Common.{◌+◌, ◌-◌, ◌≡◌, ◌≢◌, ◌<◌, l
 use Rattle.std.proofs.lemmas.List.{length-set, get_or-set_same}
 use Rattle.lw_settle.specs.Settling.{IsReadingOf, IsMatchOffered}
 use Rattle.lw_settle.specs.Stores.{AreOfStoredCells, HasMarkedPins, placed}
-use Rattle.lw_match.specs.Values.{marks_in}
+use Rattle.lw_cost.specs.Values.{marks_in}
 use Rattle.lw_settle.proofs.Rising.{done_low, use_place, some_left, read_kept, marked_pins, read_priced}
 use Rattle.lw_settle.proofs.settling.read_use.Goals as goal
 

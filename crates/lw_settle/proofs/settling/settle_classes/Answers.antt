@@ -1,7 +1,7 @@
 use Rattle.std.proofs.Common.{[], Some, length, set, sym, ◌∙◌, subst, subst₂, arith}
 use Rattle.std.proofs.lemmas.List.{drop_all}
 use Rattle.std.proofs.lemmas.Option.{slice_get_within}
-use Rattle.lw_match.specs.Values.{plain_mark}
+use Rattle.lw_cost.specs.Values.{plain_mark}
 use Rattle.lw_settle.specs.Queues.{AreNone}
 use Rattle.lw_settle.specs.Settling.{IsReading, IsReadingOf, IsReadingSome, Stage}
 use Rattle.lw_settle.specs.Stores.{AreOfStoredCells, uses_of}

@@ -1,5 +1,5 @@
 use Rattle.std.proofs.Common.{◌≡◌, ◌-◌, [], length}
-use Rattle.lw_label.specs.Heights.{marked}
+use Rattle.lw_cost.specs.Labels.{marked}
 use Rattle.lw_settle.specs.Settling.{IsReading, IsReadingSome, Stage}
 use Rattle.lw_settle.proofs.settling.settle_classes.Given as goal
 

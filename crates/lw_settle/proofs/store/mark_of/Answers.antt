@@ -2,7 +2,7 @@ use Rattle.std.proofs.Common.{ℕ, suc, ◌≤◌, length, add-one, sym, ap, ap�
 use Rattle.std.proofs.lemmas.List.{length-take-le}
 use Rattle.lw_laws.specs.Covers.{HasPins}
 use Rattle.lw_laws.specs.Marks.{Mark}
-use Rattle.lw_match.specs.Values.{marks_in}
+use Rattle.lw_cost.specs.Values.{marks_in}
 use Rattle.lw_settle.proofs.Reading.{greatest_low}
 use Rattle.lw_settle.proofs.store.mark_of.Goals as goal
 use Rattle.lw_pool.specs.Numbers.{numbers}

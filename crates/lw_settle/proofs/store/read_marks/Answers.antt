@@ -1,7 +1,7 @@
 use Rattle.std.proofs.Common.{◌+◌, ◌<◌, ◌≡◌, [], ◌∷◌, ◌++◌, length, take, option_map, sym, ap, subst, subst₂, arith}
 use Rattle.std.proofs.lemmas.List.{take_all}
 use Rattle.lw_laws.specs.Marks.{HaveMarks, costs_in}
-use Rattle.lw_match.specs.Values.{marks_in, plain_mark}
+use Rattle.lw_cost.specs.Values.{marks_in, plain_mark}
 use Rattle.lw_settle.proofs.Filling.{no_class}
 use Rattle.lw_settle.proofs.Reading.{AreRead, read_more, marked_at}
 use Rattle.lw_settle.proofs.store.read_marks.Goals as goal

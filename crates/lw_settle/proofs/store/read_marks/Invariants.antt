@@ -1,6 +1,6 @@
 use Rattle.std.proofs.Common.{List}
 use Rattle.lw_laws.specs.Marks.{Mark}
-use Rattle.lw_match.specs.Values.{marks_in}
+use Rattle.lw_cost.specs.Values.{marks_in}
 use Rattle.lw_settle.proofs.Reading.{AreRead}
 use Rattle.lw_settle.proofs.store.read_marks.Given as goal
 

@@ -1,7 +1,7 @@
 use Rattle.std.proofs.Common.{length, Contains, refl, sym, subst, arith}
 use Rattle.std.proofs.lemmas.Option.{slice_get_within}
-use Rattle.lw_match.specs.Coming.{still_to_come}
-use Rattle.lw_match.specs.Values.{plain_match}
+use Rattle.lw_cost.specs.Coming.{still_to_come}
+use Rattle.lw_cost.specs.Values.{plain_match}
 use Rattle.lw_pattern.specs.Listed.{pattern_of}
 use Rattle.lw_trade.specs.Points.{task}
 use Rattle.lw_trade.specs.Rows.{plain_rows}

@@ -3,7 +3,7 @@ use Rattle.lw_fixed.specs.declared.micro.Micro.{Micro}
 use Rattle.lw_genlib.specs.Cells.{CellParts}
 use Rattle.lw_laws.specs.Covers.{Pattern}
 use Rattle.lw_laws.specs.Graphs.{Graph}
-use Rattle.lw_match.specs.Least.{AreOfCells}
+use Rattle.lw_cost.specs.Least.{AreOfCells}
 use Rattle.lw_settle.specs.Stores.{IsStoreOf, placed}
 use Rattle.lw_trade.specs.Areas.{area_cost}
 use Rattle.lw_trade.specs.Points.{task}

@@ -5,7 +5,7 @@ use Rattle.lw_trade.specs.Choices.{AreListedChoices}
 use Rattle.lw_trade.specs.Groups.{AreRows, AreRowsOf, HaveWays}
 use Rattle.lw_trade.specs.Points.{AreCurves, BoundCovers, IsWhy, task}
 use Rattle.lw_trade.specs.Rows.{AreRowsFor, IsRowFor, plain_rows}
-use Rattle.lw_label.proofs.Marked.{patterns_of_cells}
+use Rattle.lw_cost.proofs.MarksAsLabels.{patterns_of_cells}
 use Rattle.lw_trade.proofs.Curving.{err_is, rows_bound, rows_curves, why_stopped}
 use Rattle.lw_trade.proofs.Counting.{rows_few}
 use Rattle.lw_trade.proofs.Grouped.{rows_shown}

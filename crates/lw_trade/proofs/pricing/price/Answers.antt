@@ -11,7 +11,7 @@ use Rattle.lw_trade.proofs.Cells.{area_is}
 use Rattle.lw_trade.proofs.Prices.{gate_none, gate_some, within_pins}
 use Rattle.lw_trade.proofs.pricing.price.Goals as goal
 use Rattle.lw_pool.specs.Numbers.{numbers}
-use Rattle.lw_label.proofs.Times.{pins_at}
+use Rattle.lw_cost.proofs.CellPins.{pins_at}
 use Rattle.lw_genlib.proofs.Shared.{delays_at}
 
 pub area_of_pins-requires-clause-one_each : goal.area_of_pins-requires-clause-one_each

@@ -12,7 +12,7 @@ use Rattle.lw_trade.proofs.Prices.{within_pins}
 use Rattle.lw_trade.proofs.Using.{choice_used, first_behind, first_used, firsts_longer, groups_first, input_used}
 use Rattle.lw_trade.proofs.uses.add_choice.Goals as goal
 use Rattle.lw_pool.specs.Numbers.{numbers}
-use Rattle.lw_label.proofs.Times.{pins_at}
+use Rattle.lw_cost.proofs.CellPins.{pins_at}
 use Rattle.lw_genlib.proofs.Shared.{delays_at}
 
 pub add_pins-requires-clause-first : goal.add_pins-requires-clause-first

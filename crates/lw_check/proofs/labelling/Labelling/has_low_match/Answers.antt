@@ -1,8 +1,8 @@
 use Rattle.std.proofs.Common.{refl, sym, true≢false}
 use Rattle.std.proofs.lemmas.Bool.{iff_false}
 use Rattle.lw_laws.specs.Rounds.{labels_in}
-use Rattle.lw_match.specs.Coming.{still_to_come}
-use Rattle.lw_match.specs.Values.{plain_match}
+use Rattle.lw_cost.specs.Coming.{still_to_come}
+use Rattle.lw_cost.specs.Values.{plain_match}
 use Rattle.lw_check.proofs.Failures.{by_pattern, low_of}
 use Rattle.lw_check.proofs.Looking.{looking_first, looking_here, looking_more, looking_over, low_on, not_low_on}
 use Rattle.lw_check.proofs.labelling.Labelling.has_low_match.Goals as goal

@@ -1,6 +1,6 @@
 use Rattle.std.proofs.Common.{length}
 use Rattle.lw_laws.specs.Rounds.{labels_in}
-use Rattle.lw_match.specs.Coming.{FitsGraph, still_to_come}
+use Rattle.lw_cost.specs.Coming.{FitsGraph, still_to_come}
 use Rattle.lw_check.proofs.Looking.{IsLookingAt}
 use Rattle.lw_check.proofs.labelling.Labelling.has_low_match.Given as goal
 

@@ -1,6 +1,6 @@
 use Rattle.std.proofs.Common.{sym, subst, true≢false}
 use Rattle.lw_laws.specs.Rounds.{labels_in}
-use Rattle.lw_match.specs.Values.{plain_match}
+use Rattle.lw_cost.specs.Values.{plain_match}
 use Rattle.lw_check.specs.Failing.{IsAbove}
 use Rattle.lw_check.proofs.Looking.{costs_once}
 use Rattle.lw_check.proofs.labelling.Labelling.is_low.Goals as goal

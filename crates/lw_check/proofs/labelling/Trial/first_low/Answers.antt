@@ -2,7 +2,7 @@ use Rattle.std.proofs.Common.{length, refl, ap, sym, ◌∙◌, arith}
 use Rattle.std.proofs.lemmas.Bool.{iff_false}
 use Rattle.std.proofs.lemmas.List.{length-map}
 use Rattle.lw_laws.specs.Rounds.{labels_in}
-use Rattle.lw_label.specs.Labels.{cost_in}
+use Rattle.lw_cost.specs.Labels.{cost_in}
 use Rattle.lw_check.specs.Least.{IsLow}
 use Rattle.lw_check.proofs.Failures.{low_in}
 use Rattle.lw_check.proofs.Lesser.{first_least}

@@ -1,6 +1,6 @@
 use Rattle.std.proofs.Common.{length, ap, sym, ◌∙◌}
 use Rattle.std.proofs.lemmas.List.{length-map}
-use Rattle.lw_label.specs.Labels.{cost_in}
+use Rattle.lw_cost.specs.Labels.{cost_in}
 use Rattle.lw_check.proofs.Failures.{fails_in, none_failing}
 use Rattle.lw_check.proofs.Reasons.{unbounded_from}
 use Rattle.lw_check.proofs.labelling.Trial.first_unbounded.Goals as goal

@@ -1,7 +1,8 @@
 use Rattle.std.proofs.Common.{ℕ, List, ◌∙◌, ap, length, get_or, arith}
 use Rattle.lw_fixed.specs.declared.micro.Micro.{Micro}
 use Rattle.lw_laws.specs.Covers.{latest}
-use Rattle.lw_label.proofs.Times.{pins_at, latest_pin}
+use Rattle.lw_cost.proofs.CellPins.{pins_at}
+use Rattle.lw_label.proofs.Times.{latest_pin}
 use Rattle.lw_genlib.proofs.Shared.{delays_at}
 use Rattle.lw_label.proofs.delay.DelayCostCost.known_up_to.Goals as goal
 

@@ -2,7 +2,7 @@ use Rattle.std.proofs.Common.{◌≡◌, ◌∙◌, min, map, length, ap, sym, s
 use Rattle.lw_laws.specs.Covers.{latest}
 use Rattle.lw_genlib.specs.Tables.{millionths}
 use Rattle.lw_label.specs.Delays.{most_time}
-use Rattle.lw_label.proofs.Times.{pins_at}
+use Rattle.lw_cost.proofs.CellPins.{pins_at}
 use Rattle.lw_label.proofs.delay.DelayCostCost.value.Goals as goal
 use Rattle.lw_genlib.proofs.Shared.{delays_at}
 

@@ -1,11 +1,11 @@
 use Rattle.std.proofs.Common.{◌<◌, ◌≡◌, ◌/◌, ◌∙◌, Some, None, IfSome, length, true, refl, ap, sym, subst, subst₂, arith, true≢false}
-use Rattle.lw_match.specs.declared.heights.HeightBounds.{HeightBounds}
-use Rattle.lw_match.specs.Bounds.{AreBounds}
-use Rattle.lw_match.specs.HeightBounds.{AreHeightBounds}
-use Rattle.lw_match.specs.Values.{plain_mark, marks_in, AreInRange}
+use Rattle.lw_bounds.specs.declared.heights.HeightBounds.{HeightBounds}
+use Rattle.lw_bounds.specs.Bounds.{AreBounds}
+use Rattle.lw_bounds.specs.HeightBounds.{AreHeightBounds}
+use Rattle.lw_cost.specs.Values.{plain_mark, marks_in, AreInRange}
 use Rattle.lw_match.specs.Cutting.{AreKnown, IsFloor, IsLeastWithin, IsMatchWithin, bound_after}
 use Rattle.lw_label.specs.Heights.{AreSameBut, IsReached, height_limit}
-use Rattle.lw_label.specs.Labels.{cost_in}
+use Rattle.lw_cost.specs.Labels.{cost_in}
 use Rattle.lw_label.proofs.Falling.{label_is_cost}
 use Rattle.lw_label.proofs.HeightPasses.{heights_in_range, heights_bounds, label_is_floor, reached_unlabelled, reached_under}
 use Rattle.lw_label.proofs.HeightTables.{around_has, seen_bounds, with_same}

@@ -1,6 +1,6 @@
 use Rattle.std.proofs.Common.{◌≡◌, ◌∙◌, slice_set, subst, sym, refl, Some, true≢false}
 use Rattle.lw_match.specs.Cutting.{IsMatchWithin}
-use Rattle.lw_match.specs.Values.{plain_mark, marks_in}
+use Rattle.lw_cost.specs.Values.{plain_mark, marks_in}
 use Rattle.lw_label.specs.Heights.{with_mark}
 use Rattle.lw_label.proofs.HeightPasses.{attains_under, lowered, heights_fall}
 use Rattle.lw_label.proofs.HeightTables.{has_class, with_put, with_same}

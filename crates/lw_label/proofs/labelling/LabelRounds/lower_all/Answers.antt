@@ -3,7 +3,7 @@ use Rattle.lw_label.specs.Lowering.{state}
 use Rattle.lw_label.specs.OneVisit.{AreLabelsStill}
 use Rattle.lw_label.specs.Orders.{VisitState, places_of}
 use Rattle.lw_label.specs.Searches.{state_of}
-use Rattle.lw_label.proofs.Marked.{cover_problem}
+use Rattle.lw_cost.proofs.MarksAsLabels.{cover_problem}
 use Rattle.lw_label.proofs.OneVisit.{falling_but, labels_still_none, round_again}
 use Rattle.lw_label.proofs.Falling.{labelled_bounds, bounded_all, graph_classes}
 use Rattle.lw_label.proofs.labelling.LabelRounds.lower_all.Goals as goal

@@ -1,6 +1,6 @@
 use Rattle.std.proofs.Common.{◌≡◌, length, sym, subst, subst₂, arith}
 use Rattle.lw_match.specs.Cutting.{AreKnown, IsMatchWithin}
-use Rattle.lw_match.specs.Values.{AreInRange, marks_in}
+use Rattle.lw_cost.specs.Values.{AreInRange, marks_in}
 use Rattle.lw_label.specs.Heights.{AreSameBut}
 use Rattle.lw_label.specs.OneVisit.{IsSearch}
 use Rattle.lw_label.proofs.Marked.{lowering_in_range}

@@ -1,7 +1,7 @@
 use Rattle.std.proofs.Common.{◌<◌, ◌≡◌, None, length, true, slice_index_or, sym, subst, subst₂, arith}
-use Rattle.lw_match.specs.Bounds.{AreBounds}
+use Rattle.lw_bounds.specs.Bounds.{AreBounds}
 use Rattle.lw_match.specs.Cutting.{AreKnown, IsLeastWithin, IsMatchWithin, bound_below}
-use Rattle.lw_match.specs.Values.{AreInRange, marks_in}
+use Rattle.lw_cost.specs.Values.{AreInRange, marks_in}
 use Rattle.lw_label.specs.Heights.{AreSameBut}
 use Rattle.lw_label.specs.Lowering.{AreLowering, IsBounded}
 use Rattle.lw_label.specs.OneVisit.{IsSearch}

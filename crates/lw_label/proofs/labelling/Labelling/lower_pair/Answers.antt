@@ -1,8 +1,8 @@
 use Rattle.std.proofs.Common.{◌≡◌, ◌+◌, ◌*◌, ◌/◌, ◌||◌, ◌∙◌, length, true, ap, ap₂, sym, subst, subst₂}
-use Rattle.lw_match.specs.Bounds.{AreBounds, AreSettledAt, IsTableBut}
+use Rattle.lw_bounds.specs.Bounds.{AreBounds, AreSettledAt, IsTableBut}
 use Rattle.lw_label.specs.Lowering.{IsBounded, IsLabelled, Lowers, state, state_weight}
 use Rattle.lw_label.proofs.Falling.{IsNumbered, IsLow, numbers_pass, label_pass, label_stays, marks_pass}
-use Rattle.lw_match.proofs.Tables.{but_both}
+use Rattle.lw_bounds.proofs.Tables.{but_both}
 use Rattle.lw_label.proofs.OneVisit.{even_of, odd_of, search_but}
 use Rattle.lw_label.proofs.Still.{same_but_more}
 use Rattle.lw_label.proofs.Passing.{passes_place, passes_two, passes_again}

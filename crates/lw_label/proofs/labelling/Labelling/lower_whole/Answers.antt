@@ -1,6 +1,6 @@
 use Rattle.std.proofs.Common.{◌/◌, ◌∙◌, ap, refl, sym, subst, true≢false, arith}
 use Rattle.std.proofs.lemmas.Bool.{not-false, not-true}
-use Rattle.lw_match.specs.Bounds.{AreBounds}
+use Rattle.lw_bounds.specs.Bounds.{AreBounds}
 use Rattle.lw_label.proofs.OneVisit.{was_lowered}
 use Rattle.lw_label.proofs.labelling.Labelling.lower_whole.Goals as goal
 

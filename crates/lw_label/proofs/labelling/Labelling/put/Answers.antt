@@ -1,6 +1,6 @@
 use Rattle.std.proofs.Common.{◌<◌, ◌≡◌, None, Some, option_map, slice_index_or, slice_set, ap, refl, sym, subst, true≢false}
 use Rattle.lw_laws.specs.Rounds.{label_weight}
-use Rattle.lw_match.specs.Values.{plain_mark, marks_in}
+use Rattle.lw_cost.specs.Values.{plain_mark, marks_in}
 use Rattle.lw_match.specs.Cutting.{IsMatchWithin}
 use Rattle.lw_label.specs.OneVisit.{with_label}
 use Rattle.lw_label.proofs.Falling.{lower_under, best_capped, lowered, weight_falls, label_is_cost}

@@ -1,8 +1,9 @@
 use Rattle.std.proofs.Common.{◌≡◌, ◌⊎◌, inr, sym, subst, ◌∙◌}
 use Rattle.std.proofs.lemmas.List.{length-set}
 use Rattle.std.proofs.lemmas.List.Elements.{All-set}
-use Rattle.lw_match.specs.Numbers.{never}
-use Rattle.lw_match.specs.Cutting.{cuts_state, AreCertified, AreKnown}
+use Rattle.lw_bounds.specs.Numbers.{never}
+use Rattle.lw_bounds.specs.Cuts.{cuts_state}
+use Rattle.lw_match.specs.Cutting.{AreCertified, AreKnown}
 use Rattle.lw_match.proofs.tops.Tops.are_sure_at.Goals as goal
 
 pub returns-clause-known : goal.returns-clause-known

@@ -1,6 +1,6 @@
 use Rattle.std.proofs.Common.{◌<◌, ◌≡◌, None, length, drop, set, refl, sym, ap, ◌∙◌, subst, arith}
 use Rattle.std.proofs.lemmas.List.{get_or_read, with_items_is}
-use Rattle.lw_match.specs.declared.mark.Mark.{Mark}
+use Rattle.lw_cost.specs.declared.mark.Mark.{Mark}
 use Rattle.lw_settle.specs.declared.entry.Entry.{Entry}
 use Rattle.lw_settle.specs.Queues.{AreNone, IsFirst, IsTree, no_entry, waiting}
 use Rattle.lw_settle.specs.declared.queue.Taken.{Taken}

@@ -1,0 +1,14 @@
+pub mod CutsOfBounds
+pub mod CertifiedGaps
+pub mod HeightCuts
+pub mod Lessening
+pub mod MoreParts
+pub mod Passes
+pub mod Placing
+pub mod Renewed
+pub mod RootShapes
+pub mod RootsListed
+pub mod Rowing
+pub mod Settled
+pub mod SideRows
+pub mod Tables

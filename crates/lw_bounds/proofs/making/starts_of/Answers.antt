@@ -1,0 +1,26 @@
+use Rattle.std.proofs.Common.{ℕ, ◌+◌, ◌<◌, ◌≡◌, ◌++◌, ◌∷◌, [], List, length, inl, inr, refl, sym, subst₂, ◌∙◌, eqb-true, arith}
+use Rattle.std.proofs.Math.Nat.{mul-le-mul_left}
+use Rattle.lw_bounds.specs.Numbers.{no_row}
+use Rattle.lw_bounds.proofs.Rowing.{AreStartsBelow, bare_row, starts_more}
+use Rattle.lw_bounds.proofs.making.starts_of.Goals.{then-is_empty+in_ok-push, else-is_empty+in_ok-push-2}
+use Rattle.lw_bounds.proofs.making.starts_of.Goals as goal
+
+pub loop-number-preserved : goal.loop-number-preserved
+loop-number-preserved c =
+    let l = c.loop-number in
+    let width = c.args.width in
+    let graph = c.args.graph.now in
+    let inside : l.number < length graph.pairs = omega (arith, c.loop-number-test.true, c.classes-number-end.ensures.classes, l.auto.number-end) in
+    let scaled = mul-le-mul_left {m = l.number} {n = length graph.pairs} width (omega (arith, inside)) in
+    let few : l.size < no_row = omega (arith, l.invariant.few, scaled, c.requires) in
+    elim c.if-is_empty.branch [
+      | then-is_empty+in_ok-push w ↦
+          let none = bare_row c.nands.result.now _ c.nands.ensures.pairs (eqb-true (length c.nands.result.now) 0 (sym c.is_empty.ensures ∙ w.if-is_empty.true)) in
+          let items : c.if-is_empty.starts.items ≡ l.starts.items ++ no_row ∷ [] = cc (w.starts-is, w.in_ok-push.ensures.items) in
+          subst₂ (λ (xs : List ℕ) (n : ℕ). AreStartsBelow width xs n graph (l.number + 1)) (sym items) (sym w.size-is)
+          (starts_more width l.starts.items l.size l.size no_row graph l.number (omega arith) (omega arith) (inl refl) (λ e. none) (inl refl) l.invariant)
+      | else-is_empty+in_ok-push-2 w ↦
+          let items : c.if-is_empty.starts.items ≡ l.starts.items ++ l.size ∷ [] = cc (w.starts-is, w.in_ok-push-2.ensures.items) in
+          subst₂ (λ (xs : List ℕ) (n : ℕ). AreStartsBelow width xs n graph (l.number + 1)) (sym items) (sym w.size-is)
+          (starts_more width l.starts.items l.size (l.size + width) l.size graph l.number (omega arith) (omega arith) (inr (omega arith)) (λ e. absurd (omega (arith, e, few))) (inr (omega arith)) l.invariant)
+    ]

@@ -1,0 +1,13 @@
+pub mod Bounds
+pub mod Cuts
+pub mod HeightBounds
+pub mod Lowering
+pub mod Making
+pub mod NoCuts
+pub mod Numbers
+pub mod Parts
+pub mod Places
+pub mod Renewing
+pub mod Settling
+pub mod Shapes
+pub mod Times

@@ -1,0 +1,186 @@
+// What pins cost less than their cells: guesses, and tests of whether they may be trusted.
+ghost use Rattle.std.specs.Prelude.{◌≡◌, ◌<◌, ◌≤◌, ◌-◌, ℕ, IfOk, IsTrue, length, replicate, slice_index, slice_set};
+ghost use Rattle.lw_laws.specs.Covers.{HasPins};
+ghost use Rattle.lw_bounds.specs.Cuts.{IsCertifiedBy, IsGapCertified};
+ghost use Rattle.lw_bounds.specs.HeightBounds.{AreFlat};
+ghost use Rattle.lw_cost.specs.Least.{AreOfCells};
+ghost use Rattle.lw_cost.specs.Goals.{HasFewPins};
+ghost use Rattle.lw_bounds.specs.Shapes.{gaps_of};
+
+use lw_cost::{Cost, pin_count};
+use lw_pattern::Patterns;
+use lw_pool::{CellId, PatId};
+use std::alloc::{AllocError, Global};
+
+// The cost of a pin at which its gap is guessed.
+const PROBE: u64 = 1 << 61;
+
+/// The gaps of the pins of a pattern, none where they are not known.
+pub fn gaps_at<'a>(all: &'a [[u64; 16]], pat: PatId) -> &'a [u64]
+    ensures { result.now ≡ gaps_of all.now pat.0 }
+{
+    match all.get(pat.0 as usize) {
+        Some(gaps) => gaps,
+        None => &[],
+    }
+}
+
+/// The gap of a pin, 0 where none is known.
+pub(crate) fn gap_at(gaps: &[u64], pin: usize) -> u64
+    ensures { result ≡ slice_index gaps.now pin }
+{
+    if pin < gaps.len() { gaps[pin] } else { 0 }
+}
+
+// What a cell costs by one pin alone: the others cost nothing.
+fn value_alone<C: Cost>(cost: &C, cell: CellId, pins: usize, pin: usize, amount: u64) -> u64
+    requires pins { HasFewPins (C.costs cost.now).pin_counts cell.0 pins }
+    requires pin { pin < pins }
+    ensures { result ≡ (C.costs cost.now).value cell.0 (slice_set (replicate pins 0) pin amount) }
+{
+    let mut costs = [0; 16];
+    costs[pin] = amount;
+    cost.value(cell, &costs[..pins])
+}
+
+/// Up to which number a pin alone, with the cost that its gap leaves of the number, is known to
+/// make the cell cost so much.
+fn known_at<C: Cost>(cost: &C, cell: CellId, pins: usize, pin: usize, gap: u64) -> u64
+    requires has { HasPins (C.costs cost.now).pin_counts cell.0 pins }
+    requires pin { pin < pins }
+    ensures { (top : ℕ) → top ≤ result → top ≤ (C.costs cost.now).value cell.0
+        (slice_set (replicate pins 0) pin (top - gap)) }
+{
+    let known = cost.known_up_to(cell, pins, pin, gap);
+    if known < gap {
+        return 0;
+    }
+    known
+}
+
+/// Whether a pin alone, with the cost that its gap leaves of the top, makes the cell cost so much.
+fn is_certified_at<C: Cost>(
+    cost: &C,
+    cell: CellId,
+    pins: usize,
+    pin: usize,
+    gap: u64,
+    top: u64,
+) -> bool
+    requires pins { HasFewPins (C.costs cost.now).pin_counts cell.0 pins }
+    requires pin { pin < pins }
+    ensures { IsTrue result → top ≤ (C.costs cost.now).value cell.0
+        (slice_set (replicate pins 0) pin (top - gap)) }
+{
+    if top <= known_at(cost, cell, pins, pin, gap) {
+        return true;
+    }
+    top <= value_alone(cost, cell, pins, pin, top.saturating_sub(gap))
+}
+
+/// Up to which number the gaps of a cell's pins are known to be certified.
+fn known_by<C: Cost>(cost: &C, cell: CellId, pins: usize, gaps: &[u64]) -> u64
+    requires has { HasPins (C.costs cost.now).pin_counts cell.0 pins }
+    ensures { (top : ℕ) → top ≤ result →
+        IsGapCertified (C.costs cost.now) cell.0 pins gaps.now top }
+{
+    let mut known = u64::MAX;
+    for pin in 0..pins {
+        known = known.min(known_at(cost, cell, pins, pin, gap_at(gaps, pin)));
+    }
+    known
+}
+
+/// Whether each pin alone, with the cost that its gap leaves of the top, makes the cell cost so
+/// much.
+pub(crate) fn is_certified<C: Cost>(
+    cost: &C,
+    cell: CellId,
+    pins: usize,
+    gaps: &[u64],
+    top: u64,
+) -> bool
+    requires { HasFewPins (C.costs cost.now).pin_counts cell.0 pins }
+    ensures { IsTrue result → IsGapCertified (C.costs cost.now) cell.0 pins gaps.now top }
+{
+    for pin in 0..pins {
+        if !is_certified_at(cost, cell, pins, pin, gap_at(gaps, pin), top) {
+            return false;
+        }
+    }
+    true
+}
+
+/// Whether the gaps of a pattern's pins are certified at a number.
+pub fn is_certified_by<C: Cost>(
+    pats: &Patterns,
+    cost: &C,
+    gaps: &[[u64; 16]],
+    pat: PatId,
+    top: u64,
+) -> bool
+    requires of_cells { AreOfCells (C.costs cost.now).pin_counts pats.now }
+    requires pat { pat.0 < length pats.now }
+    ensures { IsTrue result → IsCertifiedBy (C.costs cost.now) pats.now gaps.now pat.0 top }
+{
+    let pattern = pats.get(pat);
+    let pins = pin_count(pattern.nodes.as_slice());
+    let own = gaps_at(gaps, pat);
+    is_certified(cost, pattern.cell, pins, own, top)
+}
+
+/// Up to which number the gaps of a pattern's pins are known to be certified.
+pub fn known_of<C: Cost>(pats: &Patterns, cost: &C, gaps: &[[u64; 16]], pat: PatId) -> u64
+    requires of_cells { AreOfCells (C.costs cost.now).pin_counts pats.now }
+    requires pat { pat.0 < length pats.now }
+    ensures { (top : ℕ) → top ≤ result →
+        IsCertifiedBy (C.costs cost.now) pats.now gaps.now pat.0 top }
+{
+    let pattern = pats.get(pat);
+    let pins = pin_count(pattern.nodes.as_slice());
+    let own = gaps_at(gaps, pat);
+    known_by(cost, pattern.cell, pins, own)
+}
+
+// The gap of each pin of a cell, guessed from what the cell costs by the pin alone. Nothing rests
+// on a guess.
+fn guesses<C: Cost>(cost: &C, cell: CellId, pins: usize) -> [u64; 16]
+    requires { HasFewPins (C.costs cost.now).pin_counts cell.0 pins }
+{
+    let mut gaps = [0; 16];
+    for pin in 0..pins {
+        gaps[pin] = value_alone(cost, cell, pins, pin, PROBE).saturating_sub(PROBE);
+    }
+    gaps
+}
+
+/// No gap at any pin of a pattern.
+pub(crate) fn no_gaps(alloc: Global, pats: &Patterns) -> Result<Vec<[u64; 16]>, AllocError>
+    ensures { IfOk result (λ all. AreFlat all.items) }
+{
+    let gaps = vec![in alloc; [0; 16]; pats.len() as usize]?;
+    Ok(gaps)
+}
+
+/// The gaps of the pins of each pattern. They are guessed once for the patterns of a cell, which
+/// stand together.
+pub(crate) fn all_guesses<C: Cost>(
+    alloc: Global,
+    pats: &Patterns,
+    cost: &C,
+) -> Result<Vec<[u64; 16]>, AllocError>
+    requires { AreOfCells (C.costs cost.now).pin_counts pats.now }
+{
+    let mut all = Vec::with_capacity(alloc, pats.len() as usize)?;
+    let mut last = None;
+    let mut gaps = [0; 16];
+    for number in 0..pats.len() {
+        let pattern = pats.get(PatId(number));
+        if last != Some(pattern.cell) {
+            gaps = guesses(cost, pattern.cell, pin_count(pattern.nodes.as_slice()));
+            last = Some(pattern.cell);
+        }
+        all.push(gaps)?;
+    }
+    Ok(all)
+}

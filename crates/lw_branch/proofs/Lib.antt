@@ -1,0 +1,14 @@
+pub mod BoundClasses
+pub mod Bounding
+pub mod Branches
+pub mod Candidates
+pub mod Certified
+pub mod Found
+pub mod Improving
+pub mod Intervals
+pub mod Needing
+pub mod Opens
+pub mod Pairs
+pub mod Refusals
+pub mod Starting
+pub mod Steps

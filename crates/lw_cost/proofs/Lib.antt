@@ -1,0 +1,14 @@
+pub mod CellMatches
+pub mod CellPins
+pub mod Elements
+pub mod Equal
+pub mod GoalPlaces
+pub mod MarksAsLabels
+pub mod Marked
+pub mod MatchExamples
+pub mod Members
+pub mod OfCells
+pub mod PinCounts
+pub mod Ranking
+pub mod Visiting
+pub mod Visits

@@ -1,5 +1,0 @@
-use Rattle.lw_match.proofs.OfCells.{of_cells}
-use Rattle.lw_match.proofs.laws.library_patterns_are_of_cells.Goals as goal
-
-pub returns : goal.returns
-returns c = of_cells

@@ -1,9 +1,0 @@
-use Rattle.lw_match.specs.Places.{AreGroupsOf}
-use Rattle.lw_match.proofs.Placing.{HaveRulesBelow}
-use Rattle.lw_match.proofs.places.groups_of.Given as goal
-
-abbrev pub invariant-loop-number : goal.invariant-loop-number
-invariant-loop-number l = record {
-  rules : AreGroupsOf l.parts l.groups.items;
-  whole : HaveRulesBelow l.parts l.groups.items l.number;
-}

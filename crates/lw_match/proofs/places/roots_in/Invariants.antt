@@ -1,5 +1,0 @@
-use Rattle.lw_match.specs.Places.{AreListed}
-use Rattle.lw_match.proofs.places.roots_in.Given as goal
-
-abbrev pub invariant-loop-number : goal.invariant-loop-number
-invariant-loop-number l = AreListed l.sides l.list l.roots.items l.number

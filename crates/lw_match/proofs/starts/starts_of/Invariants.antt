@@ -1,6 +1,0 @@
-use Rattle.lw_match.proofs.Rowing.{AreStartsBelow}
-use Rattle.lw_match.proofs.starts.starts_of.Given as goal
-
-abbrev pub invariant-loop-number : goal.invariant-loop-number
-invariant-loop-number l =
-    AreStartsBelow l.width l.starts.items l.size l.graph l.number
