@@ -17,7 +17,7 @@ abbrev pub Told : {E : Type 0} → (E → Option (List ℕ)) → (E → ℕ) →
 Told taken faults old new text = Appends (taken old) (taken new) text ⊎ (Rose (faults old) (faults new) × AppendsPrefix (taken old) (taken new) text)
 
 abbrev pub usage_text : List ℕ
-usage_text = codes "usage: map [-w K] [-i] [-c] LIB IN | check [-w K] [-i] LIB IN MAPPED | time LIB MAPPED | sim IN VECTORS | sim -g LIB MAPPED VECTORS | graph [-w K] [-i] IN | big SEED N LIB | verilog LIB MAPPED | unverilog LIB VER | lut L [-w K] [-i] IN | trade [-w K] [-i] T LIB IN"
+usage_text = codes "usage: map [-w K] [-i] [-c] LIB IN | check [-w K] [-i] LIB IN MAPPED | time LIB MAPPED | sim IN VECTORS | sim -g LIB MAPPED VECTORS | graph [-w K] [-i] IN | big SEED N LIB | trade [-w K] [-i] T LIB IN | lut L [-w K] [-i] IN | verilog LIB MAPPED | unverilog LIB VER"
 
 -- a line of a file breaks the rule of this text
 abbrev pub broken_text : List ℕ → ℕ → List ℕ → List ℕ

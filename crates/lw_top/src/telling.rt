@@ -125,4 +125,4 @@ const TWICE: &[u8] = b" driven twice";
 const UNDRIVEN: &[u8] = b" not driven";
 
 const USAGE: &[u8] =
-    b"usage: map [-w K] [-i] [-c] LIB IN | check [-w K] [-i] LIB IN MAPPED | time LIB MAPPED | sim IN VECTORS | sim -g LIB MAPPED VECTORS | graph [-w K] [-i] IN | big SEED N LIB | verilog LIB MAPPED | unverilog LIB VER | lut L [-w K] [-i] IN | trade [-w K] [-i] T LIB IN";
+    b"usage: map [-w K] [-i] [-c] LIB IN | check [-w K] [-i] LIB IN MAPPED | time LIB MAPPED | sim IN VECTORS | sim -g LIB MAPPED VECTORS | graph [-w K] [-i] IN | big SEED N LIB | trade [-w K] [-i] T LIB IN | lut L [-w K] [-i] IN | verilog LIB MAPPED | unverilog LIB VER";
