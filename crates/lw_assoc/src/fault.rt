@@ -1,7 +1,7 @@
 use std::alloc::AllocError;
 
 /// Why there is no graph of some forms.
-#[derive(Clone, Copy, Debug, PartialEq, Eq)]
+#[derive(Clone, Copy, PartialEq, Eq)]
 pub enum GraphFault {
     /// There are more than 16,777,216 splits.
     Limit,

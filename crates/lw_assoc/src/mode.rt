@@ -1,5 +1,5 @@
 /// Which laws of decomposition hold.
-#[derive(Clone, Copy, Debug, PartialEq, Eq)]
+#[derive(Clone, Copy, PartialEq, Eq)]
 pub enum Mode {
     /// The splits of each And into two, with inverters and the two forms of each net.
     Plain,

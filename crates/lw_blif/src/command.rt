@@ -5,7 +5,7 @@ ghost use Rattle.lw_blif.specs.Commands.{command_of, point_command, other_comman
 use lw_words::{is, is_ignored};
 
 /// What the first word of a line asks for.
-#[derive(Clone, Copy, Debug, PartialEq, Eq)]
+#[derive(Clone, Copy, PartialEq, Eq)]
 pub enum Command {
     Model,
     Inputs,

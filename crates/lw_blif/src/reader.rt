@@ -10,7 +10,7 @@ use lw_words::Line;
 use std::alloc::Global;
 
 /// Why a reader reads no more lines.
-#[derive(Clone, Copy, Debug)]
+#[derive(Clone, Copy)]
 pub enum Stop {
     Broken(u32, BlifKind),
     Memory,

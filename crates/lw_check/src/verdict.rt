@@ -3,7 +3,7 @@ use lw_fixed::Micro;
 use lw_pool::{ClassId, Name};
 
 /// Why a netlist is not accepted: the first test that fails, with what fails it first.
-#[derive(Debug, Drop)]
+#[derive(Drop)]
 pub enum Reason {
     /// The netlist has other inputs or outputs than the network, or another frame.
     Ports,
@@ -21,7 +21,7 @@ pub enum Reason {
 }
 
 /// Whether a mapped netlist is accepted.
-#[derive(Debug, Drop)]
+#[derive(Drop)]
 pub enum Verdict {
     Yes,
     No(Reason),

@@ -26,14 +26,14 @@ impl Mark {
 }
 
 /// A pattern that stands at a class, with a class for each pin.
-#[derive(Debug, Drop)]
+#[derive(Drop)]
 pub struct Match {
     pub pat: PatId,
     pub pins: Pins,
 }
 
 /// The least match at a class, and the mark that it gives the class.
-#[derive(Debug, Drop)]
+#[derive(Drop)]
 pub struct Best {
     pub mark: Mark,
     pub found: Match,

@@ -5,7 +5,7 @@ use lw_pool::ClassId;
 use std::marker::Model;
 
 /// The classes of the pins of a match, in pin order. There are at most 16.
-#[derive(Debug, Drop)]
+#[derive(Drop)]
 pub struct Pins {
     classes: [ClassId; 16],
     len: usize,

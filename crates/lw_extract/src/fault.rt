@@ -2,7 +2,7 @@
 use std::alloc::AllocError;
 
 /// Why there is no netlist.
-#[derive(Clone, Copy, Debug, PartialEq, Eq)]
+#[derive(Clone, Copy, PartialEq, Eq)]
 pub enum ExtractFault {
     /// The class of the output with this number, from 0, has no cover. It is the first such output.
     NoCover(u32),

@@ -3,7 +3,7 @@ use lw_netlist::Netlist;
 use lw_pool::{Classes, Name, Names};
 
 /// The name of the model, the names of its inputs and outputs, and the class of each output.
-#[derive(Debug, Drop)]
+#[derive(Drop)]
 pub struct Ports {
     pub model: Name,
     pub inputs: Names,
@@ -12,7 +12,7 @@ pub struct Ports {
 }
 
 /// A netlist, and the class of each gate.
-#[derive(Debug, Drop)]
+#[derive(Drop)]
 pub struct Cover {
     pub netlist: Netlist,
     pub classes: Classes,

@@ -4,7 +4,7 @@ use crate::Micro;
 use std::marker::Model;
 
 /// Numbers of millionths in order.
-#[derive(Debug, Drop)]
+#[derive(Drop)]
 pub struct Micros {
     items: Vec<Micro>,
 }

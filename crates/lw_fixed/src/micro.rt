@@ -2,5 +2,5 @@
 pub(crate) const UNIT: u64 = 1_000_000;
 
 /// A number of millionths, as of a unit of time or area.
-#[derive(Clone, Copy, Debug, PartialEq, Eq, PartialOrd, Ord, Hash)]
+#[derive(Clone, Copy, Debug, PartialEq, Eq, PartialOrd, Ord)]
 pub struct Micro(pub u64);

@@ -1,7 +1,7 @@
 use crate::FormIds;
 
 /// A base form: true, an input, or the And of some forms.
-#[derive(Debug, PartialEq, Eq, Hash, Drop)]
+#[derive(PartialEq, Eq, Hash, Drop)]
 pub enum Base {
     True,
     Input(u32),

@@ -1,7 +1,7 @@
 use std::alloc::AllocError;
 
 /// Why the forms of a network are not listed.
-#[derive(Clone, Copy, Debug, PartialEq, Eq)]
+#[derive(Clone, Copy, PartialEq, Eq)]
 pub enum FormFault {
     /// More than 2,097,152 base forms occur.
     Limit,

@@ -7,7 +7,7 @@ use std::hash::{Hash, Hasher};
 use std::marker::Model;
 
 /// Some forms, at most 8, which are held inline. A contract sees the list of their numbers.
-#[derive(Debug, Drop)]
+#[derive(Drop)]
 pub struct FormIds {
     ids: SmallVec<u32, 8>,
 }

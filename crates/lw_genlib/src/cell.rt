@@ -6,7 +6,7 @@ use std::marker::Model;
 
 /// A cell of a library: its pins in the order in which they first stand in its first form, a delay
 /// for each of them, and one form or more, which have one truth table.
-#[derive(Debug, Drop)]
+#[derive(Drop)]
 pub struct Cell {
     name: Name,
     area: Micro,

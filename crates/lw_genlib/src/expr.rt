@@ -7,7 +7,7 @@ use crate::eval::run_words;
 use std::marker::Model;
 
 /// A function of a cell: the expression that these steps spell, in postfix order.
-#[derive(Debug, Drop)]
+#[derive(Drop)]
 pub struct Expr {
     ops: Vec<ExprOp>,
 }

@@ -5,7 +5,7 @@ use std::alloc::{AllocError, Global};
 use std::marker::Model;
 
 /// Expressions in order.
-#[derive(Debug, Drop)]
+#[derive(Drop)]
 pub struct Exprs {
     items: Vec<Expr>,
 }

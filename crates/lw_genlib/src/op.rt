@@ -1,5 +1,5 @@
 /// A step of an expression in postfix order.
-#[derive(Clone, Copy, Debug, PartialEq, Eq)]
+#[derive(Clone, Copy, PartialEq, Eq)]
 pub enum ExprOp {
     /// A constant.
     Const(bool),

@@ -11,7 +11,7 @@ const ROOM: usize = 2048;
 
 // Bytes that wait to go to a sink, and whether it has failed. After that nothing more is given to
 // it.
-#[derive(Debug, Drop)]
+#[derive(Drop)]
 pub(crate) struct Waiting {
     bytes: [u8; ROOM],
     used: usize,

@@ -3,7 +3,7 @@ use crate::table::Table;
 use std::marker::Model;
 
 /// Tables in order.
-#[derive(Debug, Drop)]
+#[derive(Drop)]
 pub struct Tables {
     items: Vec<Table>,
 }

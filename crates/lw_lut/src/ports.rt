@@ -2,7 +2,7 @@
 use lw_pool::{Classes, Name, Names};
 
 /// The name of the model, the names of its inputs and outputs, and the class of each output.
-#[derive(Debug, Drop)]
+#[derive(Drop)]
 pub struct TablePorts {
     pub model: Name,
     pub inputs: Names,

@@ -11,7 +11,7 @@ use std::alloc::{AllocError, Global};
 
 /// A lookup table for a class: its fan-ins, which are different and in rising order, and its
 /// bits. Bit j is the value where the fan-ins, the first as the highest bit, spell j.
-#[derive(Debug, Drop)]
+#[derive(Drop)]
 pub struct Table {
     pub out: ClassId,
     pub fanins: Classes,

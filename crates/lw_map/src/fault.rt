@@ -9,7 +9,7 @@ use lw_trade::CurveFault;
 use std::alloc::AllocError;
 
 /// Why a network is not mapped.
-#[derive(Debug, Drop)]
+#[derive(Drop)]
 pub enum MapFault {
     /// The network has more forms than are listed.
     Forms,

@@ -1,5 +1,5 @@
 /// How labels are found.
-#[derive(Clone, Copy, Debug)]
+#[derive(Clone, Copy)]
 pub enum Labeller {
     /// In rounds, which store no match.
     Rounds,

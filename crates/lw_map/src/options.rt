@@ -4,7 +4,7 @@ ghost use Rattle.std.specs.Prelude.{◌≤◌};
 use lw_assoc::Mode;
 
 /// How a network is decomposed: the most operands of an And, from 2 to 8, and the laws.
-#[derive(Clone, Copy, Debug)]
+#[derive(Clone, Copy)]
 pub struct Options {
     pub width: u8,
     pub mode: Mode,

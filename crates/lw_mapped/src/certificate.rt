@@ -6,7 +6,7 @@ use lw_pool::ClassId;
 use std::marker::Model;
 
 /// Labels in order, where there are any.
-#[derive(Debug, Drop)]
+#[derive(Drop)]
 pub struct OptMicros {
     items: Vec<Option<Micro>>,
 }
@@ -36,7 +36,7 @@ impl OptMicros {
 }
 
 /// Classes in order, where there are any.
-#[derive(Debug, Drop)]
+#[derive(Drop)]
 pub struct OptClasses {
     items: Vec<Option<ClassId>>,
 }
@@ -67,7 +67,7 @@ impl OptClasses {
 
 /// What shows that a netlist is the fastest: a label for some of the classes, by their numbers, and
 /// the class of each gate that has one.
-#[derive(Debug, Drop)]
+#[derive(Drop)]
 pub struct Certificate {
     pub labels: OptMicros,
     pub nets: OptClasses,

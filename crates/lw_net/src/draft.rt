@@ -9,7 +9,7 @@ use std::alloc::{AllocError, Global};
 use std::marker::Model;
 
 /// A node as it is written: the name of its output, those of its fan-ins in columns, and its rows.
-#[derive(Debug, Drop)]
+#[derive(Drop)]
 pub struct DraftNode {
     pub out: Name,
     pub fanins: Names,
@@ -18,7 +18,7 @@ pub struct DraftNode {
 }
 
 /// Written nodes in the order of the file. Each of their names is kept once.
-#[derive(Debug, Drop)]
+#[derive(Drop)]
 pub struct DraftNodes {
     names: IndexSet<Name>,
     nodes: Vec<NumberedNode>,
@@ -115,7 +115,7 @@ impl DraftNodes {
 const MOST_SIGNALS: usize = 262_144;
 
 /// A network as it is written, whose signals are known by their names.
-#[derive(Debug, Drop)]
+#[derive(Drop)]
 pub struct Draft {
     pub model: Name,
     pub inputs: Names,

@@ -9,7 +9,7 @@ use std::alloc::{AllocError, Global};
 use std::marker::Model;
 
 /// A network. Its nets are its inputs, in order, and then what its nodes drive, in order.
-#[derive(Debug, Drop)]
+#[derive(Drop)]
 pub struct Network {
     model: Name,
     names: Names,

@@ -8,7 +8,7 @@ use std::marker::Model;
 
 /// A row of a node: a byte `0`, `1` or `-` for each fan-in, in columns. Up to 16 of them take no
 /// memory of their own.
-#[derive(Debug, Drop)]
+#[derive(Drop)]
 pub struct Cube {
     signs: SmallVec<u8, 16>,
 }
@@ -75,7 +75,7 @@ pub fn are_signs(bytes: &[u8]) -> bool
 }
 
 /// Rows in order.
-#[derive(Debug, Drop)]
+#[derive(Drop)]
 pub struct Cubes {
     items: Vec<Cube>,
 }
@@ -154,7 +154,7 @@ impl Cubes {
 
 /// A node: the net that it drives, its fan-ins in columns, and its rows. Where `on` is true the
 /// node is true where some row holds, else where none does. A fan-in may repeat.
-#[derive(Debug, Drop)]
+#[derive(Drop)]
 pub struct Node {
     pub out: NetId,
     pub fanins: Nets,
@@ -163,7 +163,7 @@ pub struct Node {
 }
 
 /// Nodes in order.
-#[derive(Debug, Drop)]
+#[derive(Drop)]
 pub struct Nodes {
     items: Vec<Node>,
 }

@@ -10,7 +10,7 @@ use lw_pool::{Name, Numbers};
 use std::alloc::{AllocError, Global};
 
 /// A node as it is written, with the numbers of names in place of the names.
-#[derive(Debug, Drop)]
+#[derive(Drop)]
 pub(crate) struct NumberedNode {
     pub(crate) out: u32,
     pub(crate) fanins: Numbers,

@@ -8,7 +8,7 @@ use std::alloc::{AllocError, Global};
 use std::marker::Model;
 
 /// A gate by names: a cell, a name for each pin, and the name that it drives.
-#[derive(Debug, Drop)]
+#[derive(Drop)]
 pub struct DraftGate {
     pub cell: CellId,
     pub pins: Names,
@@ -16,14 +16,14 @@ pub struct DraftGate {
 }
 
 /// One net under a second name.
-#[derive(Debug, Drop)]
+#[derive(Drop)]
 pub struct Wire {
     pub from: Name,
     pub to: Name,
 }
 
 /// Gates by names, in order.
-#[derive(Debug, Drop)]
+#[derive(Drop)]
 pub struct DraftGates {
     items: Vec<SpelledGate>,
 }
@@ -85,7 +85,7 @@ impl DraftGates {
 }
 
 /// Wires in order.
-#[derive(Debug, Drop)]
+#[derive(Drop)]
 pub struct Wires {
     items: Vec<Wire>,
 }
@@ -153,7 +153,7 @@ impl Wires {
 
 /// A netlist that is given by names: what its inputs, gates and wires drive, and which of these its
 /// outputs are.
-#[derive(Debug, Drop)]
+#[derive(Drop)]
 pub struct GateDraft {
     pub model: Name,
     pub inputs: Names,

@@ -5,7 +5,7 @@ use lw_pool::{CellId, Name, NetId, Nets};
 use std::marker::Model;
 
 /// A gate: a cell, a net for each of the cell's pins in their order, and the net that it drives.
-#[derive(Debug, Drop)]
+#[derive(Drop)]
 pub struct Gate {
     pub cell: CellId,
     pub pins: Nets,
@@ -13,14 +13,14 @@ pub struct Gate {
 }
 
 /// An output: its name and its net.
-#[derive(Debug, Drop)]
+#[derive(Drop)]
 pub struct Port {
     pub name: Name,
     pub net: NetId,
 }
 
 /// Gates in order.
-#[derive(Debug, Drop)]
+#[derive(Drop)]
 pub struct Gates {
     items: Vec<Gate>,
 }
@@ -69,7 +69,7 @@ impl Gates {
 }
 
 /// Outputs in order.
-#[derive(Debug, Drop)]
+#[derive(Drop)]
 pub struct PortList {
     items: Vec<Port>,
 }

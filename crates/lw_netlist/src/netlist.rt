@@ -10,7 +10,7 @@ use lw_pool::{Name, Names};
 use std::marker::Model;
 
 /// A netlist of cells. Its nets are its inputs, in order, and then what its gates drive, in order.
-#[derive(Debug, Drop)]
+#[derive(Drop)]
 pub struct Netlist {
     model: Name,
     names: Names,

@@ -12,7 +12,7 @@ use std::marker::Model;
 
 /// A gate by names, as `DraftGate`, but its names stand in one list of bytes: where they are few
 /// and short, they need no memory of their own.
-#[derive(Debug, Drop)]
+#[derive(Drop)]
 pub struct SpelledGate {
     cell: CellId,
     // Where the name ends that the gate drives. The pins stand behind it.

@@ -4,7 +4,7 @@ use std::alloc::{AllocError, Global};
 use std::marker::Model;
 
 /// Names of one byte or more.
-#[derive(Debug, Drop)]
+#[derive(Drop)]
 pub struct SpelledNames {
     bytes: Vec<u8>,
     // Where each name ends among the bytes.

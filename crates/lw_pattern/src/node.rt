@@ -3,7 +3,7 @@ ghost use Rattle.std.specs.Prelude.{◌≡◌, ◌<◌, ◌↔◌, [], length, I
 use std::marker::Model;
 
 /// A node of a pattern. Its operands are places of earlier nodes.
-#[derive(Clone, Copy, Debug, PartialEq, Eq)]
+#[derive(Clone, Copy, PartialEq, Eq)]
 pub enum PatNode {
     /// A pin of the cell.
     Pin(u8),
@@ -18,7 +18,7 @@ pub enum PatNode {
 }
 
 /// Nodes in order.
-#[derive(Debug, Drop)]
+#[derive(Drop)]
 pub struct PatNodes {
     items: Vec<PatNode>,
 }

@@ -4,7 +4,7 @@ use std::marker::Model;
 
 /// A pattern: the function of a cell as a tree whose leaves are the cell's pins. The last node is
 /// the root.
-#[derive(Debug, Drop)]
+#[derive(Drop)]
 pub struct Pattern {
     pub cell: CellId,
     pub nodes: PatNodes,
@@ -15,7 +15,7 @@ pub struct Pattern {
 ///
 /// Each has at most 254 nodes, each of them an operand of one later node but the root, and pins
 /// from 0 on without a gap.
-#[derive(Debug, Drop)]
+#[derive(Drop)]
 pub struct Patterns {
     items: Vec<Pattern>,
 }

@@ -6,7 +6,7 @@ use std::marker::Model;
 
 /// A latch of BLIF's `.latch`: the net that it stores, the signal that it gives, and the words
 /// behind these on its line, which are its kind, its control and its initial value.
-#[derive(Debug, Drop)]
+#[derive(Drop)]
 pub struct Latch {
     pub input: Name,
     pub output: Name,
@@ -18,7 +18,7 @@ pub struct Latch {
 ///
 /// The combinational part has the circuit's inputs and then the latches' outputs as its inputs; its
 /// outputs are the circuit's and then the nets that the latches read.
-#[derive(Debug, Drop)]
+#[derive(Drop)]
 pub struct Frame {
     pub inputs: u32,
     pub outputs: u32,
@@ -26,7 +26,7 @@ pub struct Frame {
 }
 
 /// Latches in order.
-#[derive(Debug, Drop)]
+#[derive(Drop)]
 pub struct Latches {
     items: Vec<Latch>,
 }

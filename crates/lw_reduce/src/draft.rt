@@ -11,7 +11,7 @@ use std::marker::Model;
 ///
 /// Base form 0 is true, those after it are the inputs. The form with an even number 2k is base form
 /// k, and the next number is its complement.
-#[derive(Debug, Drop)]
+#[derive(Drop)]
 pub struct Draft {
     pub(crate) inputs: u32,
     pub(crate) samples: Vec<bool>,

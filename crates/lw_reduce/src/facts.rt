@@ -3,7 +3,7 @@ ghost use Rattle.lw_reduce.specs.declared.facts.Fact.{Fact};
 
 /// A form that is the NAND of two operands. The operands stand first, the right one before the
 /// left: so they are one number of the processor.
-#[derive(Clone, Copy, Debug, PartialEq, Eq)]
+#[derive(Clone, Copy, PartialEq, Eq)]
 pub(crate) struct Fact {
     pub(crate) right: u32,
     pub(crate) left: u32,
@@ -11,7 +11,7 @@ pub(crate) struct Fact {
 }
 
 /// Two forms of one signal.
-#[derive(Clone, Copy, Debug, PartialEq, Eq)]
+#[derive(Clone, Copy, PartialEq, Eq)]
 pub(crate) struct Link {
     pub(crate) left: u32,
     pub(crate) right: u32,

@@ -7,7 +7,7 @@ ghost use Rattle.lw_report.specs.Vectors.{is_one};
 use std::alloc::{AllocError, Global};
 
 /// Up to 64 vectors: bit k of the word of an input is its value in vector k.
-#[derive(Debug, Drop)]
+#[derive(Drop)]
 pub struct Block {
     pub words: Vec<u64>,
     pub count: u32,

@@ -22,7 +22,7 @@ use std::marker::Model;
 
 /// The timing of a netlist: when its nets arrive, the greatest arrival of an output, its area, and
 /// its critical path.
-#[derive(Debug, Drop)]
+#[derive(Drop)]
 pub struct Timing {
     arrivals: Vec<Micro>,
     latest: Micro,

@@ -14,14 +14,14 @@ use lw_pool::{CellId, ClassId};
 use std::marker::Model;
 
 /// The class at which a stored match stands, and its number of pins.
-#[derive(Clone, Copy, Debug, PartialEq, Eq)]
+#[derive(Clone, Copy, PartialEq, Eq)]
 pub struct Head {
     pub class: ClassId,
     pub pins: u8,
 }
 
 /// A stored match: the class at which it stands, its cell, and the classes of its pins.
-#[derive(Debug, Drop)]
+#[derive(Drop)]
 pub struct Found {
     pub class: ClassId,
     pub cell: CellId,

@@ -4,14 +4,14 @@ use std::alloc::AllocError;
 
 /// A time at which the least area of a class falls, and the least area from then on. Both are in
 /// millionths.
-#[derive(Clone, Copy, Debug, PartialEq, Eq)]
+#[derive(Clone, Copy, PartialEq, Eq)]
 pub struct Point {
     pub time: Micro,
     pub area: u64,
 }
 
 /// Why there are no curves.
-#[derive(Clone, Copy, Debug, PartialEq, Eq)]
+#[derive(Clone, Copy, PartialEq, Eq)]
 pub enum CurveFault {
     /// All classes together have more than 8,000,000 points.
     Limit,

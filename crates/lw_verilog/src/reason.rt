@@ -2,7 +2,7 @@
 use lw_pool::Name;
 
 /// Why a netlist has no Verilog text.
-#[derive(Debug, Drop)]
+#[derive(Drop)]
 pub enum NoVerilog {
     /// It has latches.
     Latches,

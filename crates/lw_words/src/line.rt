@@ -2,7 +2,7 @@ use crate::Words;
 use std::marker::Model;
 
 /// A logical line.
-#[derive(Debug, Drop)]
+#[derive(Drop)]
 pub struct Line {
     /// The number of its first physical line, from 1.
     pub number: u32,

@@ -14,7 +14,7 @@ pub type Bytes = SmallVec<u8, 40>;
 pub type Ends = SmallVec<usize, 5>;
 
 /// The words of a line: each a list of 1 to 4,095 bytes.
-#[derive(Debug, Drop)]
+#[derive(Drop)]
 pub struct Words {
     bytes: Bytes,
     ends: Ends,
