@@ -114,7 +114,7 @@ module _ {C : Type 0} (costs : C → Cost) (q : Query C) where
   -- the match is by the pattern of one of the first n roots
   abbrev pub IsAmong : ℕ → ℕ → List Root → ℕ → Priced → Type 0
   IsAmong top list roots n b =
-      IsInList q top list b × ((k : ℕ) × (k < n) × (slice_get roots k ≡ Some (root_of b.found.pattern (root_side (cuts_state q.cuts.now) b.found.pattern))))
+      IsInList q top list b × ((k : ℕ) × (k < n) × (slice_get roots k ≡ Some (root_of b.found.pattern (root_side (cuts_state q.site.cuts.now) b.found.pattern))))
 
   pub among_start : (top list : ℕ) (roots : List Root) (best : Option Best) → Improves (those (IsAmong top list roots 0)) (IsPricedIn costs q) best best
   among_start top list roots best =
@@ -124,9 +124,9 @@ module _ {C : Type 0} (costs : C → Cost) (q : Query C) where
   among_next top list roots n root old mid new there i j =
       improves_either (IsPricedIn costs q) (IsAmong top list roots n) (IsByRoot q top (list_at q.view list) root) (IsAmong top list roots (n + 1)) old mid new (λ b (here, (k, lt, at)). by_place b here k at (eq-or-lt_of_le {n = k} {m = n} (omega arith))) i j
     where
-      by_place : (b : Priced) → IsInList q top list b → (k : ℕ) → slice_get roots k ≡ Some (root_of b.found.pattern (root_side (cuts_state q.cuts.now) b.found.pattern)) → (k ≡ n) ⊎ (k < n) → IsAmong top list roots n b ⊎ IsByRoot q top (list_at q.view list) root b
+      by_place : (b : Priced) → IsInList q top list b → (k : ℕ) → slice_get roots k ≡ Some (root_of b.found.pattern (root_side (cuts_state q.site.cuts.now) b.found.pattern)) → (k ≡ n) ⊎ (k < n) → IsAmong top list roots n b ⊎ IsByRoot q top (list_at q.view list) root b
       by_place b here k at (inl same) =
-          let r = root_of b.found.pattern (root_side (cuts_state q.cuts.now) b.found.pattern) in
+          let r = root_of b.found.pattern (root_side (cuts_state q.site.cuts.now) b.found.pattern) in
           let mine : slice_get roots n ≡ Some r = subst (λ (j : ℕ). slice_get roots j ≡ Some r) same at in
           inr (here.0, ap (list_at q.view) here.1, same_Some root r (sym there ∙ mine))
       by_place b here k at (inr less) = inl (here, (k, less, at))
@@ -143,39 +143,39 @@ module _ {C : Type 0} (costs : C → Cost) (q : Query C) where
       Two b = IsInList q top 0 b ⊎ IsInList q top 1 b
 
       late : (b : Priced) → IsBelow top b → Two b ⊎ IsInList q top 2 b
-      late b low = by_lists (root_side (cuts_state q.cuts.now) b.found.pattern) (Two b ⊎ IsInList q top 2 b)
+      late b low = by_lists (root_side (cuts_state q.site.cuts.now) b.found.pattern) (Two b ⊎ IsInList q top 2 b)
           (λ is. inl (inl (low, is)))
           (λ is. inl (inr (low, is)))
           (λ is. inr (low, is))
 
   module _ (p : Pick) (pick : IsPick costs q p) where
-    pattern_within : (b : Priced) → IsPricedIn costs q b → b.found.pattern < length q.pats.now
+    pattern_within : (b : Priced) → IsPricedIn costs q b → b.found.pattern < length q.site.pats.now
     pattern_within b at =
-        slice_get_within q.pats.now b.found.pattern at.pattern at.matches.listed
+        slice_get_within q.site.pats.now b.found.pattern at.pattern at.matches.listed
 
-    rooted : (b : Priced) → IsPricedIn costs q b → b.found.pattern < length q.cuts.now.roots.now
+    rooted : (b : Priced) → IsPricedIn costs q b → b.found.pattern < length q.site.cuts.now.roots.now
     rooted b at =
         let lt = pattern_within b at in let le = pick.rooted in omega (arith, lt, le)
 
-    pub among_all : (list : ℕ) (roots : List Root) (n : ℕ) (old new : Option Best) → AreListed q.cuts.now.roots.now list roots (length q.cuts.now.roots.now) → length roots ≤ n → Improves (those (IsAmong p.top list roots n)) (IsPricedIn costs q) old new → Improves (those (IsInList q p.top list)) (IsPricedIn costs q) old new
+    pub among_all : (list : ℕ) (roots : List Root) (n : ℕ) (old new : Option Best) → AreListed q.site.cuts.now.roots.now list roots (length q.site.cuts.now.roots.now) → length roots ≤ n → Improves (those (IsAmong p.top list roots n)) (IsPricedIn costs q) old new → Improves (those (IsInList q p.top list)) (IsPricedIn costs q) old new
     among_all list roots n old new listed whole i =
         improves_fewer (IsPricedIn costs q) (IsAmong p.top list roots n) (IsInList q p.top list) old new (λ b at here. (here, place b at here.1)) i
       where
-        place : (b : Priced) → IsPricedIn costs q b → list_of (root_side (cuts_state q.cuts.now) b.found.pattern) ≡ list → (k : ℕ) × (k < n) × (slice_get roots k ≡ Some (root_of b.found.pattern (root_side (cuts_state q.cuts.now) b.found.pattern)))
+        place : (b : Priced) → IsPricedIn costs q b → list_of (root_side (cuts_state q.site.cuts.now) b.found.pattern) ≡ list → (k : ℕ) × (k < n) × (slice_get roots k ≡ Some (root_of b.found.pattern (root_side (cuts_state q.site.cuts.now) b.found.pattern)))
         place b at in_list =
             let j = b.found.pattern in
-            let s = root_side (cuts_state q.cuts.now) j in
+            let s = root_side (cuts_state q.site.cuts.now) j in
             let known = rooted b at in
-            let (k, there) = listed j s known (slice_get-get_or q.cuts.now.roots.now j (plain Any) known) in_list in
+            let (k, there) = listed j s known (slice_get-get_or q.site.cuts.now.roots.now j (plain Any) known) in_list in
             let lt = slice_get_within roots k (root_of j s) there in
             (k, omega (arith, lt, whole), there)
 
     -- no pattern of the library has the root
-    pub past_root : (numbers : List ℕ) (root : Root) (best : Option Best) → length q.pats.now ≤ root.pattern → Improves (those (IsByRoot q p.top numbers root)) (IsPricedIn costs q) best best
+    pub past_root : (numbers : List ℕ) (root : Root) (best : Option Best) → length q.site.pats.now ≤ root.pattern → Improves (those (IsByRoot q p.top numbers root)) (IsPricedIn costs q) best best
     past_root numbers root best past =
         improves_cut (those (IsByRoot q p.top numbers root)) (IsPricedIn costs q) best (λ b (low, there, is) at. absurd (none b is at))
       where
-        none : (b : Priced) → root ≡ root_of b.found.pattern (root_side (cuts_state q.cuts.now) b.found.pattern) → IsPricedIn costs q b → ⊥
+        none : (b : Priced) → root ≡ root_of b.found.pattern (root_side (cuts_state q.site.cuts.now) b.found.pattern) → IsPricedIn costs q b → ⊥
         none b is at =
             let same : root.pattern ≡ b.found.pattern = ap (λ (r : Root). r.pattern) is in
             let lt = pattern_within b at in
@@ -187,26 +187,26 @@ module _ {C : Type 0} (costs : C → Cost) (q : Query C) where
         improves_cut (those (IsByRoot q p.top numbers root)) (IsPricedIn costs q) best (λ b (low, there, is) at. ahead b (pick.last.last b at) (sym (ap (λ (r : Root). r.pattern) is)))
 
     -- the pattern was searched
-    pub searched_root : (numbers : List ℕ) (root : Root) (scope : Scope) (old new : Option Best) → scope.limit ≡ p.top → scope.hunts ≡ false → scope.by_marks ≡ false → Improves (AreSureCuts (cuts_state q.cuts.now) q.graph.now (costs q.cost.now) q.pats.now q.marks.now root.pattern scope) (IsPricedBy q.graph.now (costs q.cost.now) q.pats.now (marks_in q.marks.now) q.class.0 root.pattern) old new → Improves (those (IsByRoot q p.top numbers root)) (IsPricedIn costs q) old new
+    pub searched_root : (numbers : List ℕ) (root : Root) (scope : Scope) (old new : Option Best) → scope.limit ≡ p.top → scope.hunts ≡ false → scope.by_marks ≡ false → Improves (AreSureCuts (cuts_state q.site.cuts.now) q.site.graph.now (costs q.site.cost.now) q.site.pats.now q.site.marks.now root.pattern scope) (IsPricedBy q.site.graph.now (costs q.site.cost.now) q.site.pats.now (marks_in q.site.marks.now) q.site.class.0 root.pattern) old new → Improves (those (IsByRoot q p.top numbers root)) (IsPricedIn costs q) old new
     searched_root numbers root scope old new limit not_hunts not_marks i = record {
       from = from i.from;
       kept = i.kept;
       all = λ b (low, there, is) at. i.all b sure (at, sym (ap (λ (r : Root). r.pattern) is));
     }
       where
-        sure : {b : Priced} → AreSureCuts (cuts_state q.cuts.now) q.graph.now (costs q.cost.now) q.pats.now q.marks.now root.pattern scope b new
+        sure : {b : Priced} → AreSureCuts (cuts_state q.site.cuts.now) q.site.graph.now (costs q.site.cost.now) q.site.pats.now q.site.marks.now root.pattern scope b new
         sure = record {
           bounds = pick.bounds;
-          sure = inr (subst (λ (n : ℕ). IsCertifiedBy (costs q.cost.now) q.pats.now (cuts_state q.cuts.now).gaps root.pattern n) (sym limit) (pick.sure root.pattern));
+          sure = inr (subst (λ (n : ℕ). IsCertifiedBy (costs q.site.cost.now) q.site.pats.now (cuts_state q.site.cuts.now).gaps root.pattern n) (sym limit) (pick.sure root.pattern));
           hunting = λ e. cc;
           ahead = λ e. cc;
         }
 
-        from : ((new ≡ old) ⊎ ((b : Best) × (new ≡ Some b) × IsPricedBy q.graph.now (costs q.cost.now) q.pats.now (marks_in q.marks.now) q.class.0 root.pattern (plain_best b))) → (new ≡ old) ⊎ ((b : Best) × (new ≡ Some b) × IsPricedIn costs q (plain_best b))
+        from : ((new ≡ old) ⊎ ((b : Best) × (new ≡ Some b) × IsPricedBy q.site.graph.now (costs q.site.cost.now) q.site.pats.now (marks_in q.site.marks.now) q.site.class.0 root.pattern (plain_best b))) → (new ≡ old) ⊎ ((b : Best) × (new ≡ Some b) × IsPricedIn costs q (plain_best b))
         from (inl e) = inl e
         from (inr (b, e, by)) = inr (b, e, by.0)
 
-    module _ (cap : ℕ) (is_cost : IsCost (costs q.cost.now)) (in_range : AreInRange (costs q.cost.now).cap q.marks.now) (is : IsQuery cap costs q) where
+    module _ (cap : ℕ) (is_cost : IsCost (costs q.site.cost.now)) (in_range : AreInRange (costs q.site.cost.now).cap q.site.marks.now) (is : IsQuery cap costs q) where
       is_top : (top : ℕ) → IsTopOf (Some (record { cost = top; height = 0 })) top
       is_top top k high some le (inl lt) = omega arith
       is_top top k high some le (inr (e, lt)) = omega arith
@@ -231,8 +231,8 @@ module _ {C : Type 0} (costs : C → Cost) (q : Query C) where
       -- no number of the list is
       pub far_list : (list : ℕ) (numbers : List ℕ) (best : Option Best) → numbers ≡ list_at q.view list → ((place shift : ℕ) → IsFar numbers place shift p.top) → Improves (those (IsInList q p.top list)) (IsPricedIn costs q) best best
       far_list list numbers best numbers_is f =
-          improves_cut (those (IsInList q p.top list)) (IsPricedIn costs q) best (λ b here at. absurd (by_root b here at (root_of b.found.pattern (root_side (cuts_state q.cuts.now) b.found.pattern)) refl))
+          improves_cut (those (IsInList q p.top list)) (IsPricedIn costs q) best (λ b here at. absurd (by_root b here at (root_of b.found.pattern (root_side (cuts_state q.site.cuts.now) b.found.pattern)) refl))
         where
-          by_root : (b : Priced) → IsInList q p.top list b → IsPricedIn costs q b → (root : Root) → root ≡ root_of b.found.pattern (root_side (cuts_state q.cuts.now) b.found.pattern) → ⊥
+          by_root : (b : Priced) → IsInList q p.top list b → IsPricedIn costs q b → (root : Root) → root ≡ root_of b.found.pattern (root_side (cuts_state q.site.cuts.now) b.found.pattern) → ⊥
           by_root b here at root root_is =
               nowhere numbers b root (here.0, ap (list_at q.view) here.1 ∙ sym numbers_is, root_is) at (f root.place root.shift)

@@ -29,13 +29,13 @@ pub record AreLastBefore (g : Graph) (cost : Cost) (pats : List Pattern) (marks 
 -- so it is for a query
 abbrev pub AreLastIn : {C : Type 0} → (C → Cost) → Query C → Mark → Type 0
 AreLastIn costs q bound =
-    AreLastBefore q.graph.now (costs q.cost.now) q.pats.now (marks_in q.marks.now) q.class.0 bound
+    AreLastBefore q.site.graph.now (costs q.site.cost.now) q.site.pats.now (marks_in q.site.marks.now) q.site.class.0 bound
 
 -- The numbers are bounds, and each pattern has a root. The gaps are certified at the top, and the matches are last before the bound.
 pub record IsPick {C : Type 0} (costs : C → Cost) (q : Query C) (p : Pick) : Type 0 where
   pub bounds : AreTrue q
-  pub rooted : length q.pats.now ≤ length q.cuts.now.roots.now
-  pub sure : AreCertified (costs q.cost.now) q.pats.now (cuts_state q.cuts.now).gaps p.top
+  pub rooted : length q.site.pats.now ≤ length q.site.cuts.now.roots.now
+  pub sure : AreCertified (costs q.site.cost.now) q.site.pats.now (cuts_state q.site.cuts.now).gaps p.top
   pub last : AreLastIn costs q (plain_mark p.bound)
 
 -- such a choice, by a query
@@ -53,12 +53,12 @@ IsBelow top b = b.mark.cost < top
 -- the match is by a pattern whose root has its number in the list, and costs less than the top
 abbrev pub IsInList : {C : Type 0} → Query C → ℕ → ℕ → Priced → Type 0
 IsInList q top list b =
-    IsBelow top b × (list_of (root_side (cuts_state q.cuts.now) b.found.pattern) ≡ list)
+    IsBelow top b × (list_of (root_side (cuts_state q.site.cuts.now) b.found.pattern) ≡ list)
 
 -- it is by the pattern of this root, which has its number in these, and costs less than the top
 abbrev pub IsByRoot : {C : Type 0} → Query C → ℕ → List ℕ → Root → Priced → Type 0
 IsByRoot q top numbers root b =
-    IsBelow top b × (list_at q.view (list_of (root_side (cuts_state q.cuts.now) b.found.pattern)) ≡ numbers) × (root ≡ root_of b.found.pattern (root_side (cuts_state q.cuts.now) b.found.pattern))
+    IsBelow top b × (list_at q.view (list_of (root_side (cuts_state q.site.cuts.now) b.found.pattern)) ≡ numbers) × (root ≡ root_of b.found.pattern (root_side (cuts_state q.site.cuts.now) b.found.pattern))
 
 -- the best becomes the least of what it was and these matches
 abbrev pub PicksOf : {C : Type 0} → (C → Cost) → Query C → (Priced → Type 0) → Option Best → Option Best → Type 0

@@ -2,7 +2,7 @@
 ghost use Rattle.std.specs.Prelude.{◌≡◌};
 ghost use Rattle.lw_bounds.specs.Places.{leaves_of};
 ghost use Rattle.lw_match.specs.Queries.{IsQuery};
-ghost use Rattle.lw_match.specs.Sites.{site_of, site_reading, IsSite};
+ghost use Rattle.lw_match.specs.Sites.{site_reading, IsSite};
 
 use crate::query::Query;
 use lw_bounds::{Cuts, leaves_at, numbers_of, view_at};
@@ -16,11 +16,16 @@ use lw_pool::ClassId;
 #[derive(Drop)]
 pub struct Site<'a, C> {
     pub graph: &'a Graph,
+    /// The patterns of the library, each of a cell that `cost` knows.
     pub pats: &'a Patterns,
+    /// What is known of each class so far: its mark, or none.
     pub marks: &'a [Option<Mark>],
     pub cost: &'a C,
+    /// The class at which matches are sought.
     pub class: ClassId,
+    /// What searches are cut by, read from the tables of bounds.
     pub cuts: &'a Cuts<'a>,
+    /// What no match at the class costs less than.
     pub floor: u64,
 }
 
@@ -73,19 +78,11 @@ impl<'a, C: Cost> Site<'a, C> {
         requires site { IsSite C.CAP C.costs self }
         requires leaves { leaves.now ≡ leaves_of (site_reading self) self.class.0 }
         ensures query { IsQuery C.CAP C.costs result }
-        ensures site { site_of result ≡ self.entry }
+        ensures site { result.site ≡ self.entry }
     {
         let _ = self.graph.classes();
         let at = numbers_of(self.graph, self.marks, self.cuts);
-        Query {
-            graph: self.graph,
-            pats: self.pats,
-            marks: self.marks,
-            cost: self.cost,
-            class: self.class,
-            cuts: self.cuts,
-            floor: self.floor,
-            view: view_at(at, leaves, self.class),
-        }
+        let view = view_at(at, leaves, self.class);
+        Query { site: self, view }
     }
 }

@@ -82,7 +82,7 @@ fn hunt_root<C: Cost>(query: &Query<C>, numbers: &[u64], root: Root, hunt: &mut 
     ensures goes_on { HuntsOn C.costs query.now hunt.old hunt.new }
     ensures none { HasNoneByRoot C.costs query.now hunt.new numbers.now root }
 {
-    if root.pattern >= query.pats.len() {
+    if root.pattern >= query.site.pats.len() {
         return;
     }
     if is_near(numbers, root, hunt.target.top) {
@@ -112,7 +112,7 @@ fn hunt_all<C: Cost>(query: &Query<C>, hunt: &mut Hunt)
     ensures goes_on { HuntsOn C.costs query.now hunt.old hunt.new }
     ensures none { HasNoneAtAll C.costs query.now hunt.new }
 {
-    for number in 0..query.pats.len() {
+    for number in 0..query.site.pats.len() {
         hunt_by(query, PatId(number), hunt);
     }
 }
@@ -124,11 +124,11 @@ pub(crate) fn hunt_near<C: Cost>(query: &Query<C>, hunt: &mut Hunt)
     ensures goes_on { HuntsOn C.costs query.now hunt.old hunt.new }
     ensures none { HasNoneAtAll C.costs query.now hunt.new }
 {
-    if query.cuts.roots.len() < query.pats.len() as usize {
+    if query.site.cuts.roots.len() < query.site.pats.len() as usize {
         hunt_all(query, hunt);
         return;
     }
-    hunt_list(query, 0, query.cuts.leaf_roots, hunt);
-    hunt_list(query, 1, query.cuts.row_roots, hunt);
-    hunt_list(query, 2, query.cuts.other_roots, hunt);
+    hunt_list(query, 0, query.site.cuts.leaf_roots, hunt);
+    hunt_list(query, 1, query.site.cuts.row_roots, hunt);
+    hunt_list(query, 2, query.site.cuts.other_roots, hunt);
 }

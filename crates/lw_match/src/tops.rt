@@ -116,7 +116,7 @@ impl Tops {
         if self.tops[place] == top {
             return true;
         }
-        if !are_certified(query.pats, query.cost, query.cuts.gaps, top) {
+        if !are_certified(query.site.pats, query.site.cost, query.site.cuts.gaps, top) {
             return false;
         }
         self.tops[place] = top;

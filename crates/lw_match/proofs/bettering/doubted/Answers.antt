@@ -6,13 +6,13 @@ use Rattle.lw_match.proofs.bettering.doubted.Goals as goal
 pub loop-number-init : goal.loop-number-init
 loop-number-init g c =
     let q = c.args.query.now in
-    doubts_start (cuts_state q.cuts.now) q.graph.now (g.C.Cost.costs q.cost.now) q.pats.now q.marks.now q.class.0 c.args.target
+    doubts_start (cuts_state q.site.cuts.now) q.site.graph.now (g.C.Cost.costs q.site.cost.now) q.site.pats.now q.site.marks.now q.site.class.0 c.args.target
 
 pub loop-number-preserved : goal.loop-number-preserved
 loop-number-preserved g c =
     let q = c.args.query.now in
     let l = c.loop-number in
-    doubts_next (cuts_state q.cuts.now) q.graph.now (g.C.Cost.costs q.cost.now) q.pats.now q.marks.now q.class.0 l.number c.args.target l.invariant (c.doubted_by-best.ensures.none (none_if c.doubted_by-best.result c.is_some.result c.is_some.ensures c.if-is_some.false))
+    doubts_next (cuts_state q.site.cuts.now) q.site.graph.now (g.C.Cost.costs q.site.cost.now) q.site.pats.now q.site.marks.now q.site.class.0 l.number c.args.target l.invariant (c.doubted_by-best.ensures.none (none_if c.doubted_by-best.result c.is_some.result c.is_some.ensures c.if-is_some.false))
 
 pub returns-clause-none : goal.returns-clause-none
 returns-clause-none g c = λ e i lt.

@@ -11,7 +11,7 @@ returns-clause-sound g c =
 pub returns-clause-none : goal.returns-clause-none
 returns-clause-none g c = λ e bounds.
     let q = c.args.query.now in
-    let costs = g.C.Cost.costs q.cost.now in
+    let costs = g.C.Cost.costs q.site.cost.now in
     let target = c.unlimited.result in
-    let none = subst (λ found. IsNoneBy q.graph.now costs q.pats.now (marks_in q.marks.now) q.class.0 c.args.pat.0 (bound_after found target.bound)) e (c.hunted_by.ensures.none (inl e) bounds (inl c.unlimited.ensures.top)) in
-    inr (subst (λ bound. IsNoneBy q.graph.now costs q.pats.now (marks_in q.marks.now) q.class.0 c.args.pat.0 bound) c.unlimited.ensures.bound_is none)
+    let none = subst (λ found. IsNoneBy q.site.graph.now costs q.site.pats.now (marks_in q.site.marks.now) q.site.class.0 c.args.pat.0 (bound_after found target.bound)) e (c.hunted_by.ensures.none (inl e) bounds (inl c.unlimited.ensures.top)) in
+    inr (subst (λ bound. IsNoneBy q.site.graph.now costs q.site.pats.now (marks_in q.site.marks.now) q.site.class.0 c.args.pat.0 bound) c.unlimited.ensures.bound_is none)

@@ -10,7 +10,7 @@ use Rattle.lw_match.proofs.bettering.hunted.Goals.{then-is_whole, else-is_whole}
 pub returns-then-is_least-clause-outcome : goal.returns-then-is_least-clause-outcome
 returns-then-is_least-clause-outcome g c =
     let q = c.args.query.now in
-    let costs = g.C.Cost.costs q.cost.now in
+    let costs = g.C.Cost.costs q.site.cost.now in
     let want = c.args.want in
     let start = c.new-hunt in
     let hunt = c.hunt_near.new.hunt in
@@ -23,7 +23,7 @@ returns-then-is_least-clause-outcome g c =
         | then-is_whole w ↦
             let (whole_if, _) = c.is_whole.ensures in
             let whole = whole_if w.if-is_whole.true in
-            subst (λ left. FindsLeast g.C.Cost.costs q left None) (sym (past_whole want.by_marks hunt.found want.bound (subst (λ (m : Bool). IsWhole m hunt.found) count whole))) (hunted_none (cuts_state q.cuts.now) q.graph.now costs q.pats.now q.marks.now q.class.0 want.bound hunt.target hunt.found now.sharper (c.hunt_near.ensures.none whole) (λ i lt cut. inl (w.are_sure-is_least.ensures.sure (sym w.is_least-is ∙ t) i)) bounds)
+            subst (λ left. FindsLeast g.C.Cost.costs q left None) (sym (past_whole want.by_marks hunt.found want.bound (subst (λ (m : Bool). IsWhole m hunt.found) count whole))) (hunted_none (cuts_state q.site.cuts.now) q.site.graph.now costs q.site.pats.now q.site.marks.now q.site.class.0 want.bound hunt.target hunt.found now.sharper (c.hunt_near.ensures.none whole) (λ i lt cut. inl (w.are_sure-is_least.ensures.sure (sym w.is_least-is ∙ t) i)) bounds)
         | else-is_whole w ↦ cc
       ];
     }
@@ -31,7 +31,7 @@ returns-then-is_least-clause-outcome g c =
 pub returns-clause-outcome : goal.returns-clause-outcome
 returns-clause-outcome g c =
     let q = c.args.query.now in
-    let costs = g.C.Cost.costs q.cost.now in
+    let costs = g.C.Cost.costs q.site.cost.now in
     let want = c.args.want in
     let start = c.new-hunt in
     let hunt = c.hunt_near.new.hunt in
@@ -42,7 +42,7 @@ returns-clause-outcome g c =
       none = search rules;
       least = λ t bounds.
           let e : c.doubted-best.result ≡ None = no_best c.doubted-best.result c.is_none-is_least.result c.is_none-is_least.ensures t in
-          let none = hunted_none (cuts_state q.cuts.now) q.graph.now costs q.pats.now q.marks.now q.class.0 want.bound hunt.target hunt.found now.sharper (c.hunt_near.ensures.none (inl unfound)) (c.doubted-best.ensures.none e) bounds in
+          let none = hunted_none (cuts_state q.site.cuts.now) q.site.graph.now costs q.site.pats.now q.site.marks.now q.site.class.0 want.bound hunt.target hunt.found now.sharper (c.hunt_near.ensures.none (inl unfound)) (c.doubted-best.ensures.none e) bounds in
           let here = subst (λ found. FindsLeast g.C.Cost.costs q (bound_after found want.bound) None) unfound none in
           subst (λ found. FindsLeast g.C.Cost.costs q (bound_past want.by_marks found want.bound) None) (sym e) (subst (λ left. FindsLeast g.C.Cost.costs q left None) (sym (past_none want.by_marks want.bound)) here);
     }

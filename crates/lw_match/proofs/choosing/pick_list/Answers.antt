@@ -9,7 +9,7 @@ use Rattle.lw_match.proofs.choosing.pick_list.Goals as goal
 pub returns-then-is_bare : goal.returns-then-is_bare
 returns-then-is_bare g c =
     let q = c.args.query.now in
-    far_list g.C.Cost.costs q c.args.pick c.requires.pick.pick _ (g.met.C.Cost.laws q.cost.now) (subst (λ n. AreInRange n q.marks.now) (sym (g.met.C.Cost.cap q.cost.now)) c.requires.pick.query.in_range) c.requires.pick.query c.args.list c.list_at-numbers.result.now c.args.best.now c.list_at-numbers.ensures (c.is_bare.ensures c.if-is_bare.true)
+    far_list g.C.Cost.costs q c.args.pick c.requires.pick.pick _ (g.met.C.Cost.laws q.site.cost.now) (subst (λ n. AreInRange n q.site.marks.now) (sym (g.met.C.Cost.cap q.site.cost.now)) c.requires.pick.query.in_range) c.requires.pick.query c.args.list c.list_at-numbers.result.now c.args.best.now c.list_at-numbers.ensures (c.is_bare.ensures c.if-is_bare.true)
 
 pub loop-number-init : goal.loop-number-init
 loop-number-init g c =

@@ -12,7 +12,7 @@ returns-then-root-len g c =
 pub returns-then-not-is_near : goal.returns-then-not-is_near
 returns-then-not-is_near g c =
     let q = c.args.query.now in
-    far_root g.C.Cost.costs q c.args.pick c.requires.pick _ (g.met.C.Cost.laws q.cost.now) (subst (λ n. AreInRange n q.marks.now) (sym (g.met.C.Cost.cap q.cost.now)) c.requires.query.in_range) c.requires.query c.args.numbers.now c.args.root c.args.best.now (c.is_near.ensures c.if-not-is_near.true)
+    far_root g.C.Cost.costs q c.args.pick c.requires.pick _ (g.met.C.Cost.laws q.site.cost.now) (subst (λ n. AreInRange n q.site.marks.now) (sym (g.met.C.Cost.cap q.site.cost.now)) c.requires.query.in_range) c.requires.query c.args.numbers.now c.args.root c.args.best.now (c.is_near.ensures c.if-not-is_near.true)
 
 pub returns-then-is_ahead : goal.returns-then-is_ahead
 returns-then-is_ahead g c =

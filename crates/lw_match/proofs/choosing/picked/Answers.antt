@@ -21,11 +21,11 @@ pick_near-requires-clause-pick g c = record {
 pub returns-clause-least : goal.returns-clause-least
 returns-clause-least g c =
     let q = c.args.query.now in
-    let costs = g.C.Cost.costs q.cost.now in
+    let costs = g.C.Cost.costs q.site.cost.now in
     let (start, is, mark) = c.to_beat-best.ensures in
     let top = c.saturating_add-top.result in
     let below : start.mark.cost < top = subst (λ (m : Mark). m.cost < top) (sym mark) (below_next c.args.bound.cost top c.saturating_add-top.ensures (c.are_sure_at.ensures.some c.if-not-are_sure_at.false)) in
-    within_least (always (AreTrue q)) q.graph.now costs q.pats.now (marks_in q.marks.now) q.class.0 (Some c.args.bound) c.to_beat-best.result c.pick_near.new.best c.within.result c.to_beat-best.ensures (improves_below (IsPricedIn g.C.Cost.costs q) (AreTrue q) c.saturating_add-top.result start c.to_beat-best.result c.pick_near.new.best is below c.pick_near.ensures) c.within.ensures (λ k. c.requires.bounds)
+    within_least (always (AreTrue q)) q.site.graph.now costs q.site.pats.now (marks_in q.site.marks.now) q.site.class.0 (Some c.args.bound) c.to_beat-best.result c.pick_near.new.best c.within.result c.to_beat-best.ensures (improves_below (IsPricedIn g.C.Cost.costs q) (AreTrue q) c.saturating_add-top.result start c.to_beat-best.result c.pick_near.new.best is below c.pick_near.ensures) c.within.ensures (λ k. c.requires.bounds)
 
 pub returns-then-query-len-clause-least : goal.returns-then-query-len-clause-least
 returns-then-query-len-clause-least g c = c.answer.ensures.least c.requires.bounds

@@ -11,20 +11,20 @@ use Rattle.lw_match.proofs.hunting.hunted_by.Goals as goal
 pub returns : goal.returns
 returns g c =
     let q = c.args.query.now in
-    let costs = g.C.Cost.costs q.cost.now in
+    let costs = g.C.Cost.costs q.site.cost.now in
     let i = c.args.pat.0 in
     let target = c.args.target in
     let scope = scope_of target in
     let start = c.to_beat-best.result in
     let best = c.least_by.new.best in
     let searched = subst (λ (scope : Scope). SearchesBy g.C.Cost.costs q i scope start best) c.scope_of.ensures c.least_by.ensures in
-    let cuts = AreSureCuts (cuts_state q.cuts.now) q.graph.now costs q.pats.now q.marks.now i scope in
+    let cuts = AreSureCuts (cuts_state q.site.cuts.now) q.site.graph.now costs q.site.pats.now q.site.marks.now i scope in
     record {
-      sound = match_by cuts q.graph.now costs q.pats.now (marks_in q.marks.now) q.class.0 i target.bound start best c.within.result c.to_beat-best.ensures searched c.within.ensures;
-      none = λ whole bounds sure. none_by cuts q.graph.now costs q.pats.now (marks_in q.marks.now) q.class.0 i target.bound start best c.within.result searched c.within.ensures (λ b before. record {
+      sound = match_by cuts q.site.graph.now costs q.site.pats.now (marks_in q.site.marks.now) q.site.class.0 i target.bound start best c.within.result c.to_beat-best.ensures searched c.within.ensures;
+      none = λ whole bounds sure. none_by cuts q.site.graph.now costs q.site.pats.now (marks_in q.site.marks.now) q.site.class.0 i target.bound start best c.within.result searched c.within.ensures (λ b before. record {
         bounds = bounds;
         sure = sure;
         hunting = λ hunts. open_kept target.bound best (nothing_kept target.bound best c.within.result target.by_marks whole hunts c.within.ensures);
-        ahead = λ m. ahead_of cuts q.graph.now costs q.pats.now (marks_in q.marks.now) q.class.0 target.bound best c.within.result b c.within.ensures before;
+        ahead = λ m. ahead_of cuts q.site.graph.now costs q.site.pats.now (marks_in q.site.marks.now) q.site.class.0 target.bound best c.within.result b c.within.ensures before;
       });
     }

@@ -12,14 +12,14 @@ use Rattle.lw_match.proofs.sweeping.hunt_list.Goals as goal
 pub returns-then-is_bare-clause-none : goal.returns-then-is_bare-clause-none
 returns-then-is_bare-clause-none g c = λ e i within known in_list.
     let q = c.args.query.now in
-    let root = root_of i (root_side (cuts_state q.cuts.now) i) in
+    let root = root_of i (root_side (cuts_state q.site.cuts.now) i) in
     let here : IsRootOf q c.list_at-numbers.result.now root i = record {
       within = within;
       known = known;
       in_list = ap (list_at q.view) in_list ∙ sym c.list_at-numbers.ensures;
       is = refl;
     } in
-    far g.C.Cost.costs q _ (g.met.C.Cost.laws q.cost.now) (subst (λ n. AreInRange n q.marks.now) (sym (g.met.C.Cost.cap q.cost.now)) c.requires.query.in_range) c.requires.query c.list_at-numbers.result.now root i c.args.hunt.now.target here (c.is_bare.ensures c.if-is_bare.true root.place root.shift)
+    far g.C.Cost.costs q _ (g.met.C.Cost.laws q.site.cost.now) (subst (λ n. AreInRange n q.site.marks.now) (sym (g.met.C.Cost.cap q.site.cost.now)) c.requires.query.in_range) c.requires.query c.list_at-numbers.result.now root i c.args.hunt.now.target here (c.is_bare.ensures c.if-is_bare.true root.place root.shift)
 
 pub loop-number-init : goal.loop-number-init
 loop-number-init g c =

@@ -11,11 +11,11 @@ returns-clause-none g c = λ e i within.
     let first = c.hunt_list.new.hunt in
     let second = c.hunt_list-2.new.hunt in
     let third = c.hunt_list-3.new.hunt in
-    let known : i < length q.cuts.now.roots.now = omega arith in
+    let known : i < length q.site.cuts.now.roots.now = omega arith in
     let after = c.hunt_list-3.ensures.goes_on in
     let was = was_whole costs q second third after e in
     let between = c.hunt_list-2.ensures.goes_on in
-    by_lists (root_side (cuts_state q.cuts.now) i) (HasNoneIfSure costs q i third.target.bound third.target.top)
+    by_lists (root_side (cuts_state q.site.cuts.now) i) (HasNoneIfSure costs q i third.target.bound third.target.top)
     (λ is. none_still costs q first third i (hunts_on costs q first second third between after) e (c.hunt_list.ensures.none (was_whole costs q first second between was) i within known is))
     (λ is. none_still costs q second third i after e (c.hunt_list-2.ensures.none was i within known is))
     (λ is. c.hunt_list-3.ensures.none e i within known is)

@@ -12,4 +12,4 @@ returns-then-is_near-clause-none g c = λ e i here.
 pub returns-else-is_near-clause-none : goal.returns-else-is_near-clause-none
 returns-else-is_near-clause-none g c = λ e i here.
     let q = c.args.query.now in
-    far g.C.Cost.costs q _ (g.met.C.Cost.laws q.cost.now) (subst (λ n. AreInRange n q.marks.now) (sym (g.met.C.Cost.cap q.cost.now)) c.requires.in_range) c.requires c.args.numbers.now c.args.root i c.args.hunt.now.target here (c.is_near.ensures c.if-is_near.false)
+    far g.C.Cost.costs q _ (g.met.C.Cost.laws q.site.cost.now) (subst (λ n. AreInRange n q.site.marks.now) (sym (g.met.C.Cost.cap q.site.cost.now)) c.requires.in_range) c.requires c.args.numbers.now c.args.root i c.args.hunt.now.target here (c.is_near.ensures c.if-is_near.false)

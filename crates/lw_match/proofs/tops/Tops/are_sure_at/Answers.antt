@@ -8,9 +8,9 @@ use Rattle.lw_match.proofs.tops.Tops.are_sure_at.Goals as goal
 
 pub returns-clause-known : goal.returns-clause-known
 returns-clause-known g c =
-    let costs = g.C.Cost.costs c.args.query.now.cost.now in
-    let pats = c.args.query.now.pats.now in
-    let gaps = (cuts_state c.args.query.now.cuts.now).gaps in
+    let costs = g.C.Cost.costs c.args.query.now.site.cost.now in
+    let pats = c.args.query.now.site.pats.now in
+    let gaps = (cuts_state c.args.query.now.site.cuts.now).gaps in
     let known = subst (AreKnown costs pats gaps) (sym c.self.view_is) c.requires.known in
     record {
       up_to = known.up_to;
