@@ -1,5 +1,5 @@
 -- Where the answer to a mapping is a text it is that of a mapping, and where it names an output this has no cover.
-use Rattle.std.proofs.Common.{◌≡◌, inl, inr, ℕ, Bool, true, false, List, Option, Some, None, Result, Ok, Err, ap, sym, ◌∙◌, subst, if◌then◌else◌, arith}
+use Rattle.std.proofs.Common.{◌≡◌, inl, inr, ℕ, Bool, List, Option, Some, None, Result, Ok, Err, ap, sym, ◌∙◌, subst, arith}
 use Rattle.lw_io.specs.declared.file.File.{File}
 use Rattle.lw_io.specs.Files.{bytes_of}
 use Rattle.lw_blif.specs.declared.parsed.Parsed.{Parsed}
@@ -8,15 +8,13 @@ use Rattle.lw_map.specs.Options.{Options}
 use Rattle.lw_map.proofs.Mappings.{mapped_is_mapping}
 use Rattle.lw_map.proofs.Names.{mapped_has_names}
 use Rattle.lw_top.specs.declared.refusal.Refusal.{Refusal}
-use Rattle.lw_top.specs.declared.refusal.Refusal.TheVariants.{TooLong, NoCover}
-use Rattle.lw_top.specs.declared.refusal.Which.{Which}
-use Rattle.lw_top.specs.declared.refusal.Which.TheVariants as which
+use Rattle.lw_top.specs.declared.refusal.Refusal.TheVariants.{NoCover}
 use Rattle.lw_top.specs.declared.outcome.Outcome.{Outcome}
 use Rattle.lw_top.specs.declared.outcome.Outcome.TheVariants.{Done, WriteFault, Refused}
-use Rattle.lw_top.specs.Steps.{Files}
+use Rattle.lw_files.specs.Steps.{Files}
 use Rattle.lw_top.specs.Maps.{Maps}
 use Rattle.lw_top.specs.Words.{Command, mapping, trading, command_of}
-use Rattle.lw_top.specs.Answers.{within_limit, text_of, ReadsLibrary, ReadsModel, asked_for, IsCommandAnswer, IsAnswer}
+use Rattle.lw_top.specs.Answers.{ReadsLibrary, ReadsModel, asked_for, IsCommandAnswer, IsAnswer}
 use Rattle.lw_top.specs.Outcome.{IsDone, Meets, outcome_status}
 use Rattle.lw_top.specs.Telling.{outcome_line, refusal_line}
 use Rattle.lw_top.specs.Mappings.{AsksForMapping, AsksForTables, AreRead, IsMappingText, LacksOutput}
@@ -25,7 +23,8 @@ use Rattle.lw_top.specs.Trades.{Trades}
 use Rattle.lw_top.specs.Traded.{AsksForTrade, IsTrade, LacksTradedOutput}
 use Rattle.lw_top.proofs.Steps.{IsLast, last-ok, last-err}
 use Rattle.lw_top.proofs.InRange.{command_in_range}
-use Rattle.lw_top.proofs.Sound.{asked_some, cells_kept, model_kept}
+use Rattle.lw_files.proofs.Kept.{cells_kept, model_kept}
+use Rattle.lw_top.proofs.Sound.{asked_some}
 use Rattle.lw_top.proofs.Asked.{names_read}
 use Rattle.lw_top.proofs.TradedNames.{traded_named}
 
@@ -34,26 +33,8 @@ words-stand : (o : Option Command) (name : List ℕ) → ◌≡◌ {A = Result C
 words-stand None name e = cc
 words-stand (Some c) name e = cc
 
-limit-stands : (b : Bool) (w : Which) (bytes name : List ℕ) → (if b then Ok bytes else Err (TooLong w)) ≡ Err (NoCover name) → ⊥
-limit-stands true w bytes name e = cc
-limit-stands false w bytes name e = cc
-
-text-stands : (o : Option (List ℕ)) (w : Which) (name : List ℕ) → within_limit w o ≡ Err (NoCover name) → ⊥
-text-stands None w name e = cc
-text-stands (Some bytes) w name e = limit-stands _ w bytes name e
-
 cause : {A : Type 0} (e r : Refusal) → ◌≡◌ {A = Result A Refusal} (Err e) (Err r) → e ≡ r
 cause e r same = cc
-
-library-stands : (word : List ℕ) (files : Files) (name : List ℕ) → ReadsLibrary word files (Err (NoCover name)) → ⊥
-unfolding text_of
-library-stands word files name (inl (bytes, text, is)) = is
-library-stands word files name (inr (e, refused, is)) = text-stands (files word) which.Library name (refused ∙ ap (λ c. Err c) (cause e (NoCover name) is))
-
-network-stands : (word : List ℕ) (files : Files) (name : List ℕ) → ReadsModel word files (Err (NoCover name)) → ⊥
-unfolding text_of
-network-stands word files name (inl (bytes, text, is)) = is
-network-stands word files name (inr (e, refused, is)) = text-stands (files word) which.Network name (refused ∙ ap (λ c. Err c) (cause e (NoCover name) is))
 
 -- the command that was asked for, and what it comes to
 abbrev pub IsAsked : List (List ℕ) → Files → Result (List ℕ) Refusal → Type 0
@@ -114,7 +95,7 @@ module _ (words : List (List ℕ)) (files : Files) (options : Options) (certifie
   pub answer-lacks : (name : List ℕ) → IsAnswer words files (Err (NoCover name)) → LacksOutput words files name
   answer-lacks name answer =
       let (c, is, comes) = asked-lacks words files name answer in
-      lacks-output name (last-err (ReadsLibrary library) (ReadsModel network) (λ (cells : List CellParts) (model : Parsed). Maps options certified cells model) files (NoCover name) (library-stands library files name) (network-stands network files name) (subst (λ (d : Command). IsCommandAnswer d files (Err (NoCover name))) (own-command c is) comes))
+      lacks-output name (last-err (ReadsLibrary library) (ReadsModel network) (λ (cells : List CellParts) (model : Parsed). Maps options certified cells model) files (NoCover name) (λ no. no) (λ no. no) (subst (λ (d : Command). IsCommandAnswer d files (Err (NoCover name))) (own-command c is) comes))
 
 module _ (words : List (List ℕ)) (files : Files) (asks : AsksForTrade words) where
   abbrev own-trade : Command
@@ -147,7 +128,7 @@ module _ (words : List (List ℕ)) (files : Files) (asks : AsksForTrade words) w
   pub answer-untraded : (name : List ℕ) → IsAnswer words files (Err (NoCover name)) → LacksTradedOutput words files name
   answer-untraded name answer =
       let (c, is, comes) = asked-lacks words files name answer in
-      let m = last-err (ReadsLibrary asks.library) (ReadsModel asks.network) (λ (cells : List CellParts) (model : Parsed). Trades asks.deadline asks.options cells model) files (NoCover name) (library-stands asks.library files name) (network-stands asks.network files name) (subst (λ (d : Command). IsCommandAnswer d files (Err (NoCover name))) (trade-command c is) comes) in
+      let m = last-err (ReadsLibrary asks.library) (ReadsModel asks.network) (λ (cells : List CellParts) (model : Parsed). Trades asks.deadline asks.options cells model) files (NoCover name) (λ no. no) (λ no. no) (subst (λ (d : Command). IsCommandAnswer d files (Err (NoCover name))) (trade-command c is) comes) in
       record { asks = asks; cells = m.a; model = m.b; library = m.one; network = m.two; lacks = m.comes }
 
 module _ {O : Type 0} (words : List (List ℕ)) (told : Option (List File)) (before now : ℕ) (taken : O → Option (List ℕ)) (is_finished : O → Bool) (faults : O → ℕ) (old new : O) (said : List ℕ → Type 0) where
