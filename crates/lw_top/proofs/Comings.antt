@@ -1,5 +1,5 @@
 -- A file's bytes, and then a step that reads no file.
-use Rattle.std.proofs.Common.{◌≡◌, ◌≢◌, ℕ, ◌≤◌, List, Option, Ok, Err, Result}
+use Rattle.std.proofs.Common.{◌≢◌, ℕ, ◌≤◌, List, Option, Ok, Err, Result}
 use Rattle.std.specs.Prelude.{IfErr}
 use Rattle.lw_io.specs.declared.file.File.{File}
 use Rattle.lw_io.specs.Files.{bytes_of}

@@ -1,5 +1,5 @@
 -- A file that is read by its name, as a file of the command.
-use Rattle.std.proofs.Common.{◌≡◌, ◌≢◌, inl, inr, ℕ, List, Option, Ok, Err, Result, refl}
+use Rattle.std.proofs.Common.{◌≡◌, ◌≢◌, inl, inr, ℕ, List, Option, Ok, Err, refl}
 use Rattle.lw_io.specs.declared.file.File.{File}
 use Rattle.lw_files.specs.declared.fault.FileFault.{FileFault}
 use Rattle.lw_files.specs.declared.fault.FileFault.TheVariants as fault
