@@ -9,19 +9,18 @@ use Rattle.lw_mapped.specs.Readable.{read_of}
 use Rattle.lw_mapped.specs.Texts.{mapped_text}
 use Rattle.lw_mapped.proofs.ReadBack.{reads-back}
 use Rattle.lw_map.specs.Options.{Options, IsWide}
-use Rattle.lw_top.specs.declared.refusal.Refusal.TheVariants.{TooLong}
-use Rattle.lw_top.specs.declared.refusal.Which.{Which}
-use Rattle.lw_top.specs.declared.refusal.Which.TheVariants as which
-use Rattle.lw_top.specs.Steps.{Files}
+use Rattle.lw_files.specs.declared.fault.FileFault.TheVariants.{TooLong}
+use Rattle.lw_files.specs.Steps.{Files}
 use Rattle.lw_top.specs.Words.{mapping, checking}
 use Rattle.lw_top.specs.Maps.{IsAskedFor, IsMappedText, Maps}
 use Rattle.lw_top.specs.Checks.{yes_text}
-use Rattle.lw_top.specs.Answers.{within_limit, text_of, ReadsLibrary, ReadsModel, asked_for, IsCheckAnswer, IsAnswer}
+use Rattle.lw_files.specs.Sources.{within_limit, text_of}
+use Rattle.lw_top.specs.Answers.{ReadsLibrary, ReadsModel, asked_for, IsCheckAnswer, IsAnswer}
 use Rattle.lw_answers.specs.Checked.{AreApart, IsCheckOf}
 use Rattle.lw_top.proofs.InRange.{command_in_range}
-use Rattle.lw_top.proofs.SignalNames.{IsNamed}
+use Rattle.lw_files.proofs.SignalNames.{IsNamed}
 use Rattle.lw_top.proofs.Asked.{asked_text, names_read}
-use Rattle.lw_top.proofs.Sound.{AreKept, cells_kept, model_kept}
+use Rattle.lw_files.proofs.Kept.{AreKept, cells_kept, model_kept}
 use Rattle.lw_top.proofs.Steps.{last-ok}
 use Rattle.lw_mapped.specs.Alike.{AreSameMapped}
 use Rattle.lw_answers.proofs.MappedChecks.{readable, accepted_text}
@@ -30,19 +29,19 @@ use Rattle.lw_answers.proofs.MappedChecks.{readable, accepted_text}
 
 pub library_again : (name other : List ℕ) (files others : Files) (cells : List CellParts) → others other ≡ files name → ReadsLibrary name files (Ok cells) → ReadsLibrary other others (Ok cells)
 unfolding text_of
-library_again name other files others cells same (inl (bytes, text, has)) = inl (bytes, ap (within_limit which.Library) same ∙ text, has)
+library_again name other files others cells same (inl (bytes, text, has)) = inl (bytes, ap within_limit same ∙ text, has)
 library_again name other files others cells same (inr (e, refused, is)) = cc
 
 network_again : (name other : List ℕ) (files others : Files) (model : Parsed) → others other ≡ files name → ReadsModel name files (Ok model) → ReadsModel other others (Ok model)
 unfolding text_of
-network_again name other files others model same (inl (bytes, text, has)) = inl (bytes, ap (within_limit which.Network) same ∙ text, has)
+network_again name other files others model same (inl (bytes, text, has)) = inl (bytes, ap within_limit same ∙ text, has)
 network_again name other files others model same (inr (e, refused, is)) = cc
 
-pub text_there : (w : Which) (name text : List ℕ) (files : Files) → files name ≡ Some text → length text ≤ 67108864 → text_of w name files ≡ Ok text
+pub text_there : (name text : List ℕ) (files : Files) → files name ≡ Some text → length text ≤ 67108864 → text_of name files ≡ Ok text
 unfolding text_of
-text_there w name text files there few =
+text_there name text files there few =
     let short : nat_le (length text) 67108864 ≡ true = grind (arith, nat_tests) in
-    ap (within_limit w) there ∙ ap (λ b. cond b (Ok text) (Err (TooLong w))) short
+    ap within_limit there ∙ ap (λ b. cond b (Ok text) (Err TooLong)) short
 
 module _ (options : Options) (cells : List CellParts) (model : Parsed) (wide : IsWide options) (kept : AreKept model) (named : IsNamed model) (lib : IsLibrary cells) (apart : AreApart cells) (text : List ℕ) (is : IsMappedText options true cells model text) where
   check_accepts : (library network mapped : List ℕ) (files : Files) → ReadsLibrary library files (Ok cells) → ReadsModel network files (Ok model) → files mapped ≡ Some text → length text ≤ 67108864 → IsCheckAnswer options library network mapped files (Ok yes_text)
@@ -56,7 +55,7 @@ module _ (options : Options) (cells : List CellParts) (model : Parsed) (wide : I
           let same : AreSameMapped whole whole = record { netlist = refl; frame = refl; starts = refl; certificates = record { labels = λ class. refl; nets = refl } } in
           let can_be_read = readable options cells model wide kept lib is.within is.netlist is.is_mapped named certificate asked apart in
           let read = reads-back cells is.netlist model.frame model.starts (Some certificate) can_be_read whole same in
-          let text_read = text_there which.Mapped mapped own files (there ∙ ap Some written) (subst (λ t. length t ≤ 67108864) written few) in
+          let text_read = text_there mapped own files (there ∙ ap Some written) (subst (λ t. length t ≤ 67108864) written few) in
           let yes = accepted_text options cells model wide kept lib is.within is.netlist is.is_mapped named certificate asked in
           inl (cells, reads_library, inl (model, reads_model, inl (whole, inl (own, text_read, read), (refl, yes))))
 

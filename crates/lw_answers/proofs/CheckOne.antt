@@ -23,7 +23,7 @@ use Rattle.lw_map.specs.Options.{Options, IsWide}
 use Rattle.lw_map.specs.Mapped.{base_count, IsWithinLimits}
 use Rattle.lw_top.specs.declared.refusal.Refusal.{Refusal}
 use Rattle.lw_top.specs.declared.refusal.Refusal.TheVariants.{Forms, Splits, No}
-use Rattle.lw_top.specs.Steps.{Files}
+use Rattle.lw_files.specs.Steps.{Files}
 use Rattle.lw_top.specs.Maps.{LacksGraph}
 use Rattle.lw_top.specs.Checks.{HasVerdict, Checks}
 use Rattle.lw_top.specs.Answers.{AreAlike}

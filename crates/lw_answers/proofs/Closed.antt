@@ -17,10 +17,10 @@ use Rattle.lw_pool.specs.declared.latch.Frame.{Frame}
 use Rattle.lw_words.specs.Lines.{LogicalLine}
 use Rattle.lw_blif.specs.declared.parsed.Parsed.{Parsed}
 use Rattle.lw_blif.specs.BlifNetworks.{IsModelOf, ComesTo}
-use Rattle.lw_top.specs.declared.refusal.Refusal.{Refusal}
-use Rattle.lw_top.specs.declared.refusal.Refusal.TheVariants.{Network, Undefined, Cycle}
-use Rattle.lw_top.specs.Steps.{Files}
-use Rattle.lw_top.specs.Answers.{lines_in, HasModel}
+use Rattle.lw_files.specs.declared.fault.FileFault.{FileFault}
+use Rattle.lw_files.specs.declared.fault.FileFault.TheVariants.{Network, Undefined, Cycle}
+use Rattle.lw_files.specs.Steps.{Files}
+use Rattle.lw_files.specs.Sources.{lines_in, HasModel}
 use Rattle.lw_dag.proofs.Numbering.{among_contains}
 
 -- Names that are driven
@@ -136,7 +136,7 @@ model_one lines model other c d =
     ∙ ap (λ (s : List Micro). parsed_of other.network other.frame s) (c.starts ∙ sym d.starts)
 
 -- the first line that breaks a rule, or what the lines are closed to
-abbrev Closes : Option FaultAt → List LogicalLine → Result Parsed Refusal → Type 0
+abbrev Closes : Option FaultAt → List LogicalLine → Result Parsed FileFault → Type 0
 Closes first lines (Ok model) = ComesTo first lines (Ok model)
 Closes first lines (Err (Network line kind)) = ComesTo first lines (Err (fault.Line line kind))
 Closes first lines (Err (Undefined name)) = ComesTo first lines (Err (fault.Whole (whole.Undefined name)))
@@ -144,42 +144,42 @@ Closes first lines (Err (Cycle name)) = ComesTo first lines (Err (fault.Whole (w
 Closes first lines (Err other) = ⊥
 
 module _ (lines : List LogicalLine) where
-  net_one : (model : Parsed) (a : Result Parsed Refusal) → IsModelOf lines model → Closes None lines a → Ok model ≡ a
+  net_one : (model : Parsed) (a : Result Parsed FileFault) → IsModelOf lines model → Closes None lines a → Ok model ≡ a
   net_one model (Ok other) c d = ap (λ n. Ok n) (model_one lines model other c d)
   net_one model (Err (Undefined name)) c d = let is : None ≡ Some name = sym c.network.defined ∙ d in cc
   net_one model (Err (Cycle name)) c d = absurd (c.network.no_cycle name d.1.cycle)
   net_one model (Err other) c d = absurd d
 
-  undefined_one : (name : List ℕ) (a : Result Parsed Refusal) → first_undefined (draft_of lines) ≡ Some name → Closes None lines a → Err (Undefined name) ≡ a
+  undefined_one : (name : List ℕ) (a : Result Parsed FileFault) → first_undefined (draft_of lines) ≡ Some name → Closes None lines a → Err (Undefined name) ≡ a
   undefined_one name (Ok model) c d = let is : None ≡ Some name = sym d.network.defined ∙ c in cc
   undefined_one name (Err (Undefined other)) c d = let is : Some name ≡ Some other = sym c ∙ d in cc
   undefined_one name (Err (Cycle other)) c d = let is : None ≡ Some name = sym d.0 ∙ c in cc
   undefined_one name (Err other) c d = absurd d
 
-  cycle_one : (name : List ℕ) (a : Result Parsed Refusal) → first_undefined (draft_of lines) ≡ None → IsFirstOnCycle (draft_of lines).nodes name → Closes None lines a → Err (Cycle name) ≡ a
+  cycle_one : (name : List ℕ) (a : Result Parsed FileFault) → first_undefined (draft_of lines) ≡ None → IsFirstOnCycle (draft_of lines).nodes name → Closes None lines a → Err (Cycle name) ≡ a
   cycle_one name (Ok model) none c d = absurd (d.network.no_cycle name c.cycle)
   cycle_one name (Err (Undefined other)) none c d = let is : None ≡ Some other = sym none ∙ d in cc
   cycle_one name (Err (Cycle other)) none c d = ap (λ n. Err (Cycle n)) (first_one (draft_of lines).nodes name other c d.1)
   cycle_one name (Err other) none c d = absurd d
 
-  closes_one : (a b : Result Parsed Refusal) → Closes None lines a → Closes None lines b → a ≡ b
+  closes_one : (a b : Result Parsed FileFault) → Closes None lines a → Closes None lines b → a ≡ b
   closes_one (Ok model) b c d = net_one model b c d
   closes_one (Err (Undefined name)) b c d = undefined_one name b c d
   closes_one (Err (Cycle name)) b c d = cycle_one name b c.0 c.1 d
   closes_one (Err other) b c d = absurd c
 
-  line_one : (first : FaultAt) (a b : Result Parsed Refusal) → Closes (Some first) lines a → Closes (Some first) lines b → a ≡ b
+  line_one : (first : FaultAt) (a b : Result Parsed FileFault) → Closes (Some first) lines a → Closes (Some first) lines b → a ≡ b
   line_one first (Err (Network line kind)) (Err (Network l k)) c d = ap (λ (f : FaultAt). Err (Network f.number f.kind)) (sym c ∙ d)
   line_one first (Err (Network line kind)) (Ok model) c d = absurd d
   line_one first (Err (Network line kind)) (Err other) c d = absurd d
   line_one first (Ok model) b c d = absurd c
   line_one first (Err other) b c d = absurd c
 
-  comes_one : (first : Option FaultAt) (a b : Result Parsed Refusal) → Closes first lines a → Closes first lines b → a ≡ b
+  comes_one : (first : Option FaultAt) (a b : Result Parsed FileFault) → Closes first lines a → Closes first lines b → a ≡ b
   comes_one None a b c d = closes_one a b c d
   comes_one (Some first) a b c d = line_one first a b c d
 
-closes : (bytes : List ℕ) (files : Files) (a : Result Parsed Refusal) → HasModel bytes files a → Closes (first_fault [] (lines_read (lines_in bytes))) (lines_read (lines_in bytes)) a
+closes : (bytes : List ℕ) (files : Files) (a : Result Parsed FileFault) → HasModel bytes files a → Closes (first_fault [] (lines_read (lines_in bytes))) (lines_read (lines_in bytes)) a
 closes bytes files (Ok model) c = c
 closes bytes files (Err (Network line kind)) c = c
 closes bytes files (Err (Undefined name)) c = c
@@ -187,6 +187,6 @@ closes bytes files (Err (Cycle name)) c = c
 closes bytes files (Err other) c = absurd c
 
 -- the model of a text is one, and so is its fault
-pub has_one_model : (bytes : List ℕ) (files : Files) (a b : Result Parsed Refusal) → HasModel bytes files a → HasModel bytes files b → a ≡ b
+pub has_one_model : (bytes : List ℕ) (files : Files) (a b : Result Parsed FileFault) → HasModel bytes files a → HasModel bytes files b → a ≡ b
 has_one_model bytes files a b c d =
     comes_one (lines_read (lines_in bytes)) (first_fault [] (lines_read (lines_in bytes))) a b (closes bytes files a c) (closes bytes files b d)

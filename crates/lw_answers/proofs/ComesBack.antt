@@ -6,15 +6,14 @@ use Rattle.lw_mapped.specs.Readable.{IsNamed}
 use Rattle.lw_mapped.proofs.SaidNames.{read-named}
 use Rattle.lw_verilog.specs.Texts.{verilog_text}
 use Rattle.lw_verilog.proofs.ReadBack.{outputs_few, reads_back}
-use Rattle.lw_top.specs.declared.refusal.Which.TheVariants as which
-use Rattle.lw_top.specs.Steps.{Files}
+use Rattle.lw_files.specs.Steps.{Files}
 use Rattle.lw_top.specs.Words.{to_verilog, from_verilog}
 use Rattle.lw_top.specs.Answers.{ReadsLibrary, ReadsMapped, IsToVerilogAnswer, asked_for, IsAnswer}
 use Rattle.lw_top.specs.Verilogs.{SaysVerilog}
 use Rattle.lw_answers.specs.Backs.{IsBackOf, ComesBack}
 use Rattle.lw_answers.proofs.Accepted.{library_again, text_there}
 use Rattle.lw_top.proofs.Asked.{asked_text}
-use Rattle.lw_top.proofs.Sound.{cells_kept, mapped_kept}
+use Rattle.lw_files.proofs.Kept.{cells_kept, mapped_kept}
 use Rattle.lw_answers.proofs.Writable.{writable}
 
 -- the cells, the netlist and the text
@@ -44,7 +43,7 @@ comes_back words backs files others text b answer =
     let outputs = outputs_few s.cells s.netlist.netlist in
     let few : length s.netlist.netlist.outputs < 2 ^ 62 = omega arith in
     let can = writable s.cells s.netlist.netlist s.netlist.frame lib kept.netlist kept.over (names_of_read b.mapped s.cells files s.netlist s.mapped_read) few s.says.0 in
-    let text_read = text_there which.Mapped b.verilog own others (b.written ∙ ap Some s.says.1) short in
+    let text_read = text_there b.verilog own others (b.written ∙ ap Some s.says.1) short in
     let library = library_again b.library b.other_library files others s.cells b.same_library s.library_read in
     record {
       library = b.library;

@@ -27,7 +27,7 @@ use Rattle.lw_map.specs.Options.{IsWide}
 use Rattle.lw_map.specs.Mapped.{IsMappedNetlist}
 use Rattle.lw_map.proofs.Once.{mapped_once}
 use Rattle.lw_top.specs.declared.refusal.Refusal.{Refusal}
-use Rattle.lw_top.specs.Steps.{Files}
+use Rattle.lw_files.specs.Steps.{Files}
 use Rattle.lw_top.specs.Words.{IsCount}
 use Rattle.lw_top.specs.Maps.{LacksMapping}
 use Rattle.lw_top.specs.Counts.{drawing_options, at_once, sizes_text, IsSizeText, Draws}

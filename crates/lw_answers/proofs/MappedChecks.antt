@@ -61,8 +61,8 @@ use Rattle.lw_top.specs.Checks.{HasVerdict}
 use Rattle.lw_answers.specs.Checked.{AreApart}
 use Rattle.lw_answers.proofs.FormGraphs.{form_graph}
 use Rattle.lw_answers.proofs.NetNames.{nets-named}
-use Rattle.lw_top.proofs.SignalNames.{IsNamed}
-use Rattle.lw_top.proofs.Sound.{AreKept}
+use Rattle.lw_files.proofs.SignalNames.{IsNamed}
+use Rattle.lw_files.proofs.Kept.{AreKept}
 use Rattle.lw_words.specs.Words.{IsSignalName}
 use Rattle.lw_pool.specs.Numbers.{numbers, net_number}
 use Rattle.lw_net.specs.Ports.{output_port, ports_of}

@@ -1,5 +1,5 @@
 -- Words over known files come to one answer.
-use Rattle.std.proofs.Common.{◌≡◌, inl, inr, ℕ, Bool, List, Option, Some, None, Result, Ok, Err, refl, ap, sym, subst, ◌∙◌}
+use Rattle.std.proofs.Common.{◌≡◌, inl, inr, ℕ, Bool, List, Option, Some, None, Result, Ok, Err, refl, ap, ap₂, sym, subst, ◌∙◌}
 use Rattle.lw_fixed.specs.declared.micro.Micro.{Micro}
 use Rattle.lw_genlib.specs.declared.fault.LibFault.TheVariants as lib_fault
 use Rattle.lw_genlib.specs.declared.fault.LibFault.{LibFault}
@@ -19,10 +19,15 @@ use Rattle.lw_mapped.proofs.Once.{comes-once}
 use Rattle.lw_report.proofs.Once.{report_once, network_simulation_once, netlist_simulation_once}
 use Rattle.lw_report.specs.Timings.{IsTimingText}
 use Rattle.lw_map.specs.Options.{Options, IsWide}
+use Rattle.lw_files.specs.declared.fault.FileFault.{FileFault}
+use Rattle.lw_files.specs.declared.fault.FileFault.TheVariants.{Library, Mapped, Twice, Undriven, NetCycle}
+use Rattle.lw_files.specs.Sources as file
 use Rattle.lw_top.specs.declared.refusal.Refusal.{Refusal}
-use Rattle.lw_top.specs.declared.refusal.Refusal.TheVariants.{Library, Mapped, Twice, Undriven, NetCycle, Vector}
+use Rattle.lw_top.specs.declared.refusal.Refusal.TheVariants.{Faulty, Vector}
+use Rattle.lw_top.specs.declared.refusal.Which.{Which}
 use Rattle.lw_top.specs.declared.refusal.Which.TheVariants as which
-use Rattle.lw_top.specs.Steps.{Files, Step, gives, followed_by}
+use Rattle.lw_files.specs.Steps.{Files, StepTo, gives, followed_by}
+use Rattle.lw_top.specs.Steps.{Step}
 use Rattle.lw_top.specs.Maps.{Maps}
 use Rattle.lw_top.specs.Checks.{Checks}
 use Rattle.lw_top.specs.Reports.{Times, Simulates, SimulatesNetlist}
@@ -31,11 +36,13 @@ use Rattle.lw_top.specs.Tables.{Tabulates}
 use Rattle.lw_top.specs.Trades.{Trades}
 use Rattle.lw_top.specs.Traded.{AsksForTrade}
 use Rattle.lw_top.specs.Words.{Command, mapping, checking, timing, simulation, gate_simulation, counting, tabling, drawing, to_verilog, from_verilog, trading, command_of, IsInRange, IsCount}
-use Rattle.lw_top.specs.Answers.{text_of, marked_lines_in, HasCells, HasModel, HasMapped, HasVerilog, HasVectors, ReadsLibrary, ReadsModel, ReadsMapped, ReadsVerilog, ReadsVectors, IsMappingAnswer, IsCheckAnswer, IsTimingAnswer, IsSimulationAnswer, IsGateSimulationAnswer, IsCountAnswer, IsTablingAnswer, IsDrawingAnswer, IsToVerilogAnswer, IsFromVerilogAnswer, IsTradingAnswer, IsCommandAnswer, asked_for, IsAnswer, AreAlike}
+use Rattle.lw_files.specs.Sources.{FileStep, text_of, marked_lines_in, HasCells, HasModel, HasMapped}
+use Rattle.lw_top.specs.Answers.{in_file, text_in, HasVerilog, HasVectors, ReadsLibrary, ReadsModel, ReadsMapped, ReadsVerilog, ReadsVectors, IsMappingAnswer, IsCheckAnswer, IsTimingAnswer, IsSimulationAnswer, IsGateSimulationAnswer, IsCountAnswer, IsTablingAnswer, IsDrawingAnswer, IsToVerilogAnswer, IsFromVerilogAnswer, IsTradingAnswer, IsCommandAnswer, asked_for, IsAnswer, AreAlike}
 use Rattle.lw_top.specs.Mappings.{AsksForTables}
 use Rattle.lw_answers.proofs.Closed.{has_one_model}
 use Rattle.lw_top.proofs.InRange.{command_in_range}
-use Rattle.lw_top.proofs.Sound.{asked_some, cells_kept, AreKept, model_kept, IsReadBy, mapped_kept, claim_kept}
+use Rattle.lw_files.proofs.Kept.{cells_kept, AreKept, model_kept, IsReadBy, mapped_kept}
+use Rattle.lw_top.proofs.Sound.{asked_some, claim_kept}
 use Rattle.lw_top.proofs.MapAnswers.{maps_one}
 use Rattle.lw_answers.proofs.CheckOne.{checks_one, counts_one, tables_alike}
 use Rattle.lw_answers.proofs.DrawOne.{draws_one}
@@ -47,75 +54,108 @@ abbrev Any : {A : Type 0} → A → Type 0
 Any x = Unit {0}
 
 -- the step comes to one thing
-abbrev pub IsOne : {A : Type 0} → Step A → Type 0
-IsOne {A} step = (files : Files) (a b : Result A Refusal) → step files a → step files b → a ≡ b
+abbrev pub IsOne : {E A : Type 0} → StepTo E A → Type 0
+IsOne {E} {A} step = (files : Files) (a b : Result A E) → step files a → step files b → a ≡ b
 
-gives_one : {A : Type 0} (f : Files → Result A Refusal) → IsOne (gives f)
+gives_one : {E A : Type 0} (f : Files → Result A E) → IsOne (gives f)
 gives_one f = λ files a b p q. sym p ∙ q
 
 -- what the step comes to is related
-abbrev IsBy : {A : Type 0} → (Result A Refusal → Result A Refusal → Type 0) → Step A → Type 0
-IsBy {A} R step = (files : Files) (a b : Result A Refusal) → step files a → step files b → R a b
+abbrev IsBy : {E A : Type 0} → (Result A E → Result A E → Type 0) → StepTo E A → Type 0
+IsBy {E} {A} R step = (files : Files) (a b : Result A E) → step files a → step files b → R a b
 
 -- where the first step hands on what a fact holds of
-followed_so : {A B : Type 0} (R : Result B Refusal → Result B Refusal → Type 0) (P : A → Type 0) (first : Step A) (next : A → Step B) → ((e : Refusal) → R (Err e) (Err e)) → IsOne first → ((files : Files) (x : A) → first files (Ok x) → P x) → ((x : A) → P x → IsBy R (next x)) → IsBy R (followed_by first next)
-followed_so {A = A} {B = B} R P first next same_refusal one holds each = λ files a b p q. both files a b p q
+followed_so : {E A B : Type 0} (R : Result B E → Result B E → Type 0) (P : A → Type 0) (first : StepTo E A) (next : A → StepTo E B) → ((e : E) → R (Err e) (Err e)) → IsOne first → ((files : Files) (x : A) → first files (Ok x) → P x) → ((x : A) → P x → IsBy R (next x)) → IsBy R (followed_by first next)
+followed_so {E = E} {A = A} {B = B} R P first next same_refusal one holds each = λ files a b p q. both files a b p q
   where
-    both : (files : Files) (a b : Result B Refusal) → followed_by first next files a → followed_by first next files b → R a b
+    both : (files : Files) (a b : Result B E) → followed_by first next files a → followed_by first next files b → R a b
     both files a b (inl (x, f, n)) (inl (y, g, m)) =
-        let is : ◌≡◌ {A = Result A Refusal} (Ok x) (Ok y) = one files (Ok x) (Ok y) f g in
+        let is : ◌≡◌ {A = Result A E} (Ok x) (Ok y) = one files (Ok x) (Ok y) f g in
         let same : x ≡ y = cc in
         each y (holds files y g) files a b (subst (λ z. next z files a) same n) m
     both files a b (inl (x, f, n)) (inr (e, g, r)) =
-        let is : ◌≡◌ {A = Result A Refusal} (Ok x) (Err e) = one files (Ok x) (Err e) f g in
+        let is : ◌≡◌ {A = Result A E} (Ok x) (Err e) = one files (Ok x) (Err e) f g in
         cc
     both files a b (inr (e, f, r)) (inl (y, g, m)) =
-        let is : ◌≡◌ {A = Result A Refusal} (Err e) (Ok y) = one files (Err e) (Ok y) f g in
+        let is : ◌≡◌ {A = Result A E} (Err e) (Ok y) = one files (Err e) (Ok y) f g in
         cc
     both files a b (inr (e, f, r)) (inr (h, g, s)) =
-        let is : ◌≡◌ {A = Result A Refusal} (Err e) (Err h) = one files (Err e) (Err h) f g in
+        let is : ◌≡◌ {A = Result A E} (Err e) (Err h) = one files (Err e) (Err h) f g in
         let same : e ≡ h = cc in
         let left : a ≡ Err h = cc in
         let right : b ≡ Err h = cc in
         subst (λ z. R z b) (sym left) (subst (λ z. R (Err h) z) (sym right) (same_refusal h))
 
-followed_one : {A B : Type 0} (P : A → Type 0) (first : Step A) (next : A → Step B) → IsOne first → ((files : Files) (x : A) → first files (Ok x) → P x) → ((x : A) → P x → IsOne (next x)) → IsOne (followed_by first next)
+followed_one : {E A B : Type 0} (P : A → Type 0) (first : StepTo E A) (next : A → StepTo E B) → IsOne first → ((files : Files) (x : A) → first files (Ok x) → P x) → ((x : A) → P x → IsOne (next x)) → IsOne (followed_by first next)
 followed_one P first next one holds each = followed_so (λ a b. a ≡ b) P first next (λ e. refl) one holds each
 
 -- the step comes to things that are alike
-abbrev IsAlike : {A : Type 0} → (A → A → Type 0) → Step A → Type 0
-IsAlike {A} Alike step = (files : Files) (a b : Result A Refusal) → step files a → step files b → AreAlike Alike a b
+abbrev IsAlike : {E A : Type 0} → (A → A → Type 0) → StepTo E A → Type 0
+IsAlike {E} {A} Alike step = (files : Files) (a b : Result A E) → step files a → step files b → AreAlike Alike a b
 
 -- Where the first step hands on one of several values that are alike, and what comes next is the same for each.
-followed_alike : {A B : Type 0} (Alike : A → A → Type 0) (P : A → Type 0) (first : Step A) (next : A → Step B) → IsAlike Alike first → ((files : Files) (x : A) → first files (Ok x) → P x) → ((x y : A) → Alike x y → P x → P y → (files : Files) (a b : Result B Refusal) → next x files a → next y files b → a ≡ b) → IsOne (followed_by first next)
-followed_alike {A = A} {B = B} Alike P first next alike holds each = λ files a b p q. both files a b p q
+followed_alike : {E A B : Type 0} (Alike : A → A → Type 0) (P : A → Type 0) (first : StepTo E A) (next : A → StepTo E B) → IsAlike Alike first → ((files : Files) (x : A) → first files (Ok x) → P x) → ((x y : A) → Alike x y → P x → P y → (files : Files) (a b : Result B E) → next x files a → next y files b → a ≡ b) → IsOne (followed_by first next)
+followed_alike {E = E} {A = A} {B = B} Alike P first next alike holds each = λ files a b p q. both files a b p q
   where
-    both : (files : Files) (a b : Result B Refusal) → followed_by first next files a → followed_by first next files b → a ≡ b
+    both : (files : Files) (a b : Result B E) → followed_by first next files a → followed_by first next files b → a ≡ b
     both files a b (inl (x, f, n)) (inl (y, g, m)) = each x y (alike files (Ok x) (Ok y) f g) (holds files x f) (holds files y g) files a b n m
     both files a b (inl (x, f, n)) (inr (e, g, r)) = absurd (alike files (Ok x) (Err e) f g)
     both files a b (inr (e, f, r)) (inl (y, g, m)) = absurd (alike files (Err e) (Ok y) f g)
     both files a b (inr (e, f, r)) (inr (h, g, s)) = let same : e ≡ h = alike files (Err e) (Err h) f g in cc
 
 -- a file's text, and then things that are alike
-text_alike : {A : Type 0} (Alike : A → A → Type 0) (f : Files → Result (List ℕ) Refusal) (next : List ℕ → Step A) → ((bytes : List ℕ) → IsAlike Alike (next bytes)) → IsAlike Alike (followed_by (gives f) next)
-text_alike {A = A} Alike f next each = λ files a b p q. both files a b p q
+text_alike : {E A : Type 0} (Alike : A → A → Type 0) (f : Files → Result (List ℕ) E) (next : List ℕ → StepTo E A) → ((bytes : List ℕ) → IsAlike Alike (next bytes)) → IsAlike Alike (followed_by (gives f) next)
+text_alike {E = E} {A = A} Alike f next each = λ files a b p q. both files a b p q
   where
-    both : (files : Files) (a b : Result A Refusal) → followed_by (gives f) next files a → followed_by (gives f) next files b → AreAlike Alike a b
+    both : (files : Files) (a b : Result A E) → followed_by (gives f) next files a → followed_by (gives f) next files b → AreAlike Alike a b
     both files a b (inl (x, e, n)) (inl (y, g, m)) =
-        let is : ◌≡◌ {A = Result (List ℕ) Refusal} (Ok x) (Ok y) = sym e ∙ g in
+        let is : ◌≡◌ {A = Result (List ℕ) E} (Ok x) (Ok y) = sym e ∙ g in
         let same : x ≡ y = cc in
         each y files a b (subst (λ z. next z files a) same n) m
-    both files a b (inl (x, e, n)) (inr (h, g, r)) = let is : ◌≡◌ {A = Result (List ℕ) Refusal} (Ok x) (Err h) = sym e ∙ g in cc
-    both files a b (inr (h, e, r)) (inl (y, g, m)) = let is : ◌≡◌ {A = Result (List ℕ) Refusal} (Err h) (Ok y) = sym e ∙ g in cc
+    both files a b (inl (x, e, n)) (inr (h, g, r)) = let is : ◌≡◌ {A = Result (List ℕ) E} (Ok x) (Err h) = sym e ∙ g in cc
+    both files a b (inr (h, e, r)) (inl (y, g, m)) = let is : ◌≡◌ {A = Result (List ℕ) E} (Err h) (Ok y) = sym e ∙ g in cc
     both files a b (inr (h, e, r)) (inr (k, g, s)) =
-        let is : ◌≡◌ {A = Result (List ℕ) Refusal} (Err h) (Err k) = sym e ∙ g in
+        let is : ◌≡◌ {A = Result (List ℕ) E} (Err h) (Err k) = sym e ∙ g in
         let same : h ≡ k = cc in
-        subst (λ (x : Result A Refusal). AreAlike Alike x b) r (subst (λ (y : Result A Refusal). AreAlike Alike (Err h) y) s same)
+        subst (λ (x : Result A E). AreAlike Alike x b) r (subst (λ (y : Result A E). AreAlike Alike (Err h) y) s same)
+
+-- A file that comes to one thing does so by its name.
+module _ {A : Type 0} (w : Which) (step : FileStep A) where
+  in_file_one : IsOne step → IsOne (in_file w step)
+  in_file_one one = both
+    where
+      both : (files : Files) (a b : Result A Refusal) → in_file w step files a → in_file w step files b → a ≡ b
+      both files (Ok x) (Ok y) p q = let is : ◌≡◌ {A = Result A FileFault} (Ok x) (Ok y) = one files (Ok x) (Ok y) p q in cc
+      both files (Ok x) (Err (Faulty v f)) p q = let is : ◌≡◌ {A = Result A FileFault} (Ok x) (Err f) = one files (Ok x) (Err f) p q.1 in cc
+      both files (Ok x) (Err other) p q = absurd q
+      both files (Err (Faulty v f)) (Ok y) p q = let is : ◌≡◌ {A = Result A FileFault} (Err f) (Ok y) = one files (Err f) (Ok y) p.1 q in cc
+      both files (Err (Faulty v f)) (Err (Faulty u h)) p q =
+          let is : ◌≡◌ {A = Result A FileFault} (Err f) (Err h) = one files (Err f) (Err h) p.1 q.1 in
+          let same : f ≡ h = cc in
+          ap₂ (λ (x : Which) (y : FileFault). Err (Faulty x y)) (p.0 ∙ sym q.0) same
+      both files (Err (Faulty v f)) (Err other) p q = absurd q
+      both files (Err other) b p q = absurd p
+
+  in_file_alike : (Alike : A → A → Type 0) → IsAlike Alike step → IsAlike Alike (in_file w step)
+  in_file_alike Alike alike = both
+    where
+      both : (files : Files) (a b : Result A Refusal) → in_file w step files a → in_file w step files b → AreAlike Alike a b
+      both files (Ok x) (Ok y) p q = alike files (Ok x) (Ok y) p q
+      both files (Ok x) (Err (Faulty v f)) p q = absurd (alike files (Ok x) (Err f) p q.1)
+      both files (Ok x) (Err other) p q = absurd q
+      both files (Err (Faulty v f)) (Ok y) p q = absurd (alike files (Err f) (Ok y) p.1 q)
+      both files (Err (Faulty v f)) (Err (Faulty u h)) p q = ap₂ (λ (x : Which) (y : FileFault). Faulty x y) (p.0 ∙ sym q.0) (alike files (Err f) (Err h) p.1 q.1)
+      both files (Err (Faulty v f)) (Err other) p q = absurd q
+      both files (Err other) b p q = absurd p
+
+-- a file has one text
+text_one : (w : Which) (name : List ℕ) → IsOne (text_in w name)
+text_one w name = in_file_one w (gives (text_of name)) (gives_one (text_of name))
 
 cells_one : (bytes : List ℕ) → IsOne (HasCells bytes)
 cells_one bytes = both
   where
-    both : (files : Files) (a b : Result (List CellParts) Refusal) → HasCells bytes files a → HasCells bytes files b → a ≡ b
+    both : (files : Files) (a b : Result (List CellParts) FileFault) → HasCells bytes files a → HasCells bytes files b → a ≡ b
     both files (Ok x) (Ok y) p q = (let is : ◌≡◌ {A = Result (List CellParts) LibFault} (Ok x) (Ok y) = sym p ∙ q in cc)
     both files (Ok x) (Err (Library line kind)) p q = let is : ◌≡◌ {A = Result (List CellParts) LibFault} (Ok x) (Err (lib_fault.Line line kind)) = sym p ∙ q in cc
     both files (Ok x) (Err other) p q = absurd q
@@ -126,12 +166,12 @@ cells_one bytes = both
 
 pub library_one : (name : List ℕ) → IsOne (ReadsLibrary name)
 library_one name =
-    followed_one Any (gives (text_of which.Library name)) HasCells (gives_one (text_of which.Library name)) (λ files x p. tt) (λ bytes any. cells_one bytes)
+    in_file_one which.Library (file.ReadsLibrary name) (followed_one Any (gives (text_of name)) HasCells (gives_one (text_of name)) (λ files x p. tt) (λ bytes any. cells_one bytes))
 
 pub model_read_one : (name : List ℕ) → IsOne (ReadsModel name)
 model_read_one name =
-    followed_one Any (gives (text_of which.Network name)) HasModel (gives_one (text_of which.Network name)) (λ files x p. tt)
-    (λ bytes any files a b p q. has_one_model bytes files a b p q)
+    in_file_one which.Network (file.ReadsModel name) (followed_one Any (gives (text_of name)) HasModel (gives_one (text_of name)) (λ files x p. tt)
+    (λ bytes any files a b p q. has_one_model bytes files a b p q))
 
 vectors_one : (inputs : ℕ) (bytes : List ℕ) → IsOne (HasVectors inputs bytes)
 vectors_one inputs bytes = both
@@ -147,7 +187,7 @@ vectors_one inputs bytes = both
 
 vectors_read_one : (name : List ℕ) (inputs : ℕ) → IsOne (ReadsVectors name inputs)
 vectors_read_one name inputs =
-    followed_one Any (gives (text_of which.Vectors name)) (HasVectors inputs) (gives_one (text_of which.Vectors name)) (λ files x p. tt) (λ bytes any. vectors_one inputs bytes)
+    followed_one Any (text_in which.Vectors name) (HasVectors inputs) (text_one which.Vectors name) (λ files x p. tt) (λ bytes any. vectors_one inputs bytes)
 
 mapping_one : (options : Options) (certified : Bool) (library network : List ℕ) → IsWide options → IsOne (IsMappingAnswer options certified library network)
 mapping_one options certified library network wide =
@@ -163,7 +203,7 @@ mapped_meaning : (cells : List CellParts) (lines : List LogicalLine) (a b : Resu
 mapped_meaning cells lines a b p q = comes-once (text_fault cells lines) (lines_say cells (lines_read lines)) a b p q
 
 -- the fault that a refusal of a mapped text tells
-told_by : MappedFault → Option Refusal
+told_by : MappedFault → Option FileFault
 told_by (fault.Line line kind) = Some (Mapped line kind)
 told_by (fault.Whole (whole.Twice name)) = Some (Twice name)
 told_by (fault.Whole (whole.Undriven name)) = Some (Undriven name)
@@ -171,13 +211,13 @@ told_by (fault.Whole (whole.Cycle name)) = Some (NetCycle name)
 told_by (fault.Whole whole.Memory) = None
 told_by fault.Memory = None
 
-record IsToldBy (cells : List CellParts) (bytes : List ℕ) (r : Refusal) : Type 0 where
+record IsToldBy (cells : List CellParts) (bytes : List ℕ) (r : FileFault) : Type 0 where
   fault_is : MappedFault
   read : IsUnmapped cells (marked_lines_in bytes) (Err fault_is)
   not_memory : ◌≡◌ {A = Result MappedParts MappedFault} (Err fault_is) (Err fault.Memory) → ⊥
   told : told_by fault_is ≡ Some r
 
-fault_told : (cells : List CellParts) (bytes : List ℕ) (files : Files) (r : Refusal) → HasMapped cells bytes files (Err r) → IsToldBy cells bytes r
+fault_told : (cells : List CellParts) (bytes : List ℕ) (files : Files) (r : FileFault) → HasMapped cells bytes files (Err r) → IsToldBy cells bytes r
 unfolding told_by
 fault_told cells bytes files (Mapped line kind) is = record { fault_is = fault.Line line kind; read = is; not_memory = λ e. cc; told = refl }
 fault_told cells bytes files (Twice name) is = record { fault_is = fault.Whole (whole.Twice name); read = is; not_memory = λ e. cc; told = refl }
@@ -205,7 +245,7 @@ module _ (cells : List CellParts) (bytes : List ℕ) where
       cc
 
 mapped_read_alike : (name : List ℕ) (cells : List CellParts) → IsAlike AreSameMapped (ReadsMapped name cells)
-mapped_read_alike name cells = text_alike AreSameMapped (text_of which.Mapped name) (HasMapped cells) (λ bytes. mapped_alike cells bytes)
+mapped_read_alike name cells = in_file_alike which.Mapped (file.ReadsMapped name cells) AreSameMapped (text_alike AreSameMapped (text_of name) (HasMapped cells) (λ bytes. mapped_alike cells bytes))
 
 -- Reports.
 
@@ -278,7 +318,7 @@ to_verilog_one library mapped =
 
 verilog_read_one : (name : List ℕ) (cells : List CellParts) → IsOne (ReadsVerilog name cells)
 verilog_read_one name cells =
-    followed_one Any (gives (text_of which.Mapped name)) (HasVerilog cells) (gives_one (text_of which.Mapped name)) (λ files x p. tt) (λ bytes any. verilog_one cells bytes)
+    followed_one Any (text_in which.Mapped name) (HasVerilog cells) (text_one which.Mapped name) (λ files x p. tt) (λ bytes any. verilog_one cells bytes)
 
 from_verilog_one : (library verilog : List ℕ) → IsOne (IsFromVerilogAnswer library verilog)
 from_verilog_one library verilog =

@@ -6,8 +6,8 @@ use Rattle.lw_laws.proofs.Lists.{slice_get_some}
 use Rattle.lw_genlib.specs.Cells.{CellParts}
 use Rattle.lw_blif.specs.declared.parsed.Parsed.{Parsed}
 use Rattle.lw_top.specs.declared.refusal.Refusal.{Refusal}
-use Rattle.lw_top.specs.declared.refusal.Refusal.TheVariants.{NoCover, TooLong, Forms, Splits, Unread}
-use Rattle.lw_top.specs.Steps.{Files}
+use Rattle.lw_top.specs.declared.refusal.Refusal.TheVariants.{NoCover, Forms, Splits}
+use Rattle.lw_files.specs.Steps.{Files}
 use Rattle.lw_map.specs.Options.{Options}
 use Rattle.lw_map.specs.Mapped.{IsWithinLimits, IsUncovered}
 use Rattle.lw_map.proofs.Once.{covered}
@@ -16,7 +16,8 @@ use Rattle.lw_top.specs.Maps.{Maps}
 use Rattle.lw_top.specs.Mappings.{AreRead}
 use Rattle.lw_top.specs.Answers.{asked_for, IsMappingAnswer, IsCommandAnswer, IsAnswer, status_in}
 use Rattle.lw_top.proofs.InRange.{command_in_range}
-use Rattle.lw_top.proofs.Sound.{asked_some, cells_kept, model_kept}
+use Rattle.lw_files.proofs.Kept.{cells_kept, model_kept}
+use Rattle.lw_top.proofs.Sound.{asked_some}
 use Rattle.lw_answers.proofs.One.{library_one, model_read_one}
 use Rattle.lw_top.proofs.MapAnswers.{Lack, of_forms, of_splits, of_cover, by_lack}
 
@@ -63,8 +64,6 @@ module _ (words : List (List ℕ)) (files : Files) (options : Options) (certifie
   named : (a : Result (List ℕ) Refusal) → Maps options certified cells model files a → status_in a ≡ 6 → HasLack
   named (Err (NoCover name)) m e = (m.output, contained model.network.outputs m.place m.output m.at, m.lacks)
   named (Ok text) m e = absurd (omega (arith, e))
-  named (Err (Unread w)) m e = absurd m
-  named (Err (TooLong w)) m e = absurd m
   named (Err Forms) m e = absurd (omega (arith, e))
   named (Err Splits) m e = absurd (omega (arith, e))
   named (Err other) m e = absurd m

@@ -15,18 +15,20 @@ use Rattle.lw_verilog.specs.Verdicts.{IsRead, AreSame}
 use Rattle.lw_verilog.specs.Readings.{nothing_read, read}
 use Rattle.lw_verilog.specs.Tokens.{tokens}
 use Rattle.lw_verilog.proofs.OneMeaning.{comes-once}
+use Rattle.lw_files.specs.declared.fault.FileFault.TheVariants as file_fault
 use Rattle.lw_top.specs.declared.refusal.Refusal.{Refusal}
-use Rattle.lw_top.specs.declared.refusal.Refusal.TheVariants.{Verilog, Twice, Undriven, NetCycle, NoVerilog}
-use Rattle.lw_top.specs.Steps.{Files}
+use Rattle.lw_top.specs.declared.refusal.Refusal.TheVariants.{Faulty, Verilog, NoVerilog}
+use Rattle.lw_top.specs.declared.refusal.Which.TheVariants as which
+use Rattle.lw_files.specs.Steps.{Files}
 use Rattle.lw_top.specs.Answers.{HasVerilog}
 use Rattle.lw_top.specs.Verilogs.{SaysVerilog, SaysMapped}
 
 -- the fault that a refusal of a text in Verilog tells
 told_by : VerilogFault → Option Refusal
 told_by (fault.Line line kind) = Some (Verilog line kind)
-told_by (fault.Whole (whole.Twice name)) = Some (Twice name)
-told_by (fault.Whole (whole.Undriven name)) = Some (Undriven name)
-told_by (fault.Whole (whole.Cycle name)) = Some (NetCycle name)
+told_by (fault.Whole (whole.Twice name)) = Some (Faulty which.Mapped (file_fault.Twice name))
+told_by (fault.Whole (whole.Undriven name)) = Some (Faulty which.Mapped (file_fault.Undriven name))
+told_by (fault.Whole (whole.Cycle name)) = Some (Faulty which.Mapped (file_fault.NetCycle name))
 told_by (fault.Whole whole.Memory) = None
 told_by fault.Memory = None
 
@@ -39,9 +41,9 @@ record IsToldBy (cells : List CellParts) (bytes : List ℕ) (r : Refusal) : Type
 fault_told : (cells : List CellParts) (bytes : List ℕ) (files : Files) (r : Refusal) → HasVerilog cells bytes files (Err r) → IsToldBy cells bytes r
 unfolding told_by
 fault_told cells bytes files (Verilog line kind) is = record { fault_is = fault.Line line kind; read = is; not_memory = λ e. cc; told = refl }
-fault_told cells bytes files (Twice name) is = record { fault_is = fault.Whole (whole.Twice name); read = is; not_memory = λ e. cc; told = refl }
-fault_told cells bytes files (Undriven name) is = record { fault_is = fault.Whole (whole.Undriven name); read = is; not_memory = λ e. cc; told = refl }
-fault_told cells bytes files (NetCycle name) is = record { fault_is = fault.Whole (whole.Cycle name); read = is; not_memory = λ e. cc; told = refl }
+fault_told cells bytes files (Faulty which.Mapped (file_fault.Twice name)) is = record { fault_is = fault.Whole (whole.Twice name); read = is; not_memory = λ e. cc; told = refl }
+fault_told cells bytes files (Faulty which.Mapped (file_fault.Undriven name)) is = record { fault_is = fault.Whole (whole.Undriven name); read = is; not_memory = λ e. cc; told = refl }
+fault_told cells bytes files (Faulty which.Mapped (file_fault.NetCycle name)) is = record { fault_is = fault.Whole (whole.Cycle name); read = is; not_memory = λ e. cc; told = refl }
 fault_told cells bytes files other is = absurd is
 
 ok_stands : (n : NetlistParts) → ◌≡◌ {A = Result NetlistParts VerilogFault} (Ok n) (Err fault.Memory) → ⊥

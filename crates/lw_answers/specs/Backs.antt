@@ -2,7 +2,7 @@
 use Rattle.std.specs.Prelude.{◌≡◌, ◌≤◌, ℕ, List, length, Some, Ok}
 use Rattle.lw_genlib.specs.Cells.{CellParts}
 use Rattle.lw_mapped.specs.declared.closing.Mapped.{Mapped}
-use Rattle.lw_top.specs.Steps.{Files}
+use Rattle.lw_files.specs.Steps.{Files}
 use Rattle.lw_top.specs.Words.{to_verilog, from_verilog, command_of}
 use Rattle.lw_top.specs.Answers.{ReadsLibrary, ReadsMapped, IsAnswer}
 use Rattle.lw_top.specs.Verilogs.{plain_text}

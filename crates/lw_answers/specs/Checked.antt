@@ -2,7 +2,7 @@
 use Rattle.std.specs.Prelude.{◌≡◌, ◌≤◌, ℕ, true, List, length, Some, Ok, All, Contains}
 use Rattle.lw_genlib.specs.Cells.{CellParts}
 use Rattle.lw_map.specs.Options.{Options}
-use Rattle.lw_top.specs.Steps.{Files}
+use Rattle.lw_files.specs.Steps.{Files}
 use Rattle.lw_top.specs.Words.{mapping, checking, command_of}
 use Rattle.lw_top.specs.Answers.{ReadsLibrary}
 use Rattle.lw_words.specs.Limits.{most_bytes}

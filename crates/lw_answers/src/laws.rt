@@ -3,7 +3,7 @@ ghost use Rattle.std.specs.Prelude.{◌≡◌, ◌↔◌, ℕ, Bool, List, Resul
 ghost use Rattle.lw_pool.specs.declared.id.NetId.{NetId};
 ghost use Rattle.lw_genlib.specs.Cells.{CellParts};
 ghost use Rattle.lw_blif.specs.declared.parsed.Parsed.{Parsed};
-ghost use Rattle.lw_top.specs.Steps.{Files};
+ghost use Rattle.lw_files.specs.Steps.{Files};
 ghost use Rattle.lw_map.specs.Options.{Options};
 ghost use Rattle.lw_map.specs.Mapped.{IsWithinLimits, IsUncovered};
 ghost use Rattle.lw_top.specs.Answers.{AreAlike, IsAnswer, status_in};

@@ -4,23 +4,26 @@ use Rattle.lw_io.specs.declared.file.File.{File}
 use Rattle.lw_io.specs.Files.{bytes_of}
 use Rattle.lw_top.specs.declared.answer.Answer.{Answer}
 use Rattle.lw_top.specs.declared.refusal.Refusal.{Refusal}
-use Rattle.lw_top.specs.declared.refusal.Refusal.TheVariants.{Words, Unread, TooLong, Memory}
+use Rattle.lw_top.specs.declared.refusal.Refusal.TheVariants.{Words, Faulty, Memory}
 use Rattle.lw_top.specs.declared.refusal.Which.{Which}
-use Rattle.lw_top.specs.Steps.{Step, followed_by}
+use Rattle.lw_files.specs.Steps.{followed_by}
+use Rattle.lw_top.specs.Steps.{Step}
 use Rattle.lw_top.specs.Words.{Command}
 use Rattle.lw_top.specs.Answers.{IsFileOf, IsReached, IsCommandAnswer}
-use Rattle.lw_top.specs.Reading.{Known, HasReason, Blames, Reaches}
+use Rattle.lw_files.specs.Reading.{Known}
+use Rattle.lw_top.specs.Reading.{HasReason, Blames, Reaches}
 use Rattle.lw_top.specs.Answered.{Says, IsAnswered, Responds, Gives}
-use Rattle.lw_top.proofs.Steps.{refused_later, answered}
+use Rattle.lw_files.proofs.Steps.{answered}
+use Rattle.lw_top.proofs.Steps.{refused_later}
 
 -- what is known at a file's turn
 abbrev pub Turn : Option (List File) → Command → Which → Type 0
 Turn told command w = IsFileOf command w × ((files : List File) → told ≡ Some files → IsReached command w (bytes_of files))
 
 module _ (told : Option (List File)) (before now : ℕ) (command : Command) where
-  -- a file's turn came, and it was not read
+  -- a file's turn came, and it is refused
   reaches : (w : Which) (e : Refusal) → Blames w e → Turn told command w → Reaches told command e
-  reaches w (Unread v) b turn = subst (λ (u : Which). Turn told command u) (sym b) turn
+  reaches w (Faulty v fault) b turn = subst (λ (u : Which). Turn told command u) (sym b) turn
   reaches w other b turn = tt
 
   -- a file is refused
@@ -29,7 +32,7 @@ module _ (told : Option (List File)) (before now : ℕ) (command : Command) wher
 
   -- What reads no file answers.
   given_reaches : (step : Step (List ℕ)) (e : Refusal) → Gives step (Err e) → Reaches told command e
-  given_reaches step (Unread w) g = absurd g
+  given_reaches step (Faulty w fault) g = absurd g
   given_reaches step other g = tt
 
   given_words : (step : Step (List ℕ)) (e : Refusal) → Gives step (Err e) → e ≢ Words
@@ -39,8 +42,7 @@ module _ (told : Option (List File)) (before now : ℕ) (command : Command) wher
 -- What reads no file has a reason where it refuses.
 pub given_reason : (told : Option (List File)) (before now : ℕ) (step : Step (List ℕ)) (e : Refusal) → Gives step (Err e) → HasReason told before now step e
 given_reason told before now step Words g = absurd g
-given_reason told before now step (Unread w) g = absurd g
-given_reason told before now step (TooLong w) g = absurd g
+given_reason told before now step (Faulty w fault) g = absurd g
 given_reason told before now step Memory g = tt
 given_reason told before now step other g = λ files is. g (bytes_of files)
 

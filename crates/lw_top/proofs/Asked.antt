@@ -1,10 +1,10 @@
 -- What an answer to words says of the command that they are, and of the network that was read.
 use Rattle.std.proofs.Common.{ℕ, ◌≡◌, inl, inr, List, Some, Ok, sym, ◌∙◌, subst}
 use Rattle.lw_blif.specs.declared.parsed.Parsed.{Parsed}
-use Rattle.lw_top.specs.Steps.{Files}
+use Rattle.lw_files.specs.Steps.{Files}
 use Rattle.lw_top.specs.Words.{Command, command_of}
 use Rattle.lw_top.specs.Answers.{ReadsModel, IsCommandAnswer, IsAnswer}
-use Rattle.lw_top.proofs.SignalNames.{IsNamed, model_named}
+use Rattle.lw_files.proofs.SignalNames.{IsNamed, model_named}
 use Rattle.lw_top.proofs.Sound.{asked_some}
 
 pub names_read : (name : List ℕ) (files : Files) (model : Parsed) → ReadsModel name files (Ok model) → IsNamed model

@@ -21,8 +21,7 @@ use Rattle.lw_check.specs.Verdicts.{claim}
 use Rattle.lw_check.proofs.Judging.{accepted_is_mapping}
 use Rattle.lw_map.specs.Options.{Options, IsWide}
 use Rattle.lw_map.proofs.CellLaws.{delay_patterns, delay_truths}
-use Rattle.lw_top.specs.declared.refusal.Refusal.TheVariants.{Unread}
-use Rattle.lw_top.specs.Steps.{Files}
+use Rattle.lw_files.specs.Steps.{Files}
 use Rattle.lw_top.specs.Words.{Command, checking, command_of}
 use Rattle.lw_top.specs.Checks.{HasVerdict}
 use Rattle.lw_top.specs.Answers.{IsCheckAnswer, IsCommandAnswer, IsAnswer}
@@ -32,7 +31,8 @@ use Rattle.lw_top.specs.Outcome.{Meets, outcome_status}
 use Rattle.lw_top.specs.Mappings.{AsksForCheck, IsCheckedMapping}
 use Rattle.lw_top.proofs.Headline.{asked-ok}
 use Rattle.lw_top.proofs.InRange.{command_in_range}
-use Rattle.lw_top.proofs.Sound.{cells_kept, AreKept, model_kept, mapped_kept, IsReadBy, claim_kept}
+use Rattle.lw_files.proofs.Kept.{cells_kept, AreKept, model_kept, mapped_kept, IsReadBy}
+use Rattle.lw_top.proofs.Sound.{claim_kept}
 use Rattle.lw_net.specs.Ports.{output_port}
 
 same_roots : (width : ℕ) (net : NetworkParts) (g : Graph) (outputs : List NetId) → map (λ (p : PlainPort). root_class width (plain net) g p.net) (map (output_port net) outputs) ≡ map (λ (output : NetId). root_class width (plain net) g output.0) outputs
@@ -93,5 +93,4 @@ module _ (words : List (List ℕ)) (files : Files) (asks : AsksForCheck words) w
 pub done_checked : {O : Type 0} (words : List (List ℕ)) (told : Option (List File)) (before now : ℕ) (taken : O → Option (List ℕ)) (is_finished : O → Bool) (faults : O → ℕ) (old new : O) → AsksForCheck words → (o : Outcome) → Meets told before now taken is_finished faults old new (IsAnswer words) o → (files : List File) → told ≡ Some files → 0 ≡ outcome_status o → IsCheckedMapping words (bytes_of files)
 done_checked words told before now taken is_finished faults old new asks Done m files is e = answer_checked words (bytes_of files) asks m.0 (m.1 files is)
 done_checked words told before now taken is_finished faults old new asks WriteFault m files is e = absurd (omega (arith, e))
-done_checked words told before now taken is_finished faults old new asks (Refused (Unread w)) m files is e = absurd (omega (arith, e))
 done_checked words told before now taken is_finished faults old new asks (Refused other) m files is e = absurd (omega (arith, e))

@@ -33,7 +33,8 @@ use Rattle.lw_map.specs.Faults.{IsChoiceFault, IsCoverFault}
 use Rattle.lw_map.proofs.Certified.{certificate_of_netlist, certificate_one_each, certificate_gates}
 use Rattle.lw_top.specs.declared.answer.Answer.TheVariants as answer
 use Rattle.lw_top.specs.declared.refusal.Refusal.{Refusal}
-use Rattle.lw_top.specs.Steps.{Files, Step}
+use Rattle.lw_files.specs.Steps.{Files}
+use Rattle.lw_top.specs.Steps.{Step}
 use Rattle.lw_top.specs.Maps.{IsAskedFor, LacksGraph, LacksMapping, Maps}
 use Rattle.lw_top.specs.Mapped.{IsCertificateFor}
 use Rattle.lw_top.specs.Named.{map_refusal}

@@ -9,19 +9,20 @@ use Rattle.lw_map.specs.Options.{Options}
 use Rattle.lw_map.proofs.Mappings.{mapped_is_mapping}
 use Rattle.lw_map.proofs.Names.{mapped_has_names}
 use Rattle.lw_top.specs.declared.refusal.Refusal.{Refusal}
-use Rattle.lw_top.specs.declared.refusal.Refusal.TheVariants.{TooLong, NoCover}
-use Rattle.lw_top.specs.declared.refusal.Which.{Which}
-use Rattle.lw_top.specs.declared.refusal.Which.TheVariants as which
+use Rattle.lw_top.specs.declared.refusal.Refusal.TheVariants.{NoCover}
 use Rattle.lw_top.specs.declared.outcome.Outcome.{Outcome}
 use Rattle.lw_top.specs.declared.outcome.Outcome.TheVariants.{Done, WriteFault, Refused}
-use Rattle.lw_top.specs.Steps.{Files}
+use Rattle.lw_files.specs.declared.fault.FileFault.{FileFault}
+use Rattle.lw_files.specs.declared.fault.FileFault.TheVariants.{TooLong}
+use Rattle.lw_files.specs.Steps.{Files}
+use Rattle.lw_files.specs.Sources.{within_limit, text_of, lines_in}
 use Rattle.lw_mapped.specs.declared.certificate.Certificate.{Certificate}
 use Rattle.lw_top.specs.Maps.{IsAskedFor, Maps}
 use Rattle.lw_top.specs.Words.{Command, mapping, trading, command_of}
 use Rattle.lw_words.specs.Limits.{most_bytes}
 use Rattle.lw_blif.specs.BlifNetworks.{ComesTo, IsModelOf}
 use Rattle.lw_blif.specs.LineFaults.{FaultAt, first_fault, lines_read}
-use Rattle.lw_top.specs.Answers.{within_limit, text_of, lines_in, ReadsLibrary, ReadsModel, asked_for, IsCommandAnswer, IsAnswer}
+use Rattle.lw_top.specs.Answers.{ReadsLibrary, ReadsModel, asked_for, IsCommandAnswer, IsAnswer}
 use Rattle.lw_top.specs.Outcome.{IsDone, Meets, outcome_status}
 use Rattle.lw_top.specs.Telling.{outcome_line, refusal_line}
 use Rattle.lw_top.specs.Mappings.{AsksForMapping, AsksForTables, IsMappingText, LacksOutput, SaysLibrary, SaysModel, map_words}
@@ -30,7 +31,8 @@ use Rattle.lw_top.specs.Trades.{Trades}
 use Rattle.lw_top.specs.Traded.{AsksForTrade, IsTrade, LacksTradedOutput}
 use Rattle.lw_top.proofs.Steps.{IsLast, last-ok, last-err}
 use Rattle.lw_top.proofs.InRange.{command_in_range}
-use Rattle.lw_top.proofs.Sound.{asked_some, cells_kept, model_kept}
+use Rattle.lw_files.proofs.Kept.{cells_kept, model_kept}
+use Rattle.lw_top.proofs.Sound.{asked_some}
 use Rattle.lw_top.proofs.Asked.{names_read}
 use Rattle.lw_top.proofs.TradedNames.{traded_named}
 
@@ -39,26 +41,8 @@ words-stand : (o : Option Command) (name : List ℕ) → ◌≡◌ {A = Result C
 words-stand None name e = cc
 words-stand (Some c) name e = cc
 
-limit-stands : (b : Bool) (w : Which) (bytes name : List ℕ) → (if b then Ok bytes else Err (TooLong w)) ≡ Err (NoCover name) → ⊥
-limit-stands true w bytes name e = cc
-limit-stands false w bytes name e = cc
-
-text-stands : (o : Option (List ℕ)) (w : Which) (name : List ℕ) → within_limit w o ≡ Err (NoCover name) → ⊥
-text-stands None w name e = cc
-text-stands (Some bytes) w name e = limit-stands _ w bytes name e
-
 cause : {A : Type 0} (e r : Refusal) → ◌≡◌ {A = Result A Refusal} (Err e) (Err r) → e ≡ r
 cause e r same = cc
-
-library-stands : (word : List ℕ) (files : Files) (name : List ℕ) → ReadsLibrary word files (Err (NoCover name)) → ⊥
-unfolding text_of
-library-stands word files name (inl (bytes, text, is)) = is
-library-stands word files name (inr (e, refused, is)) = text-stands (files word) which.Library name (refused ∙ ap (λ c. Err c) (cause e (NoCover name) is))
-
-network-stands : (word : List ℕ) (files : Files) (name : List ℕ) → ReadsModel word files (Err (NoCover name)) → ⊥
-unfolding text_of
-network-stands word files name (inl (bytes, text, is)) = is
-network-stands word files name (inr (e, refused, is)) = text-stands (files word) which.Network name (refused ∙ ap (λ c. Err c) (cause e (NoCover name) is))
 
 -- the command that was asked for, and what it comes to
 abbrev pub IsAsked : List (List ℕ) → Files → Result (List ℕ) Refusal → Type 0
@@ -82,15 +66,15 @@ map_asked (name ∷ words) c e = by_name (bytes_eq name (codes "map")) e
     by_name false s = cc
 
 -- a file that is there, of at most so many bytes
-read-bytes : (w : Which) (name : List ℕ) (files : Files) (bytes : List ℕ) → text_of w name files ≡ Ok bytes → (files name ≡ Some bytes) × (length bytes ≤ most_bytes)
+read-bytes : (name : List ℕ) (files : Files) (bytes : List ℕ) → text_of name files ≡ Ok bytes → (files name ≡ Some bytes) × (length bytes ≤ most_bytes)
 unfolding text_of
-read-bytes w name files bytes e = by_file (files name) e
+read-bytes name files bytes e = by_file (files name) e
   where
-    by_file : (o : Option (List ℕ)) → within_limit w o ≡ Ok bytes → (o ≡ Some bytes) × (length bytes ≤ most_bytes)
+    by_file : (o : Option (List ℕ)) → within_limit o ≡ Ok bytes → (o ≡ Some bytes) × (length bytes ≤ most_bytes)
     by_file None e = cc
     by_file (Some text) e = by_length (nat_le (length text) most_bytes) refl e
       where
-        by_length : (t : Bool) → nat_le (length text) most_bytes ≡ t → ◌≡◌ {A = Result (List ℕ) Refusal} (if t then Ok text else Err (TooLong w)) (Ok bytes) → (Some text ≡ Some bytes) × (length bytes ≤ most_bytes)
+        by_length : (t : Bool) → nat_le (length text) most_bytes ≡ t → ◌≡◌ {A = Result (List ℕ) FileFault} (if t then Ok text else Err TooLong) (Ok bytes) → (Some text ≡ Some bytes) × (length bytes ≤ most_bytes)
         by_length true le e =
             let same : text ≡ bytes = cc in
             (ap Some same, subst (λ (b : List ℕ). length b ≤ most_bytes) same (leb-true (length text) most_bytes le))
@@ -98,11 +82,11 @@ read-bytes w name files bytes e = by_file (files name) e
 
 -- what is read is what the texts say
 says-library : (name : List ℕ) (files : Files) (cells : List CellParts) → ReadsLibrary name files (Ok cells) → SaysLibrary name files cells
-says-library name files cells (inl (bytes, there, says)) = let (at, few) = read-bytes which.Library name files bytes there in (bytes, at, few, says)
+says-library name files cells (inl (bytes, there, says)) = let (at, few) = read-bytes name files bytes there in (bytes, at, few, says)
 says-library name files cells (inr (e, refused, is)) = cc
 
 says-model : (name : List ℕ) (files : Files) (model : Parsed) → ReadsModel name files (Ok model) → SaysModel name files model
-says-model name files model (inl (bytes, there, says)) = let (at, few) = read-bytes which.Network name files bytes there in (bytes, at, few, by_fault (first_fault [] (lines_read (lines_in bytes))) says)
+says-model name files model (inl (bytes, there, says)) = let (at, few) = read-bytes name files bytes there in (bytes, at, few, by_fault (first_fault [] (lines_read (lines_in bytes))) says)
   where
     by_fault : (f : Option FaultAt) → ComesTo f (lines_read (lines_in bytes)) (Ok model) → IsModelOf (lines_read (lines_in bytes)) model
     by_fault None is = is
@@ -174,7 +158,7 @@ module _ (words : List (List ℕ)) (files : Files) (asks : AsksForMapping words)
   pub answer-lacks : (name : List ℕ) → IsAnswer words files (Err (NoCover name)) → LacksOutput words files name
   answer-lacks name answer =
       let (c, is, comes) = asked-lacks words files name answer in
-      lacks-output name (last-err (ReadsLibrary library) (ReadsModel network) (λ (cells : List CellParts) (model : Parsed). Maps options certified cells model) files (NoCover name) (library-stands library files name) (network-stands network files name) (subst (λ (d : Command). IsCommandAnswer d files (Err (NoCover name))) (own-command c is) comes))
+      lacks-output name (last-err (ReadsLibrary library) (ReadsModel network) (λ (cells : List CellParts) (model : Parsed). Maps options certified cells model) files (NoCover name) (λ no. no) (λ no. no) (subst (λ (d : Command). IsCommandAnswer d files (Err (NoCover name))) (own-command c is) comes))
 
 module _ (words : List (List ℕ)) (files : Files) (asks : AsksForTrade words) where
   abbrev own-trade : Command
@@ -207,7 +191,7 @@ module _ (words : List (List ℕ)) (files : Files) (asks : AsksForTrade words) w
   pub answer-untraded : (name : List ℕ) → IsAnswer words files (Err (NoCover name)) → LacksTradedOutput words files name
   answer-untraded name answer =
       let (c, is, comes) = asked-lacks words files name answer in
-      let m = last-err (ReadsLibrary asks.library) (ReadsModel asks.network) (λ (cells : List CellParts) (model : Parsed). Trades asks.deadline asks.options cells model) files (NoCover name) (library-stands asks.library files name) (network-stands asks.network files name) (subst (λ (d : Command). IsCommandAnswer d files (Err (NoCover name))) (trade-command c is) comes) in
+      let m = last-err (ReadsLibrary asks.library) (ReadsModel asks.network) (λ (cells : List CellParts) (model : Parsed). Trades asks.deadline asks.options cells model) files (NoCover name) (λ no. no) (λ no. no) (subst (λ (d : Command). IsCommandAnswer d files (Err (NoCover name))) (trade-command c is) comes) in
       record { asks = asks; cells = m.a; model = m.b; library = m.one; network = m.two; lacks = m.comes }
 
 module _ {O : Type 0} (words : List (List ℕ)) (told : Option (List File)) (before now : ℕ) (taken : O → Option (List ℕ)) (is_finished : O → Bool) (faults : O → ℕ) (old new : O) (said : List ℕ → Type 0) where

@@ -13,7 +13,7 @@ use Rattle.lw_map.proofs.Once.{mapped_once, lack_once, covered}
 use Rattle.lw_map.proofs.CertificateOnce.{certificate_once}
 use Rattle.lw_top.specs.declared.refusal.Refusal.{Refusal}
 use Rattle.lw_top.specs.declared.refusal.Refusal.TheVariants.{Forms, Splits, NoCover}
-use Rattle.lw_top.specs.Steps.{Files}
+use Rattle.lw_files.specs.Steps.{Files}
 use Rattle.lw_top.specs.Maps.{IsAskedFor, IsMappedText, LacksGraph, LacksMapping, Maps}
 
 -- why a network is not mapped, by cases

@@ -4,17 +4,20 @@ use Rattle.lw_io.specs.declared.file.File.{File}
 use Rattle.lw_top.specs.declared.answer.Answer.{Answer}
 use Rattle.lw_top.specs.declared.refusal.Refusal.{Refusal}
 use Rattle.lw_top.specs.declared.refusal.Refusal.TheVariants.{Words}
-use Rattle.lw_top.specs.Steps.{Step, gives}
+use Rattle.lw_files.specs.Steps.{gives}
+use Rattle.lw_top.specs.Steps.{Step}
 use Rattle.lw_top.specs.Words.{Command}
 use Rattle.lw_top.specs.declared.words.Command.{Command as Asked}
 use Rattle.lw_top.specs.Commands.{plain_command, asked}
 use Rattle.lw_top.specs.Answers.{asked_for, IsAnswerTo, IsCommandAnswer}
 use Rattle.lw_top.specs.Named.{IsTextOf}
-use Rattle.lw_top.specs.Reading.{Known, HasReason, Reaches}
+use Rattle.lw_files.specs.Reading.{Known}
+use Rattle.lw_top.specs.Reading.{HasReason, Reaches}
 use Rattle.lw_top.specs.declared.outcome.Outcome.{Outcome}
 use Rattle.lw_top.specs.declared.outcome.Outcome.TheVariants.{Done, WriteFault, Refused}
 use Rattle.lw_top.specs.Outcome.{WritesAnswer, Meets, IsReachedBy}
-use Rattle.lw_top.proofs.Steps.{answered, refused_later}
+use Rattle.lw_files.proofs.Steps.{answered}
+use Rattle.lw_top.proofs.Steps.{refused_later}
 
 -- a text of the answer was written, or a part of it
 pub served : {O : Type 0} (told : Option (List File)) (before now : ℕ) (taken : O → Option (List ℕ)) (is_finished : O → Bool) (faults : O → ℕ) (old new : O) (step : Step (List ℕ)) (a : Answer) (o : Outcome) → ((text : List ℕ) → IsTextOf a text → Known told step (Ok text)) → WritesAnswer taken is_finished faults old new a o → Meets told before now taken is_finished faults old new step o

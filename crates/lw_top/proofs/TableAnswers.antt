@@ -3,11 +3,12 @@ use Rattle.std.proofs.Common.{inl, inr, ℕ, List, Ok}
 use Rattle.lw_blif.specs.declared.parsed.Parsed.{Parsed}
 use Rattle.lw_map.specs.Options.{Options}
 use Rattle.lw_map.specs.Tabled.{HasReadableNames}
-use Rattle.lw_top.specs.Steps.{Files, Step, followed_by}
+use Rattle.lw_files.specs.Steps.{Files, followed_by}
+use Rattle.lw_top.specs.Steps.{Step}
 use Rattle.lw_top.specs.Tables.{IsTablesText, Tabulates}
 use Rattle.lw_top.specs.Answers.{ReadsModel, IsTablingAnswer}
-use Rattle.lw_top.proofs.SignalNames.{IsNamed}
-use Rattle.lw_top.proofs.Sound.{AreKept}
+use Rattle.lw_files.proofs.SignalNames.{IsNamed}
+use Rattle.lw_files.proofs.Kept.{AreKept}
 
 -- the model and its tables
 pub record IsTabulated (leaves : ℕ) (options : Options) (network : List ℕ) (files : Files) (text : List ℕ) : Type 0 where

@@ -26,7 +26,7 @@ use Rattle.lw_map.proofs.Once.{zip_at}
 use Rattle.lw_top.specs.declared.answer.Answer.TheVariants as answer
 use Rattle.lw_top.specs.declared.refusal.Refusal.{Refusal}
 use Rattle.lw_top.specs.declared.refusal.Refusal.TheVariants.{Points}
-use Rattle.lw_top.specs.Steps.{Files}
+use Rattle.lw_files.specs.Steps.{Files}
 use Rattle.lw_top.specs.Maps.{LacksMapping}
 use Rattle.lw_top.specs.Named.{map_refusal}
 use Rattle.lw_top.specs.Answered.{Gives}

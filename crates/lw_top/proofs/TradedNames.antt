@@ -13,8 +13,8 @@ use Rattle.lw_netlist.specs.Netlists.{NetlistParts}
 use Rattle.lw_mapped.specs.Readable.{IsNamed}
 use Rattle.lw_map.specs.Options.{Options}
 use Rattle.lw_map.specs.Trading.{IsTradedNetlist}
-use Rattle.lw_top.proofs.SignalNames.{IsNamed as IsNamedModel}
-use Rattle.lw_top.proofs.Sound.{AreKept}
+use Rattle.lw_files.proofs.SignalNames.{IsNamed as IsNamedModel}
+use Rattle.lw_files.proofs.Kept.{AreKept}
 use Rattle.lw_words.specs.Words.{IsSignalName}
 use Rattle.lw_net.specs.Ports.{output_port}
 use Rattle.lw_netlist.specs.Plain.{plain_port, port_name}

@@ -4,13 +4,15 @@ use Rattle.std.proofs.lemmas.Bool.{eqb-true, eqb-false}
 use Rattle.lw_io.specs.declared.file.File.{File}
 use Rattle.lw_io.specs.Causes.{Rose}
 use Rattle.lw_io.specs.Files.{bytes_of}
+use Rattle.lw_files.specs.declared.fault.FileFault.TheVariants as fault
 use Rattle.lw_top.specs.declared.refusal.Refusal.{Refusal}
-use Rattle.lw_top.specs.declared.refusal.Refusal.TheVariants.{Unread, Memory}
+use Rattle.lw_top.specs.declared.refusal.Refusal.TheVariants.{Faulty, Memory}
 use Rattle.lw_top.specs.declared.outcome.Outcome.{Outcome}
 use Rattle.lw_top.specs.declared.outcome.Outcome.TheVariants.{Done, WriteFault, Refused}
 use Rattle.lw_top.specs.Answers.{status_of, status_in}
 use Rattle.lw_top.specs.Steps.{Step}
-use Rattle.lw_top.specs.Reading.{Known, HasReason}
+use Rattle.lw_files.specs.Reading.{Known}
+use Rattle.lw_top.specs.Reading.{HasReason}
 use Rattle.lw_top.specs.Words.{Command}
 use Rattle.lw_top.specs.Telling.{outcome_line, refusal_line}
 use Rattle.lw_top.specs.Complete.{HasAnswer, IsComplete}
@@ -21,8 +23,8 @@ module _ {O : Type 0} (told : Option (List File)) (before now : ℕ) (taken : O 
   Met o = Meets told before now taken is_finished faults old new answer o
 
   refused_unread : (r : Refusal) → HasReason told before now answer r → status_of r ≡ 2 → Rose before now ⊎ ((files : List File) × (a : Result (List ℕ) Refusal) × (told ≡ Some files) × answer (bytes_of files) a × (status_in a ≡ 2))
-  refused_unread (Unread w) (inl rose) e = inl rose
-  refused_unread (Unread w) (inr found) e = inr (found.0, Err (Unread w), found.1, found.2, refl)
+  refused_unread (Faulty w fault.Unread) (inl rose) e = inl rose
+  refused_unread (Faulty w fault.Unread) (inr found) e = inr (found.0, Err (Faulty w fault.Unread), found.1, found.2, refl)
   refused_unread other m e = absurd (omega (arith, e))
 
   pub unread : (o : Outcome) → Met o → outcome_status o ≡ 2 → Rose before now ⊎ ((files : List File) × (a : Result (List ℕ) Refusal) × (told ≡ Some files) × answer (bytes_of files) a × (status_in a ≡ 2))
@@ -33,13 +35,13 @@ module _ {O : Type 0} (told : Option (List File)) (before now : ℕ) (taken : O 
   pub done : (o : Outcome) → Met o → outcome_status o ≡ 0 → (text : List ℕ) × Known told answer (Ok text) × IsDone taken is_finished old new text
   done Done m e = m
   done WriteFault m e = absurd (omega (arith, e))
-  done (Refused (Unread w)) m e = absurd (omega (arith, e))
+  done (Refused (Faulty w fault.Unread)) m e = absurd (omega (arith, e))
   done (Refused other) m e = absurd (omega (arith, e))
 
   pub cut : (o : Outcome) → Met o → outcome_status o ≡ 7 → (text : List ℕ) × Known told answer (Ok text) × IsCutShort taken faults old new text
   cut Done m e = absurd (omega (arith, e))
   cut WriteFault m e = m
-  cut (Refused (Unread w)) m e = absurd (omega (arith, e))
+  cut (Refused (Faulty w fault.Unread)) m e = absurd (omega (arith, e))
   cut (Refused other) m e = absurd (omega (arith, e))
 
   module _ (command : Option Command) (said : List ℕ → Type 0) (status : ℕ) (files : List File) where
@@ -53,29 +55,30 @@ module _ {O : Type 0} (told : Option (List File)) (before now : ℕ) (taken : O 
     decided : (o : Outcome) → Met o → status ≡ outcome_status o → told ≡ Some files → said (outcome_line command o) → status ≢ 2 → status ≢ 7 → status ≢ 8 → Has
     decided Done m e is line not_2 not_7 not_8 = record { result = Ok m.0; is = m.1 files is; status_is = e; line = line }
     decided WriteFault m e is line not_2 not_7 not_8 = absurd (not_7 e)
-    decided (Refused (Unread w)) m e is line not_2 not_7 not_8 = absurd (not_2 e)
+    decided (Refused (Faulty w fault.Unread)) m e is line not_2 not_7 not_8 = absurd (not_2 e)
     decided (Refused Memory) m e is line not_2 not_7 not_8 = absurd (not_8 e)
     decided (Refused other) m e is line not_2 not_7 not_8 = refused other (m.0 files is) e line
 
     unread_has : (o : Outcome) → Met o → status ≡ outcome_status o → told ≡ Some files → said (outcome_line command o) → status ≡ 2 → (Rose before now → ⊥) → Has
     unread_has Done m e is line two quiet = absurd (omega (arith, e, two))
     unread_has WriteFault m e is line two quiet = absurd (omega (arith, e, two))
-    unread_has (Refused (Unread w)) (inl rose, same) e is line two quiet = absurd (quiet rose)
-    unread_has (Refused (Unread w)) (inr found, same) e is line two quiet =
+    unread_has (Refused (Faulty w fault.Unread)) (inl rose, same) e is line two quiet = absurd (quiet rose)
+    unread_has (Refused (Faulty w fault.Unread)) (inr found, same) e is line two quiet =
         let are : found.0 ≡ files = cc in
-        refused (Unread w) (subst (λ fs. answer (bytes_of fs) (Err (Unread w))) are found.2) e line
+        refused (Faulty w fault.Unread) (subst (λ fs. answer (bytes_of fs) (Err (Faulty w fault.Unread))) are found.2) e line
     unread_has (Refused other) m e is line two quiet = absurd (omega (arith, e, two))
 
     unwritten : (o : Outcome) → Met o → status ≡ outcome_status o → status ≡ 7 → Rose (faults old) (faults new)
     unwritten Done m e seven = absurd (omega (arith, e, seven))
     unwritten WriteFault m e seven = m.2.cause
-    unwritten (Refused (Unread w)) m e seven = absurd (omega (arith, e, seven))
+    unwritten (Refused (Faulty w fault.Unread)) m e seven = absurd (omega (arith, e, seven))
     unwritten (Refused other) m e seven = absurd (omega (arith, e, seven))
 
     memory : (o : Outcome) → status ≡ outcome_status o → said (outcome_line command o) → status ≡ 8 → said (refusal_line command Memory)
     memory Done e line eight = absurd (omega (arith, e, eight))
     memory WriteFault e line eight = absurd (omega (arith, e, eight))
     memory (Refused Memory) e line eight = line
+    memory (Refused (Faulty w fault.Memory)) e line eight = line
     memory (Refused other) e line eight = absurd (omega (arith, e, eight))
 
     by_status : (b c d : Bool) (o : Outcome) → status == 2 ≡ b → status == 7 ≡ c → status == 8 ≡ d → Met o → status ≡ outcome_status o → told ≡ Some files → said (outcome_line command o) → (Rose before now → ⊥) → (Rose (faults old) (faults new) → ⊥) → Has ⊎ (status ≡ 8)

@@ -8,11 +8,13 @@ use Rattle.lw_report.specs.Made.{IsTimingFor, places_of}
 use Rattle.lw_top.specs.declared.answer.Answer.{Answer}
 use Rattle.lw_top.specs.declared.answer.Answer.TheVariants as answer
 use Rattle.lw_top.specs.declared.refusal.Refusal.{Refusal}
-use Rattle.lw_top.specs.declared.refusal.Refusal.TheVariants.{Words, Unread, TooLong, Memory}
-use Rattle.lw_top.specs.Steps.{Files, Step}
+use Rattle.lw_top.specs.declared.refusal.Refusal.TheVariants.{Words, Faulty, Memory}
+use Rattle.lw_files.specs.Steps.{Files}
+use Rattle.lw_top.specs.Steps.{Step}
 use Rattle.lw_top.specs.Words.{Command}
 use Rattle.lw_top.specs.Answers.{IsCommandAnswer}
-use Rattle.lw_top.specs.Reading.{Known, HasReason, Reaches}
+use Rattle.lw_files.specs.Reading.{Known}
+use Rattle.lw_top.specs.Reading.{HasReason, Reaches}
 use Rattle.lw_top.specs.Named.{AreReadVectors, IsTextOf}
 
 -- What was answered can be written: its parts fit each other.
@@ -49,8 +51,7 @@ abbrev pub Gives : Step (List ℕ) → Result Answer Refusal → Type 0
 Gives step (Ok a) = ((text : List ℕ) (files : Files) → IsTextOf a text → step files (Ok text)) × CanBeWritten a
 Gives step (Err Memory) = Unit {0}
 Gives step (Err Words) = ⊥
-Gives step (Err (Unread w)) = ⊥
-Gives step (Err (TooLong w)) = ⊥
+Gives step (Err (Faulty w fault)) = ⊥
 Gives step (Err other) = (files : Files) → step files (Err other)
 
 -- the same of an answer that is made of what was computed

@@ -1,28 +1,25 @@
 -- The answer to words over known files: a list of steps, of which the first that refuses decides.
-use Rattle.std.specs.Prelude.{◌≡◌, ℕ, Bool, true, false, nat_le, List, length, map, Option, Some, None, Result, Ok, Err, if◌then◌else◌}
+use Rattle.std.specs.Prelude.{◌≡◌, ℕ, Bool, List, map, Option, Some, None, Result, Ok, Err}
 use Rattle.lw_fixed.specs.declared.micro.Micro.{Micro}
-use Rattle.lw_words.specs.Lines.{LogicalLine, logical_lines}
-use Rattle.lw_genlib.specs.declared.fault.LibFault.TheVariants as lib_fault
 use Rattle.lw_genlib.specs.Cells.{CellParts}
-use Rattle.lw_genlib.specs.Libraries.{library_of}
-use Rattle.lw_net.specs.declared.fault.NetFault.TheVariants as whole
 use Rattle.lw_blif.specs.declared.parsed.Parsed.{Parsed}
-use Rattle.lw_blif.specs.declared.fault.BlifFault.TheVariants as fault
-use Rattle.lw_blif.specs.BlifNetworks.{IsBlifNetwork}
-use Rattle.lw_netlist.specs.declared.fault.NetlistFault.TheVariants as netlist
 use Rattle.lw_mapped.specs.declared.closing.Mapped.{Mapped as MappedParts}
-use Rattle.lw_mapped.specs.declared.fault.MappedFault.TheVariants as mapped_fault
-use Rattle.lw_mapped.specs.Unmapped.{IsUnmapped}
 use Rattle.lw_netlist.specs.Netlists.{NetlistParts}
+use Rattle.lw_netlist.specs.declared.fault.NetlistFault.TheVariants as netlist
 use Rattle.lw_verilog.specs.declared.fault.VerilogFault.TheVariants as verilog_fault
 use Rattle.lw_verilog.specs.Verdicts.{IsRead}
 use Rattle.lw_report.specs.Vectors.{first_fault, vector_of}
 use Rattle.lw_map.specs.Options.{Options}
+use Rattle.lw_files.specs.Steps.{Files, gives, followed_by}
+use Rattle.lw_files.specs.declared.fault.FileFault.TheVariants as file_fault
+use Rattle.lw_files.specs.Sources.{FileStep, lines_in}
+use Rattle.lw_files.specs.Sources as file
+use Rattle.lw_files.specs.Faults.{fault_status}
 use Rattle.lw_top.specs.declared.refusal.Refusal.{Refusal}
-use Rattle.lw_top.specs.declared.refusal.Refusal.TheVariants.{Words, Unread, TooLong, Library, Network, Undefined, Cycle, Mapped, Verilog, Twice, Undriven, NetCycle, Vector, Forms, Splits, NoCover, Points, No, NoVerilog, Memory}
+use Rattle.lw_top.specs.declared.refusal.Refusal.TheVariants.{Words, Faulty, Verilog, Vector, Forms, Splits, NoCover, Points, No, NoVerilog, Memory}
 use Rattle.lw_top.specs.declared.refusal.Which.{Which}
 use Rattle.lw_top.specs.declared.refusal.Which.TheVariants as which
-use Rattle.lw_top.specs.Steps.{Files, Step, gives, followed_by}
+use Rattle.lw_top.specs.Steps.{Step}
 use Rattle.lw_top.specs.Words.{Command, mapping, checking, timing, simulation, gate_simulation, counting, tabling, drawing, to_verilog, from_verilog, trading, command_of}
 use Rattle.lw_top.specs.Maps.{Maps}
 use Rattle.lw_top.specs.Checks.{Checks}
@@ -31,59 +28,32 @@ use Rattle.lw_top.specs.Counts.{Counts, Draws}
 use Rattle.lw_top.specs.Tables.{Tabulates}
 use Rattle.lw_top.specs.Trades.{Trades}
 use Rattle.lw_top.specs.Verilogs.{SaysVerilog, SaysMapped}
-use Rattle.lw_words.specs.Limits.{most_bytes}
 
 -- Files.
 
--- a file that is there, of at most 67,108,864 bytes
-abbrev pub within_limit : Which → Option (List ℕ) → Result (List ℕ) Refusal
-within_limit w None = Err (Unread w)
-within_limit w (Some bytes) = if nat_le (length bytes) most_bytes then Ok bytes else Err (TooLong w)
+-- a step that reads this file of the command, whose fault is a refusal that names the file
+abbrev pub in_file : {A : Type 0} → Which → FileStep A → Step A
+in_file w step files (Ok x) = step files (Ok x)
+in_file w step files (Err (Faulty v fault)) = (v ≡ w) × step files (Err fault)
+in_file w step files (Err other) = ⊥
 
--- the file is there, and it is not too long
-unfoldable pub text_of : Which → List ℕ → Files → Result (List ℕ) Refusal
-text_of w name files = within_limit w (files name)
+abbrev pub ReadsLibrary : List ℕ → Step (List CellParts)
+ReadsLibrary name = in_file which.Library (file.ReadsLibrary name)
 
--- the logical lines of a text, in which each `#` begins a comment
-abbrev pub lines_in : List ℕ → List LogicalLine
-lines_in bytes = logical_lines false bytes
+abbrev pub ReadsModel : List ℕ → Step Parsed
+ReadsModel name = in_file which.Network (file.ReadsModel name)
 
--- and those of a mapped text, in which the lines of a certificate begin with `#@`
-abbrev pub marked_lines_in : List ℕ → List LogicalLine
-marked_lines_in bytes = logical_lines true bytes
-
--- the cells that the text lists, or the first line that breaks a rule
-abbrev pub HasCells : List ℕ → Step (List CellParts)
-HasCells bytes files (Ok cells) = library_of (lines_in bytes) ≡ Ok cells
-HasCells bytes files (Err (Library line kind)) = library_of (lines_in bytes) ≡ Err (lib_fault.Line line kind)
-HasCells bytes files (Err other) = ⊥
-
--- The model of the text, or the first line that breaks a rule, or else the signal that nothing drives or that reaches itself.
-abbrev pub HasModel : List ℕ → Step Parsed
-HasModel bytes files (Ok model) = IsBlifNetwork (lines_in bytes) (Ok model)
-HasModel bytes files (Err (Network line kind)) = IsBlifNetwork (lines_in bytes) (Err (fault.Line line kind))
-HasModel bytes files (Err (Undefined name)) = IsBlifNetwork (lines_in bytes) (Err (fault.Whole (whole.Undefined name)))
-HasModel bytes files (Err (Cycle name)) = IsBlifNetwork (lines_in bytes) (Err (fault.Whole (whole.Cycle name)))
-HasModel bytes files (Err other) = ⊥
-
--- The netlist of the text by these cells, with what stands around it and its certificate, or the first line that breaks a rule, or else
--- the fault of the netlist as a whole.
-abbrev pub HasMapped : List CellParts → List ℕ → Step MappedParts
-HasMapped cells bytes files (Ok mapped) = IsUnmapped cells (marked_lines_in bytes) (Ok mapped)
-HasMapped cells bytes files (Err (Mapped line kind)) = IsUnmapped cells (marked_lines_in bytes) (Err (mapped_fault.Line line kind))
-HasMapped cells bytes files (Err (Twice name)) = IsUnmapped cells (marked_lines_in bytes) (Err (mapped_fault.Whole (netlist.Twice name)))
-HasMapped cells bytes files (Err (Undriven name)) = IsUnmapped cells (marked_lines_in bytes) (Err (mapped_fault.Whole (netlist.Undriven name)))
-HasMapped cells bytes files (Err (NetCycle name)) = IsUnmapped cells (marked_lines_in bytes) (Err (mapped_fault.Whole (netlist.Cycle name)))
-HasMapped cells bytes files (Err other) = ⊥
+abbrev pub ReadsMapped : List ℕ → List CellParts → Step MappedParts
+ReadsMapped name cells = in_file which.Mapped (file.ReadsMapped name cells)
 
 -- The netlist that the text in Verilog says by these cells, or the first line that breaks a rule, or else the fault of the netlist as a
 -- whole.
 abbrev pub HasVerilog : List CellParts → List ℕ → Step NetlistParts
 HasVerilog cells bytes files (Ok n) = IsRead cells bytes (Ok n)
 HasVerilog cells bytes files (Err (Verilog line kind)) = IsRead cells bytes (Err (verilog_fault.Line line kind))
-HasVerilog cells bytes files (Err (Twice name)) = IsRead cells bytes (Err (verilog_fault.Whole (netlist.Twice name)))
-HasVerilog cells bytes files (Err (Undriven name)) = IsRead cells bytes (Err (verilog_fault.Whole (netlist.Undriven name)))
-HasVerilog cells bytes files (Err (NetCycle name)) = IsRead cells bytes (Err (verilog_fault.Whole (netlist.Cycle name)))
+HasVerilog cells bytes files (Err (Faulty which.Mapped (file_fault.Twice name))) = IsRead cells bytes (Err (verilog_fault.Whole (netlist.Twice name)))
+HasVerilog cells bytes files (Err (Faulty which.Mapped (file_fault.Undriven name))) = IsRead cells bytes (Err (verilog_fault.Whole (netlist.Undriven name)))
+HasVerilog cells bytes files (Err (Faulty which.Mapped (file_fault.NetCycle name))) = IsRead cells bytes (Err (verilog_fault.Whole (netlist.Cycle name)))
 HasVerilog cells bytes files (Err other) = ⊥
 
 -- the values of so many inputs that each line is, or the first line that is no vector
@@ -92,20 +62,15 @@ HasVectors inputs bytes files (Ok vectors) = (first_fault inputs (lines_in bytes
 HasVectors inputs bytes files (Err (Vector line)) = first_fault inputs (lines_in bytes) ≡ Some line
 HasVectors inputs bytes files (Err other) = ⊥
 
-abbrev pub ReadsLibrary : List ℕ → Step (List CellParts)
-ReadsLibrary name = followed_by (gives (text_of which.Library name)) HasCells
-
-abbrev pub ReadsModel : List ℕ → Step Parsed
-ReadsModel name = followed_by (gives (text_of which.Network name)) HasModel
-
-abbrev pub ReadsMapped : List ℕ → List CellParts → Step MappedParts
-ReadsMapped name cells = followed_by (gives (text_of which.Mapped name)) (HasMapped cells)
+-- the text of this file of the command
+abbrev pub text_in : Which → List ℕ → Step (List ℕ)
+text_in w name = in_file w (gives (file.text_of name))
 
 abbrev pub ReadsVerilog : List ℕ → List CellParts → Step NetlistParts
-ReadsVerilog name cells = followed_by (gives (text_of which.Mapped name)) (HasVerilog cells)
+ReadsVerilog name cells = followed_by (text_in which.Mapped name) (HasVerilog cells)
 
 abbrev pub ReadsVectors : List ℕ → ℕ → Step (List (List Bool))
-ReadsVectors name inputs = followed_by (gives (text_of which.Vectors name)) (HasVectors inputs)
+ReadsVectors name inputs = followed_by (text_in which.Vectors name) (HasVectors inputs)
 
 -- Commands.
 
@@ -175,7 +140,7 @@ abbrev pub IsAnswer : List (List ℕ) → Step (List ℕ)
 IsAnswer words = IsAnswerTo (command_of words)
 
 -- two outcomes are the same refusal, or things that are alike
-abbrev pub AreAlike : {A : Type 0} → (A → A → Type 0) → Result A Refusal → Result A Refusal → Type 0
+abbrev pub AreAlike : {E A : Type 0} → (A → A → Type 0) → Result A E → Result A E → Type 0
 AreAlike Alike (Ok x) (Ok y) = Alike x y
 AreAlike Alike (Err e) (Err h) = e ≡ h
 AreAlike Alike a b = ⊥
@@ -235,23 +200,14 @@ IsReached command w files = Unit {0}
 -- the exit status of a refusal
 abbrev pub status_of : Refusal → ℕ
 status_of Words = 1
-status_of (Unread w) = 2
-status_of (Network line kind) = 3
-status_of (Undefined name) = 3
-status_of (Cycle name) = 3
-status_of (Library line kind) = 4
-status_of (TooLong w) = 5
+status_of (Faulty w fault) = fault_status fault
 status_of Forms = 5
 status_of Splits = 5
 status_of Points = 5
 status_of (NoCover name) = 6
 status_of Memory = 8
 status_of (No reason) = 9
-status_of (Mapped line kind) = 10
 status_of (Verilog line kind) = 10
-status_of (Twice name) = 10
-status_of (Undriven name) = 10
-status_of (NetCycle name) = 10
 status_of (Vector line) = 10
 status_of (NoVerilog why) = 11
 

@@ -12,12 +12,10 @@ pub mod Named
 pub mod Mapped
 pub mod Answered
 pub mod Outcome
-pub mod Kinds
 pub mod Reasons
 pub mod Telling
 pub mod Complete
 pub mod Mappings
-pub mod Texts
 pub mod Tables
 pub mod Trades
 pub mod Traded

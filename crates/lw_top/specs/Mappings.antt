@@ -19,7 +19,7 @@ use Rattle.lw_mapped.specs.declared.closing.Mapped.{Mapped}
 use Rattle.lw_mapped.specs.Texts.{mapped_text}
 use Rattle.lw_map.specs.Options.{Options}
 use Rattle.lw_map.specs.Mapped.{LacksCover}
-use Rattle.lw_top.specs.Steps.{Files}
+use Rattle.lw_files.specs.Steps.{Files}
 use Rattle.lw_top.specs.Words.{Command, mapping, checking, tabling, begun_by, mapping_begun, command_of}
 use Rattle.lw_top.specs.Answers.{ReadsLibrary, ReadsModel, ReadsMapped}
 

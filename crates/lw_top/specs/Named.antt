@@ -1,26 +1,28 @@
--- What the calls that read no file answer, and what is known of what was read.
-use Rattle.std.specs.Prelude.{ℕ, ◌≡◌, ◌≤◌, Bool, List, None, length, Result, Ok, Err}
+-- What the calls that read no file answer, what is known of what was read, and the text of an answer.
+use Rattle.std.specs.Prelude.{ℕ, ◌≡◌, Bool, List, None, Result, Ok, Err}
 use Rattle.lw_words.specs.Lines.{LogicalLine}
-use Rattle.lw_genlib.specs.Cells.{CellParts}
-use Rattle.lw_netlist.specs.Netlists.{most_gates}
-use Rattle.lw_netlist.specs.Plain.{IsOver}
-use Rattle.lw_mapped.specs.declared.closing.Mapped.{Mapped as MappedParts}
-use Rattle.lw_mapped.specs.Fitting.{IsMapped}
+use Rattle.lw_netlist.specs.declared.fault.NetlistFault.{NetlistFault}
+use Rattle.lw_netlist.specs.declared.fault.NetlistFault.TheVariants as netlist
 use Rattle.lw_mapped.specs.Texts.{mapped_text}
 use Rattle.lw_report.specs.declared.vectors.Vectors.{Vectors}
 use Rattle.lw_report.specs.Blocks.{vectors_in}
 use Rattle.lw_report.specs.Standing.{StandsFor, inputs_of, stop_of}
 use Rattle.lw_report.specs.Timings.{timing_text}
 use Rattle.lw_report.specs.Simulated.{IsNetworkSimulation, IsNetlistSimulation}
+use Rattle.lw_verilog.specs.Texts.{verilog_text}
+use Rattle.lw_lut.specs.Texts.{tables_text}
+use Rattle.lw_files.specs.declared.fault.FileFault.{FileFault}
+use Rattle.lw_files.specs.declared.fault.FileFault.TheVariants as file_fault
+use Rattle.lw_files.specs.Steps.{Files}
 use Rattle.lw_map.specs.declared.fault.MapFault.{MapFault}
 use Rattle.lw_map.specs.declared.fault.MapFault.TheVariants as map_fault
 use Rattle.lw_top.specs.declared.refusal.Refusal.{Refusal}
-use Rattle.lw_top.specs.declared.refusal.Refusal.TheVariants.{Words, Unread, TooLong, Forms, Splits, NoCover, Points, Memory}
+use Rattle.lw_top.specs.declared.refusal.Refusal.TheVariants.{Words, Faulty, Forms, Splits, NoCover, Points, Memory}
+use Rattle.lw_top.specs.declared.refusal.Which.{Which}
+use Rattle.lw_top.specs.declared.refusal.Which.TheVariants as which
+use Rattle.lw_top.specs.Steps.{Step}
 use Rattle.lw_top.specs.declared.answer.Answer.{Answer}
 use Rattle.lw_top.specs.declared.answer.Answer.TheVariants as answer
-use Rattle.lw_lut.specs.Texts.{tables_text}
-use Rattle.lw_verilog.specs.Texts.{verilog_text}
-use Rattle.lw_top.specs.Steps.{Files, Step}
 use Rattle.lw_top.specs.Checks.{yes_text}
 use Rattle.lw_top.specs.Counts.{counts_text, sizes_text}
 
@@ -32,22 +34,27 @@ map_refusal (map_fault.NoCover name) = NoCover name
 map_refusal map_fault.Points = Points
 map_refusal map_fault.Memory = Memory
 
--- The step has this outcome, whatever the files; running out of memory needs no reason, and of the words and the files nothing is refused.
+-- the refusal of a file; running out of memory is no fault of the file
+abbrev pub file_refusal : Which → FileFault → Refusal
+file_refusal w file_fault.Memory = Memory
+file_refusal w other = Faulty w other
+
+-- the refusal of a netlist in Verilog as a whole
+abbrev pub netlist_refusal : NetlistFault → Refusal
+netlist_refusal (netlist.Twice name) = Faulty which.Mapped (file_fault.Twice name)
+netlist_refusal (netlist.Undriven name) = Faulty which.Mapped (file_fault.Undriven name)
+netlist_refusal (netlist.Cycle name) = Faulty which.Mapped (file_fault.NetCycle name)
+netlist_refusal netlist.Memory = Memory
+
+-- The step has this outcome, whatever the files; running out of memory needs no reason, of the words nothing is refused, and no file is unread.
 abbrev pub Comes : {X A : Type 0} → (X → A) → Step A → Result X Refusal → Type 0
 Comes view step (Ok x) = (files : Files) → step files (Ok (view x))
 Comes view step (Err Memory) = Unit {0}
 Comes view step (Err Words) = ⊥
-Comes view step (Err (Unread w)) = ⊥
-Comes view step (Err (TooLong w)) = ⊥
+Comes view step (Err (Faulty w file_fault.Unread)) = ⊥
 Comes view step (Err other) = (files : Files) → step files (Err other)
 
 -- What was read.
-
--- a netlist of these cells, with what stands around it, of few gates
-pub record IsReadNetlist (cells : List CellParts) (mapped : MappedParts) : Type 0 where
-  pub over : IsOver cells mapped.netlist
-  pub fits : IsMapped mapped
-  pub few : length mapped.netlist.gates ≤ most_gates
 
 -- the vectors
 abbrev pub values_in : Vectors → List (List Bool)

@@ -11,7 +11,8 @@ use Rattle.lw_top.specs.Named.{IsTextOf}
 use Rattle.lw_top.specs.Steps.{Step}
 use Rattle.lw_top.specs.Answers.{status_of, IsAnswerTo}
 use Rattle.lw_top.specs.Words.{Command}
-use Rattle.lw_top.specs.Reading.{Known, HasReason, Reaches}
+use Rattle.lw_files.specs.Reading.{Known}
+use Rattle.lw_top.specs.Reading.{HasReason, Reaches}
 use Rattle.lw_top.specs.declared.outcome.Outcome.{Outcome}
 use Rattle.lw_top.specs.declared.outcome.Outcome.TheVariants.{Done, WriteFault, Refused}
 

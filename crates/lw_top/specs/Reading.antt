@@ -1,46 +1,20 @@
 -- What a call that reads files answers.
-use Rattle.std.specs.Prelude.{◌≡◌, ◌≢◌, ◌⊎◌, ℕ, ◌<◌, ◌≤◌, List, ◌++◌, length, Option, Some, Result, Ok, Err, IfErr, Bool, IsTrue, IfSome, MatchOption, vec_len}
-use Rattle.std.specs.Global.{Vec}
-use Rattle.std.specs.Option.{ForSome}
-use Rattle.std.specs.Io.KnownBytes.{Consumes, IsAtEnd}
+use Rattle.std.specs.Prelude.{◌≡◌, ◌≢◌, ◌⊎◌, ℕ, ◌≤◌, List, Option, Some, Result, Ok, Err, IfErr}
 use Rattle.lw_io.specs.declared.file.File.{File}
 use Rattle.lw_io.specs.Causes.{Rose}
 use Rattle.lw_io.specs.Files.{bytes_of}
+use Rattle.lw_files.specs.declared.fault.FileFault.TheVariants as file_fault
+use Rattle.lw_files.specs.Reading.{Known}
 use Rattle.lw_top.specs.declared.refusal.Refusal.{Refusal}
-use Rattle.lw_top.specs.declared.refusal.Refusal.TheVariants.{Words, Unread, Memory}
+use Rattle.lw_top.specs.declared.refusal.Refusal.TheVariants.{Words, Faulty, Memory}
 use Rattle.lw_top.specs.declared.refusal.Which.{Which}
 use Rattle.lw_top.specs.Steps.{Step}
-use Rattle.lw_words.specs.Limits.{most_bytes}
 use Rattle.lw_top.specs.Words.{Command}
 use Rattle.lw_top.specs.Answers.{IsFileOf, IsReached}
 
--- n bytes were read and added to the text: none only where the file ends, or where there is no room
-pub record ReadsPiece (left rest : Option (List ℕ)) (old new : List ℕ) (room n : ℕ) : Type 0 where
-  pub piece : List ℕ
-  pub count : length piece ≡ n
-  pub within : n ≤ room
-  pub added : new ≡ old ++ piece
-  pub read : Consumes left rest piece
-  pub end : n ≡ 0 → 0 < room → IsAtEnd rest
-
--- a file stays open, all files stay, and no count of faults falls
-pub record StaysOpen (told told' : Option (List File)) (before now : ℕ) (open_now : Bool) : Type 0 where
-  pub files : told' ≡ told
-  pub later : before ≤ now
-  pub is_open : IsTrue open_now
-
--- the text is all that was left of a file, or it is none where that was too long
-pub record IsTextLeft (left : Option (List ℕ)) (text : Option (Vec ℕ)) : Type 0 where
-  pub whole : ForSome left (λ bytes. MatchOption text (most_bytes < length bytes) (λ (v : Vec ℕ). (length bytes ≤ most_bytes) × (v.items ≡ bytes)))
-  pub few : IfSome text (λ (v : Vec ℕ). vec_len v ≤ most_bytes)
-
--- Over known files the step has this outcome.
-abbrev pub Known : {A : Type 0} → Option (List File) → Step A → Result A Refusal → Type 0
-Known told step outcome = (files : List File) → told ≡ Some files → step (bytes_of files) outcome
-
 -- Why a call refused: a file was not read because the count of faults rose, or because known files lack it.
 abbrev pub HasReason : {A : Type 0} → Option (List File) → ℕ → ℕ → Step A → Refusal → Type 0
-HasReason told before now step (Unread w) = Rose before now ⊎ ((files : List File) × (told ≡ Some files) × step (bytes_of files) (Err (Unread w)))
+HasReason told before now step (Faulty w file_fault.Unread) = Rose before now ⊎ ((files : List File) × (told ≡ Some files) × step (bytes_of files) (Err (Faulty w file_fault.Unread)))
 -- running out of memory needs no reason
 HasReason told before now step Memory = Unit {0}
 HasReason told before now step other = Known told step (Err other)
@@ -52,7 +26,7 @@ Reads view told before now step (Err e) = HasReason told before now step e
 
 -- a file that was not read is this one
 abbrev pub Blames : Which → Refusal → Type 0
-Blames which (Unread w) = w ≡ which
+Blames which (Faulty w file_fault.Unread) = w ≡ which
 Blames which other = Unit {0}
 
 -- A call that reads one file: what it answers is what the step says, words are not refused, and no other file is blamed. The files stay.
@@ -66,5 +40,5 @@ pub record ReadsFile {X A : Type 0} (view : X → A) {F : Type 0} (told : F → 
 -- A file that was not read is one of the command's, and its turn had come: over known files each file that the command reads before it is there, and within its limit
 -- and its grammar.
 abbrev pub Reaches : Option (List File) → Command → Refusal → Type 0
-Reaches told command (Unread w) = IsFileOf command w × ((files : List File) → told ≡ Some files → IsReached command w (bytes_of files))
+Reaches told command (Faulty w file_fault.Unread) = IsFileOf command w × ((files : List File) → told ≡ Some files → IsReached command w (bytes_of files))
 Reaches told command other = Unit {0}

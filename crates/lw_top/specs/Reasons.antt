@@ -1,9 +1,11 @@
--- The texts of the reasons for which a mapped netlist is no fastest mapping, or has no text in Verilog.
+-- The texts of the reasons for which a mapped netlist is no fastest mapping, or has no text in Verilog, and a text in Verilog is refused.
 use Rattle.std.specs.Prelude.{ℕ, List, ◌++◌, Option, Some, None, codes, decimal}
 use Rattle.lw_fixed.specs.declared.micro.Micro.{Micro}
 use Rattle.lw_fixed.specs.Printed.{decimal_text}
 use Rattle.lw_check.specs.declared.verdict.Reason.{Reason}
 use Rattle.lw_check.specs.declared.verdict.Reason.TheVariants.{Ports, Class, NotMatch, Label, Root, Value}
+use Rattle.lw_verilog.specs.declared.fault.VerilogKind.{VerilogKind}
+use Rattle.lw_verilog.specs.declared.fault.VerilogKind.TheVariants as verilog
 use Rattle.lw_verilog.specs.declared.reason.NoVerilog.{NoVerilog}
 use Rattle.lw_verilog.specs.declared.reason.NoVerilog.TheVariants.{Latches, Bytes, Same, Clash, Pins}
 
@@ -37,3 +39,14 @@ no_verilog_text (Bytes name) = codes "name " ++ (name ++ codes " has a byte outs
 no_verilog_text (Same name) = codes "output " ++ (name ++ codes " is an input")
 no_verilog_text (Clash name) = codes "model " ++ (name ++ codes " is a cell")
 no_verilog_text (Pins name) = codes "cell " ++ (name ++ codes " has one name for two pins")
+
+-- why a line of a text in Verilog is refused
+abbrev pub verilog_kind_text : VerilogKind → List ℕ
+verilog_kind_text verilog.BadByte = codes "byte not allowed"
+verilog_kind_text verilog.BadName = codes "bad name"
+verilog_kind_text verilog.Expected = codes "something else expected"
+verilog_kind_text verilog.NoCell = codes "no such cell"
+verilog_kind_text verilog.PinUnknown = codes "no such pin"
+verilog_kind_text verilog.PinTwice = codes "pin given twice"
+verilog_kind_text verilog.PinMissing = codes "pin not given"
+verilog_kind_text verilog.Port = codes "port not declared once"

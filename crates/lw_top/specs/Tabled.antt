@@ -3,7 +3,7 @@ use Rattle.std.specs.Prelude.{◌≡◌, ℕ, List, Some, Ok}
 use Rattle.lw_blif.specs.declared.parsed.Parsed.{Parsed}
 use Rattle.lw_map.specs.Options.{Options}
 use Rattle.lw_map.specs.Tabled.{IsTablesTextOf}
-use Rattle.lw_top.specs.Steps.{Files}
+use Rattle.lw_files.specs.Steps.{Files}
 use Rattle.lw_top.specs.Words.{tabling, command_of}
 use Rattle.lw_top.specs.Answers.{ReadsModel}
 

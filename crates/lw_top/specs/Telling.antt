@@ -1,14 +1,14 @@
 -- The line of each outcome.
-use Rattle.std.specs.Prelude.{◌⊎◌, ℕ, List, [], ◌∷◌, ◌++◌, Option, codes, decimal}
+use Rattle.std.specs.Prelude.{◌⊎◌, ℕ, List, [], ◌∷◌, ◌++◌, Option, codes}
 use Rattle.std.specs.Io.KnownBytes.{Appends}
 use Rattle.lw_io.specs.Causes.{Rose}
 use Rattle.lw_io.specs.Moves.{AppendsPrefix}
+use Rattle.lw_files.specs.Faults.{broken_text, fault_text}
 use Rattle.lw_top.specs.declared.refusal.Refusal.{Refusal}
-use Rattle.lw_top.specs.declared.refusal.Refusal.TheVariants.{Words, Unread, TooLong, Library, Network, Undefined, Cycle, Mapped, Verilog, Twice, Undriven, NetCycle, Vector, Forms, Splits, NoCover, Points, No, NoVerilog, Memory}
+use Rattle.lw_top.specs.declared.refusal.Refusal.TheVariants.{Words, Faulty, Verilog, Vector, Forms, Splits, NoCover, Points, No, NoVerilog, Memory}
 use Rattle.lw_top.specs.declared.refusal.Which.TheVariants as which
 use Rattle.lw_top.specs.Words.{Command, file_word}
-use Rattle.lw_top.specs.Kinds.{blif_text, lib_text, mapped_kind_text, verilog_kind_text}
-use Rattle.lw_top.specs.Reasons.{reason_text, no_verilog_text}
+use Rattle.lw_top.specs.Reasons.{reason_text, no_verilog_text, verilog_kind_text}
 use Rattle.lw_top.specs.declared.outcome.Outcome.{Outcome}
 use Rattle.lw_top.specs.declared.outcome.Outcome.TheVariants.{Done, WriteFault, Refused}
 
@@ -19,23 +19,10 @@ Told taken faults old new text = Appends (taken old) (taken new) text ⊎ (Rose 
 abbrev pub usage_text : List ℕ
 usage_text = codes "usage: map [-w K] [-i] [-c] LIB IN | check [-w K] [-i] LIB IN MAPPED | time LIB MAPPED | sim IN VECTORS | sim -g LIB MAPPED VECTORS | graph [-w K] [-i] IN | big SEED N LIB | trade [-w K] [-i] T LIB IN | lut L [-w K] [-i] IN | verilog LIB MAPPED | unverilog LIB VER"
 
--- a line of a file breaks the rule of this text
-abbrev pub broken_text : List ℕ → ℕ → List ℕ → List ℕ
-broken_text file number text = file ++ (codes " line " ++ (decimal number ++ (codes ": " ++ text)))
-
 abbrev pub refusal_text : Option Command → Refusal → List ℕ
 refusal_text command Words = usage_text
-refusal_text command (Unread w) = codes "cannot read " ++ file_word command w
-refusal_text command (TooLong w) = codes "limit: " ++ (file_word command w ++ codes " has more than 67108864 bytes")
-refusal_text command (Library line kind) = broken_text (file_word command which.Library) line (lib_text kind)
-refusal_text command (Network line kind) = broken_text (file_word command which.Network) line (blif_text kind)
-refusal_text command (Undefined name) = file_word command which.Network ++ (codes ": undefined signal " ++ name)
-refusal_text command (Cycle name) = file_word command which.Network ++ (codes ": cycle through " ++ name)
-refusal_text command (Mapped line kind) = broken_text (file_word command which.Mapped) line (mapped_kind_text kind)
+refusal_text command (Faulty w fault) = fault_text (file_word command w) fault
 refusal_text command (Verilog line kind) = broken_text (file_word command which.Mapped) line (verilog_kind_text kind)
-refusal_text command (Twice name) = file_word command which.Mapped ++ (codes ": net " ++ (name ++ codes " driven twice"))
-refusal_text command (Undriven name) = file_word command which.Mapped ++ (codes ": net " ++ (name ++ codes " not driven"))
-refusal_text command (NetCycle name) = file_word command which.Mapped ++ (codes ": cycle through " ++ name)
 refusal_text command (Vector line) = broken_text (file_word command which.Vectors) line (codes "bad vector")
 refusal_text command Forms = codes "limit: more than 2097152 forms"
 refusal_text command Splits = codes "limit: more than 16777216 splits"

@@ -12,7 +12,7 @@ use Rattle.lw_mapped.specs.Readable.{IsNamed}
 use Rattle.lw_map.specs.Options.{Options}
 use Rattle.lw_map.specs.Mapped.{LacksCover}
 use Rattle.lw_map.specs.Trading.{IsTradedNetlist}
-use Rattle.lw_top.specs.Steps.{Files}
+use Rattle.lw_files.specs.Steps.{Files}
 use Rattle.lw_top.specs.Words.{trading, command_of}
 use Rattle.lw_top.specs.Answers.{ReadsLibrary, ReadsModel}
 

@@ -1,6 +1,6 @@
 //! A law over definitions: a function with no work of its own, whose clause is the law.
 ghost use Rattle.std.specs.Prelude.{ℕ, List, Ok};
-ghost use Rattle.lw_top.specs.Steps.{Files};
+ghost use Rattle.lw_files.specs.Steps.{Files};
 ghost use Rattle.lw_top.specs.Answers.{IsAnswer};
 ghost use Rattle.lw_top.specs.Mappings.{AsksForTables};
 ghost use Rattle.lw_top.specs.Tabled.{AreTables};

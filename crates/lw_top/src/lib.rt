@@ -3,19 +3,15 @@
 
 mod answer;
 mod counting;
-mod kinds;
 mod laws;
 mod mapping;
 mod outcome;
-mod putting;
-mod reading;
 mod reasons;
 mod refusal;
 mod reports;
 mod sources;
 mod tabling;
 mod telling;
-mod texts;
 mod top;
 mod trading;
 mod verilog;

@@ -9,9 +9,9 @@ ghost use Rattle.lw_top.specs.Counts.{counts_text, sizes_text, steps_text};
 ghost use Rattle.lw_top.specs.Outcome.{Serves, WritesAnswer, WritesText};
 
 use crate::answer::{Answer, respond};
-use crate::putting::{put_count, put_number, put_time};
 use crate::refusal::Refusal;
 use crate::words::Command;
+use lw_files::{put_count, put_number, put_time};
 use lw_fixed::Micro;
 use lw_io::{Failed, Shelf, Sink, Writer, write_all};
 use lw_lut::write_tables;

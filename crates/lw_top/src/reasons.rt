@@ -1,13 +1,14 @@
 // The texts of reasons.
+ghost use Rattle.std.specs.Prelude.{◌≡◌};
 ghost use Rattle.lw_io.specs.Writers.{Writes};
-ghost use Rattle.lw_top.specs.Reasons.{label_text, label_reason, root_reason, value_reason, reason_text, no_verilog_text};
+ghost use Rattle.lw_top.specs.Reasons.{label_text, label_reason, root_reason, value_reason, reason_text, no_verilog_text, verilog_kind_text};
 
-use crate::putting::{put_count, put_number, put_three, put_time};
 use lw_check::Reason;
+use lw_files::{put_count, put_number, put_three, put_time};
 use lw_fixed::Micro;
 use lw_io::{Sink, Writer};
 use lw_pool::{ClassId, Name};
-use lw_verilog::NoVerilog;
+use lw_verilog::{NoVerilog, VerilogKind};
 
 fn put_label<S: Sink>(out: &mut Writer<'_, S>, label: Option<Micro>)
     ensures { Writes S.taken S.faults out.old out.new (label_text label) }
@@ -99,5 +100,21 @@ pub(crate) fn put_no_verilog<S: Sink>(out: &mut Writer<'_, S>, why: &NoVerilog)
                 b" has one name for two pins",
             )
         }
+    }
+}
+
+/// Why a line of a text in Verilog is refused.
+pub(crate) fn verilog_kind_text(kind: &VerilogKind) -> &[u8]
+    ensures { result.now ≡ verilog_kind_text kind.now }
+{
+    match kind {
+        VerilogKind::BadByte => b"byte not allowed",
+        VerilogKind::BadName => b"bad name",
+        VerilogKind::Expected => b"something else expected",
+        VerilogKind::NoCell => b"no such cell",
+        VerilogKind::PinUnknown => b"no such pin",
+        VerilogKind::PinTwice => b"pin given twice",
+        VerilogKind::PinMissing => b"pin not given",
+        VerilogKind::Port => b"port not declared once",
     }
 }

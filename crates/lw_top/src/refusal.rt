@@ -2,11 +2,9 @@
 ghost use Rattle.std.specs.Prelude.{◌≡◌};
 ghost use Rattle.lw_top.specs.declared.refusal.Refusal.TheVariants.{Memory};
 
-use lw_blif::BlifKind;
 use lw_check::Reason;
-use lw_genlib::LibKind;
+use lw_files::FileFault;
 use lw_map::MapFault;
-use lw_mapped::MappedKind;
 use lw_pool::Name;
 use lw_verilog::{NoVerilog, VerilogKind};
 use std::alloc::AllocError;
@@ -26,28 +24,10 @@ pub enum Which {
 pub enum Refusal {
     /// The words have none of the written forms.
     Words,
-    /// The file was not read.
-    Unread(Which),
-    /// The file has more bytes than are read.
-    TooLong(Which),
-    /// The line of the library, from 1, breaks this rule.
-    Library(u32, LibKind),
-    /// The line of the network, from 1, breaks this rule.
-    Network(u32, BlifKind),
-    /// Nothing drives this signal of the network.
-    Undefined(Name),
-    /// This signal of the network reaches itself.
-    Cycle(Name),
-    /// The line of the mapped netlist, from 1, breaks this rule.
-    Mapped(u32, MappedKind),
+    /// This file has this fault.
+    Faulty(Which, FileFault),
     /// The line of the netlist in Verilog, from 1, breaks this rule.
     Verilog(u32, VerilogKind),
-    /// This net of the mapped netlist is driven twice.
-    Twice(Name),
-    /// Nothing drives this net of the mapped netlist.
-    Undriven(Name),
-    /// This net of the mapped netlist reaches itself.
-    NetCycle(Name),
     /// The line, from 1, is no vector.
     Vector(u32),
     /// The network has more forms than are listed.
@@ -64,6 +44,21 @@ pub enum Refusal {
     NoVerilog(NoVerilog),
     /// Memory ran out.
     Memory,
+}
+
+impl Refusal {
+    ghost use Rattle.std.specs.Prelude.{◌≡◌};
+    ghost use Rattle.lw_top.specs.Named.{file_refusal};
+
+    /// The refusal of a file: running out of memory is no fault of the file.
+    pub fn of_file(which: Which, fault: FileFault) -> Refusal
+        ensures { result ≡ file_refusal which fault }
+    {
+        match fault {
+            FileFault::Memory => Refusal::Memory,
+            fault => Refusal::Faulty(which, fault),
+        }
+    }
 }
 
 impl From<AllocError> for Refusal {

@@ -3,7 +3,8 @@ ghost use Rattle.lw_blif.specs.BlifNetworks.{IsModel};
 ghost use Rattle.lw_map.specs.Options.{plain_options};
 ghost use Rattle.lw_top.specs.Answered.{Gives};
 ghost use Rattle.lw_top.specs.Checks.{Checks};
-ghost use Rattle.lw_top.specs.Named.{IsReadNetlist, AreReadVectors, values_in};
+ghost use Rattle.lw_files.specs.Read.{IsReadNetlist};
+ghost use Rattle.lw_top.specs.Named.{AreReadVectors, values_in};
 ghost use Rattle.lw_top.specs.Reports.{Times, Simulates, SimulatesNetlist};
 
 use crate::answer::{Answer, Answered};

@@ -1,43 +1,26 @@
-// What the files of a command say.
-ghost use Rattle.std.specs.Prelude.{◌≤◌, length, IfOk};
+// The files of a command, each with its name for the line that tells its fault.
+ghost use Rattle.std.specs.Prelude.{◌≡◌, ◌≤◌, length, vec_len, IfOk};
+ghost use Rattle.lw_words.specs.Limits.{most_bytes};
 ghost use Rattle.lw_netlist.specs.Plain.{IsOver};
 ghost use Rattle.lw_blif.specs.BlifNetworks.{IsModel};
+ghost use Rattle.lw_files.specs.Read.{IsReadNetlist};
 ghost use Rattle.lw_top.specs.declared.refusal.Which.TheVariants as which;
-ghost use Rattle.lw_top.specs.Answers.{HasCells, HasModel, HasMapped, HasVerilog, HasVectors, ReadsLibrary, ReadsModel, ReadsMapped, ReadsVerilog, ReadsVectors};
+ghost use Rattle.lw_top.specs.Answers.{text_in, HasVerilog, HasVectors, ReadsLibrary, ReadsModel, ReadsMapped, ReadsVerilog, ReadsVectors};
 ghost use Rattle.lw_top.specs.Reading.{ReadsFile};
-ghost use Rattle.lw_top.specs.Named.{Comes, values_in, IsReadNetlist, AreReadVectors};
-ghost use Rattle.lw_words.specs.Limits.{most_bytes};
+ghost use Rattle.lw_top.specs.Named.{Comes, netlist_refusal, values_in, AreReadVectors};
 
-use crate::reading::read_file;
 use crate::refusal::{Refusal, Which};
-use crate::texts::read_lines;
-use lw_blif::{BlifFault, Parsed, Reader};
-use lw_genlib::{LibFault, LibReader, Library};
+use lw_blif::Parsed;
+use lw_files::{FileFault, TakesLines, read_file, read_lines};
+use lw_genlib::Library;
 use lw_io::Shelf;
-use lw_mapped::{Mapped, MappedFault, MappedReader};
-use lw_net::NetFault;
+use lw_mapped::Mapped;
 use lw_netlist::{Netlist, NetlistFault};
 use lw_pool::Bytes;
 use lw_report::{VectorFault, Vectors};
 use lw_verilog::{VerilogFault, read_verilog};
+use lw_words::Line;
 use std::alloc::Global;
-
-// The library of a text.
-fn library_in(alloc: Global, bytes: &[u8]) -> Result<Library, Refusal>
-    requires { length bytes.now ≤ most_bytes }
-    ensures { Comes (λ cells. cells) (HasCells bytes.now) result }
-{
-    let mut reader = LibReader::new(alloc);
-    if read_lines(alloc, bytes, false, &(), &mut reader).is_err() {
-        drop(reader);
-        return Err(Refusal::Memory);
-    }
-    match reader.end() {
-        Ok(library) => Ok(library),
-        Err(LibFault::Line(line, kind)) => Err(Refusal::Library(line, kind)),
-        Err(LibFault::Memory) => Err(Refusal::Memory),
-    }
-}
 
 /// The library of a file.
 pub(crate) fn read_library<F: Shelf>(
@@ -48,27 +31,9 @@ pub(crate) fn read_library<F: Shelf>(
     ensures { ReadsFile (λ cells. cells) F.files F.faults shelf.old shelf.new which.Library
         (ReadsLibrary name.now) result }
 {
-    let bytes = read_file(alloc, shelf, Which::Library, name)?;
-    library_in(alloc, &bytes)
-}
-
-// The model of a text.
-fn model_in(alloc: Global, bytes: &[u8]) -> Result<Parsed, Refusal>
-    requires { length bytes.now ≤ most_bytes }
-    ensures comes { Comes (λ model. model) (HasModel bytes.now) result }
-    ensures model { IfOk result IsModel }
-{
-    let mut reader = Reader::new(alloc);
-    if read_lines(alloc, bytes, false, &(), &mut reader).is_err() {
-        drop(reader);
-        return Err(Refusal::Memory);
-    }
-    match reader.end() {
-        Ok(model) => Ok(model),
-        Err(BlifFault::Line(line, kind)) => Err(Refusal::Network(line, kind)),
-        Err(BlifFault::Whole(NetFault::Undefined(name))) => Err(Refusal::Undefined(name)),
-        Err(BlifFault::Whole(NetFault::Cycle(name))) => Err(Refusal::Cycle(name)),
-        Err(BlifFault::Whole(NetFault::Memory)) | Err(BlifFault::Memory) => Err(Refusal::Memory),
+    match lw_files::read_library(alloc, shelf, name) {
+        Ok(library) => Ok(library),
+        Err(fault) => Err(Refusal::of_file(Which::Library, fault)),
     }
 }
 
@@ -82,30 +47,9 @@ pub(crate) fn read_model<F: Shelf>(
         (ReadsModel name.now) result }
     ensures model { IfOk result IsModel }
 {
-    let bytes = read_file(alloc, shelf, Which::Network, name)?;
-    model_in(alloc, &bytes)
-}
-
-// The mapped netlist of a text.
-fn mapped_in(alloc: Global, library: &Library, bytes: &[u8]) -> Result<Mapped, Refusal>
-    requires { length bytes.now ≤ most_bytes }
-    ensures comes { Comes (λ mapped. mapped) (HasMapped library.now bytes.now) result }
-    ensures kept { IfOk result (IsReadNetlist library.now) }
-{
-    let mut reader = MappedReader::new(alloc);
-    if read_lines(alloc, bytes, true, library, &mut reader).is_err() {
-        drop(reader);
-        return Err(Refusal::Memory);
-    }
-    match reader.end(library) {
-        Ok(mapped) => Ok(mapped),
-        Err(MappedFault::Line(line, kind)) => Err(Refusal::Mapped(line, kind)),
-        Err(MappedFault::Whole(NetlistFault::Twice(name))) => Err(Refusal::Twice(name)),
-        Err(MappedFault::Whole(NetlistFault::Undriven(name))) => Err(Refusal::Undriven(name)),
-        Err(MappedFault::Whole(NetlistFault::Cycle(name))) => Err(Refusal::NetCycle(name)),
-        Err(MappedFault::Whole(NetlistFault::Memory)) | Err(MappedFault::Memory) => {
-            Err(Refusal::Memory)
-        }
+    match lw_files::read_model(alloc, shelf, name) {
+        Ok(model) => Ok(model),
+        Err(fault) => Err(Refusal::of_file(Which::Network, fault)),
     }
 }
 
@@ -120,8 +64,27 @@ pub(crate) fn read_mapped<F: Shelf>(
         (ReadsMapped name.now library.now) result }
     ensures kept { IfOk result (IsReadNetlist library.now) }
 {
-    let bytes = read_file(alloc, shelf, Which::Mapped, name)?;
-    mapped_in(alloc, library, &bytes)
+    match lw_files::read_mapped(alloc, library, shelf, name) {
+        Ok(mapped) => Ok(mapped),
+        Err(fault) => Err(Refusal::of_file(Which::Mapped, fault)),
+    }
+}
+
+// The text of a file.
+fn read_text<F: Shelf>(
+    alloc: Global,
+    shelf: &mut F,
+    which: Which,
+    name: &str,
+) -> Result<Vec<u8>, Refusal>
+    ensures few { IfOk result (λ v. vec_len v ≤ most_bytes) }
+    ensures reads { ReadsFile (λ v. v.items) F.files F.faults shelf.old shelf.new which
+        (text_in which name.now) result }
+{
+    match read_file(alloc, shelf, name) {
+        Ok(bytes) => Ok(bytes),
+        Err(fault) => Err(Refusal::of_file(which, fault)),
+    }
 }
 
 // The netlist of a text in Verilog.
@@ -133,12 +96,20 @@ fn netlist_in(alloc: Global, library: &Library, bytes: Bytes) -> Result<Netlist,
     match read_verilog(alloc, &bytes, library) {
         Ok(netlist) => Ok(netlist),
         Err(VerilogFault::Line(line, kind)) => Err(Refusal::Verilog(line, kind)),
-        Err(VerilogFault::Whole(NetlistFault::Twice(name))) => Err(Refusal::Twice(name)),
-        Err(VerilogFault::Whole(NetlistFault::Undriven(name))) => Err(Refusal::Undriven(name)),
-        Err(VerilogFault::Whole(NetlistFault::Cycle(name))) => Err(Refusal::NetCycle(name)),
-        Err(VerilogFault::Whole(NetlistFault::Memory)) | Err(VerilogFault::Memory) => {
-            Err(Refusal::Memory)
-        }
+        Err(VerilogFault::Whole(fault)) => Err(of_netlist(fault)),
+        Err(VerilogFault::Memory) => Err(Refusal::Memory),
+    }
+}
+
+// The refusal of a netlist as a whole.
+fn of_netlist(fault: NetlistFault) -> Refusal
+    ensures { result ≡ netlist_refusal fault }
+{
+    match fault {
+        NetlistFault::Twice(name) => Refusal::Faulty(Which::Mapped, FileFault::Twice(name)),
+        NetlistFault::Undriven(name) => Refusal::Faulty(Which::Mapped, FileFault::Undriven(name)),
+        NetlistFault::Cycle(name) => Refusal::Faulty(Which::Mapped, FileFault::NetCycle(name)),
+        NetlistFault::Memory => Refusal::Memory,
     }
 }
 
@@ -153,8 +124,26 @@ pub(crate) fn read_netlist<F: Shelf>(
         (ReadsVerilog name.now library.now) result }
     ensures over { IfOk result (IsOver library.now) }
 {
-    let bytes = read_file(alloc, shelf, Which::Mapped, name)?;
+    let bytes = read_text(alloc, shelf, Which::Mapped, name)?;
     netlist_in(alloc, library, Bytes::new(bytes))
+}
+
+// How many values each vector has.
+#[derive(Drop)]
+struct Inputs(u32);
+
+impl TakesLines<Inputs> for Vectors {
+    ghost use Rattle.std.specs.Prelude.{◌≡◌};
+    ghost use Rattle.lw_report.specs.Standing.{StandsFor, inputs_of};
+
+    ghost given = { λ v over lines. (inputs_of v ≡ over.0) × StandsFor v lines };
+
+    ghost accepts = { λ line. Unit {0} };
+
+    fn take_line(&mut self, _over: &Inputs, line: &Line) {
+        // The vectors keep a fault, which `fault` reports when all lines are given.
+        let _ = self.line(line);
+    }
 }
 
 // The vectors of a text.
@@ -164,7 +153,7 @@ fn vectors_in(alloc: Global, inputs: u32, bytes: &[u8]) -> Result<Vectors, Refus
     ensures kept { IfOk result (AreReadVectors inputs) }
 {
     let mut vectors = Vectors::new(alloc, inputs);
-    read_lines(alloc, bytes, false, &inputs, &mut vectors)?;
+    read_lines(alloc, bytes, false, &Inputs(inputs), &mut vectors)?;
     match vectors.fault() {
         None => Ok(vectors),
         Some(VectorFault::Line(line)) => Err(Refusal::Vector(line)),
@@ -183,6 +172,6 @@ pub(crate) fn read_vectors<F: Shelf>(
         (ReadsVectors name.now inputs) result }
     ensures kept { IfOk result (AreReadVectors inputs) }
 {
-    let bytes = read_file(alloc, shelf, Which::Vectors, name)?;
+    let bytes = read_text(alloc, shelf, Which::Vectors, name)?;
     vectors_in(alloc, inputs, &bytes)
 }

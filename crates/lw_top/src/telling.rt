@@ -5,15 +5,14 @@ ghost use Rattle.lw_io.specs.Writers.{Writes};
 ghost use Rattle.lw_top.specs.Words.{file_word};
 ghost use Rattle.lw_top.specs.Commands.{asked};
 ghost use Rattle.lw_top.specs.Reasons.{reason_text, no_verilog_text};
-ghost use Rattle.lw_top.specs.Telling.{outcome_line, refusal_line, refusal_text, broken_text};
+ghost use Rattle.lw_top.specs.Telling.{outcome_line, refusal_line, refusal_text};
 
-use crate::kinds::{blif_text, lib_text, mapped_kind_text, verilog_kind_text};
 use crate::outcome::Outcome;
-use crate::putting::{put_four, put_number, put_three, put_two};
-use crate::reasons::{put_no_verilog, put_reason};
+use crate::reasons::{put_no_verilog, put_reason, verilog_kind_text};
 use crate::refusal::{Refusal, Which};
 use crate::words::{Command, file_word};
 use lw_check::Reason;
+use lw_files::{put_broken, put_fault, put_two};
 use lw_io::{Failed, Sink, Writer};
 use lw_verilog::NoVerilog;
 
@@ -51,40 +50,26 @@ fn put_line<E: Sink>(command: Option<Command<'_>>, refusal: &Refusal, out: &mut 
     out.put(b"\n");
 }
 
-// A line of a file breaks the rule of this text.
-fn put_broken<E: Sink>(out: &mut Writer<'_, E>, file: &[u8], number: u32, text: &[u8])
-    ensures { Writes E.taken E.faults out.old out.new (broken_text file.now number text.now) }
-{
-    out.put(file);
-    out.put(b" line ");
-    put_number(out, u128::from(number));
-    out.put(b": ");
-    out.put(text);
-}
-
 // Why there is no answer.
 fn put_refusal<E: Sink>(command: Option<Command<'_>>, refusal: &Refusal, out: &mut Writer<'_, E>)
     ensures { Writes E.taken E.faults out.old out.new
         (refusal_text (asked command.entry) refusal.now) }
 {
-    let library = file_word(command, Which::Library);
-    let network = file_word(command, Which::Network);
-    let mapped = file_word(command, Which::Mapped);
-    let vectors = file_word(command, Which::Vectors);
     match refusal {
         Refusal::Words => out.put(USAGE),
-        Refusal::Unread(w) => put_two(out, b"cannot read ", file_word(command, *w)),
-        Refusal::TooLong(w) => put_three(out, LIMIT, file_word(command, *w), TOO_LONG),
-        Refusal::Library(n, kind) => put_broken(out, library, *n, lib_text(kind)),
-        Refusal::Network(n, kind) => put_broken(out, network, *n, blif_text(kind)),
-        Refusal::Undefined(s) => put_three(out, network, UNDEFINED, s.as_bytes()),
-        Refusal::Cycle(s) => put_three(out, network, CYCLE, s.as_bytes()),
-        Refusal::Mapped(n, kind) => put_broken(out, mapped, *n, mapped_kind_text(kind)),
-        Refusal::Verilog(n, kind) => put_broken(out, mapped, *n, verilog_kind_text(kind)),
-        Refusal::Twice(net) => put_four(out, mapped, NET, net.as_bytes(), TWICE),
-        Refusal::Undriven(net) => put_four(out, mapped, NET, net.as_bytes(), UNDRIVEN),
-        Refusal::NetCycle(net) => put_three(out, mapped, CYCLE, net.as_bytes()),
-        Refusal::Vector(n) => put_broken(out, vectors, *n, b"bad vector"),
+        Refusal::Faulty(w, fault) => put_fault(out, file_word(command, *w), fault),
+        Refusal::Verilog(n, kind) => put_broken(
+            out,
+            file_word(command, Which::Mapped),
+            *n,
+            verilog_kind_text(kind),
+        ),
+        Refusal::Vector(n) => put_broken(
+            out,
+            file_word(command, Which::Vectors),
+            *n,
+            b"bad vector",
+        ),
         Refusal::Forms => out.put(b"limit: more than 2097152 forms"),
         Refusal::Splits => out.put(b"limit: more than 16777216 splits"),
         Refusal::NoCover(s) => put_two(out, b"no cover for output ", s.as_bytes()),
@@ -109,20 +94,6 @@ fn put_unsaid<E: Sink>(out: &mut Writer<'_, E>, why: &NoVerilog)
     out.put(b"no verilog: ");
     put_no_verilog(out, why);
 }
-
-const LIMIT: &[u8] = b"limit: ";
-
-const TOO_LONG: &[u8] = b" has more than 67108864 bytes";
-
-const UNDEFINED: &[u8] = b": undefined signal ";
-
-const CYCLE: &[u8] = b": cycle through ";
-
-const NET: &[u8] = b": net ";
-
-const TWICE: &[u8] = b" driven twice";
-
-const UNDRIVEN: &[u8] = b" not driven";
 
 const USAGE: &[u8] =
     b"usage: map [-w K] [-i] [-c] LIB IN | check [-w K] [-i] LIB IN MAPPED | time LIB MAPPED | sim IN VECTORS | sim -g LIB MAPPED VECTORS | graph [-w K] [-i] IN | big SEED N LIB | trade [-w K] [-i] T LIB IN | lut L [-w K] [-i] IN | verilog LIB MAPPED | unverilog LIB VER";

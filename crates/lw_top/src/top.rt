@@ -3,10 +3,11 @@ ghost use Rattle.std.specs.Prelude.{◌≡◌, ◌≢◌, ◌≤◌, ◌⊎◌, 
 ghost use Rattle.lw_io.specs.declared.file.File.{File};
 ghost use Rattle.lw_io.specs.Causes.{Rose};
 ghost use Rattle.lw_io.specs.Files.{bytes_of};
+ghost use Rattle.lw_files.specs.declared.fault.FileFault.{FileFault};
 ghost use Rattle.lw_top.specs.declared.refusal.Which.{Which};
 ghost use Rattle.lw_top.specs.Words.{Command, command_of};
 ghost use Rattle.lw_top.specs.Answers.{IsAnswer, IsFileOf, IsReached, status_in, status_of};
-ghost use Rattle.lw_top.specs.Reading.{Known};
+ghost use Rattle.lw_files.specs.Reading.{Known};
 ghost use Rattle.lw_top.specs.Mappings.{AsksForMapping, AsksForCheck, AsksForTables, IsMappingText, LacksOutput, IsCheckedMapping};
 ghost use Rattle.lw_top.specs.Tabled.{AreTables};
 ghost use Rattle.lw_top.specs.Traded.{AsksForTrade, IsTrade, LacksTradedOutput};
@@ -113,7 +114,7 @@ pub fn run<F: Shelf, O: Sink, E: Sink>(
         (command_of (map string_bytes words.now.items) ≡ Some command)
         × IsFileOf command w × ((files : List File) → F.files shelf.old ≡ Some files →
         IsReached command w (bytes_of files))
-        × Told E.taken E.faults err.old err.new (refusal_line (Some command) (Refusal.Unread w))) }
+        × Told E.taken E.faults err.old err.new (refusal_line (Some command) (Refusal.Faulty w FileFault.Unread))) }
 
     // Words of no form are reported as such, whatever the files.
     ensures words { (result ≡ 1) ↔ (command_of (map string_bytes words.now.items) ≡ None) }
@@ -154,19 +155,12 @@ fn status_of(refusal: &Refusal) -> u8
 {
     match refusal {
         Refusal::Words => 1,
-        Refusal::Unread(_) => 2,
-        Refusal::Network(..) | Refusal::Undefined(_) | Refusal::Cycle(_) => 3,
-        Refusal::Library(..) => 4,
-        Refusal::TooLong(_) | Refusal::Forms | Refusal::Splits | Refusal::Points => 5,
+        Refusal::Faulty(_, fault) => fault.status(),
+        Refusal::Forms | Refusal::Splits | Refusal::Points => 5,
         Refusal::NoCover(_) => 6,
         Refusal::Memory => 8,
         Refusal::No(_) => 9,
-        Refusal::Mapped(..)
-        | Refusal::Twice(_)
-        | Refusal::Undriven(_)
-        | Refusal::NetCycle(_)
-        | Refusal::Verilog(..)
-        | Refusal::Vector(_) => 10,
+        Refusal::Verilog(..) | Refusal::Vector(_) => 10,
         Refusal::NoVerilog(_) => 11,
     }
 }

@@ -3,7 +3,7 @@ ghost use Rattle.std.specs.Prelude.{◌≡◌, None, IfOk, IfErr, Err};
 ghost use Rattle.lw_netlist.specs.Plain.{IsOver};
 ghost use Rattle.lw_verilog.specs.Sayable.{refused};
 ghost use Rattle.lw_top.specs.Answered.{Gives};
-ghost use Rattle.lw_top.specs.Named.{IsReadNetlist};
+ghost use Rattle.lw_files.specs.Read.{IsReadNetlist};
 ghost use Rattle.lw_top.specs.Counts.{at_once};
 ghost use Rattle.lw_top.specs.Verilogs.{SaysVerilog, SaysMapped, whole_frame};
 

@@ -1,7 +1,7 @@
 use Rattle.std.proofs.Common.{◌∙◌, arith}
 use Rattle.std.proofs.lemmas.Result.{err_from_is_err_and}
 use Rattle.lw_top.specs.declared.refusal.Which.TheVariants as which
-use Rattle.lw_top.specs.Steps.{followed_by}
+use Rattle.lw_files.specs.Steps.{followed_by}
 use Rattle.lw_top.specs.Words.{timing}
 use Rattle.lw_top.specs.Reports.{Times}
 use Rattle.lw_top.specs.Answers.{ReadsLibrary, ReadsMapped}

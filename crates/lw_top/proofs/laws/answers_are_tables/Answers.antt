@@ -3,7 +3,7 @@ use Rattle.lw_map.specs.Tabled.{IsTablesTextOf}
 use Rattle.lw_top.specs.Words.{tabling}
 use Rattle.lw_top.proofs.Asked.{asked_text, names_read}
 use Rattle.lw_top.proofs.InRange.{command_in_range}
-use Rattle.lw_top.proofs.Sound.{model_kept}
+use Rattle.lw_files.proofs.Kept.{model_kept}
 use Rattle.lw_top.proofs.TableAnswers.{tabulated, readable_names}
 use Rattle.lw_top.proofs.laws.answers_are_tables.Goals as goal
 

@@ -8,7 +8,7 @@ use Rattle.lw_blif.specs.declared.parsed.Parsed.{Parsed}
 use Rattle.lw_mapped.specs.declared.closing.Mapped.{Mapped}
 use Rattle.lw_top.specs.declared.refusal.Refusal.{Refusal}
 use Rattle.lw_top.specs.declared.refusal.Refusal.TheVariants.{Forms, Splits}
-use Rattle.lw_top.specs.Steps.{Files}
+use Rattle.lw_files.specs.Steps.{Files}
 use Rattle.lw_top.specs.Maps.{LacksGraph}
 use Rattle.lw_map.specs.Options.{Options, plain_options}
 use Rattle.lw_net.specs.Ports.{output_port}

@@ -1,17 +1,10 @@
-use Rattle.std.proofs.Common.{subst}
-use Rattle.std.proofs.lemmas.Result.{err_from_is_err_and}
+use Rattle.lw_files.specs.Sources as file
 use Rattle.lw_top.specs.declared.refusal.Which.TheVariants as which
-use Rattle.lw_top.specs.Answers.{HasCells}
-use Rattle.lw_top.specs.Named.{Comes}
-use Rattle.lw_top.proofs.Comings.{bytes_refused, bytes_read}
+use Rattle.lw_top.proofs.Files.{file_faulty, file_read}
 use Rattle.lw_top.proofs.sources.read_library.Goals as goal
 
-pub returns-in_err-bytes : goal.returns-in_err-bytes
-returns-in_err-bytes g c =
-    let p = err_from_is_err_and c.from_residual.result c.from_residual.ensures.1 in
-    rw (p.1, p.2) (bytes_refused _ (λ cells. cells) _ _ _ _ which.Library c.args.name.now HasCells _ c.in_err-bytes.ensures.reads)
+pub returns-in-Ok : goal.returns-in-Ok
+returns-in-Ok g c = file_read (λ cells. cells) _ _ _ _ which.Library (file.ReadsLibrary c.args.name.now) c.in-Ok.library c.in-Ok.ensures
 
-pub returns : goal.returns
-returns g c =
-    bytes_read _ (λ cells. cells) _ _ _ _ which.Library c.args.name.now HasCells c.in_ok-bytes.bytes c.library_in.result c.in_ok-bytes.ensures.reads
-    (subst (λ b. Comes (λ cells. cells) (HasCells b) c.library_in.result) c.deref.ensures.value c.library_in.ensures)
+pub returns-in-Err : goal.returns-in-Err
+returns-in-Err g c = file_faulty (λ cells. cells) _ _ _ _ which.Library (file.ReadsLibrary c.args.name.now) c.in-Err.fault _ c.of_file.ensures c.in-Err.ensures

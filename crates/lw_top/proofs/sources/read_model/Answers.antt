@@ -1,17 +1,10 @@
-use Rattle.std.proofs.Common.{subst}
-use Rattle.std.proofs.lemmas.Result.{err_from_is_err_and}
+use Rattle.lw_files.specs.Sources as file
 use Rattle.lw_top.specs.declared.refusal.Which.TheVariants as which
-use Rattle.lw_top.specs.Answers.{HasModel}
-use Rattle.lw_top.specs.Named.{Comes}
-use Rattle.lw_top.proofs.Comings.{bytes_refused, bytes_read}
+use Rattle.lw_top.proofs.Files.{file_faulty, file_read}
 use Rattle.lw_top.proofs.sources.read_model.Goals as goal
 
-pub returns-in_err-bytes-clause-reads : goal.returns-in_err-bytes-clause-reads
-returns-in_err-bytes-clause-reads g c =
-    let p = err_from_is_err_and c.from_residual.result c.from_residual.ensures.1 in
-    rw (p.1, p.2) (bytes_refused _ (λ model. model) _ _ _ _ which.Network c.args.name.now HasModel _ c.in_err-bytes.ensures.reads)
+pub returns-in-Ok-clause-reads : goal.returns-in-Ok-clause-reads
+returns-in-Ok-clause-reads g c = file_read (λ model. model) _ _ _ _ which.Network (file.ReadsModel c.args.name.now) c.in-Ok.model c.in-Ok.ensures.reads
 
-pub returns-clause-reads : goal.returns-clause-reads
-returns-clause-reads g c =
-    bytes_read _ (λ model. model) _ _ _ _ which.Network c.args.name.now HasModel c.in_ok-bytes.bytes c.model_in.result c.in_ok-bytes.ensures.reads
-    (subst (λ b. Comes (λ model. model) (HasModel b) c.model_in.result) c.deref.ensures.value c.model_in.ensures.comes)
+pub returns-in-Err-clause-reads : goal.returns-in-Err-clause-reads
+returns-in-Err-clause-reads g c = file_faulty (λ model. model) _ _ _ _ which.Network (file.ReadsModel c.args.name.now) c.in-Err.fault _ c.of_file.ensures c.in-Err.ensures.reads
