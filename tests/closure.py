@@ -21,9 +21,9 @@ CRATES = Path(__file__).resolve().parent.parent / "crates"
 CLAUSES = {
     "mapping": ("lw_top.specs.Mappings.IsMappingText", 45, 1500, 600),
     "no_cover": ("lw_top.specs.Mappings.LacksOutput", 45, 1350, 500),
-    "checked": ("lw_top.specs.Mappings.IsCheckedMapping", 56, 2000, 560),
-    "tables": ("lw_top.specs.Tabled.AreTables", 36, 1050, 380),
-    "trading": ("lw_top.specs.Traded.IsTrade", 56, 1850, 640),
+    "checked": ("lw_top.specs.Mappings.IsCheckedMapping", 57, 2000, 560),
+    "tables": ("lw_top.specs.Tabled.AreTables", 37, 1050, 380),
+    "trading": ("lw_top.specs.Traded.IsTrade", 57, 1850, 640),
     "complete": ("lw_top.specs.Answers.IsAnswer", 120, 3700, 2350),
 }
 
