@@ -9,11 +9,11 @@ use Rattle.lw_top.specs.Mappings.{map_words}
 -- words of this form are the command's
 pub map_asked : (words : List (List ℕ)) (c : Command) → map_words words ≡ Some c → command_of words ≡ Some c
 map_asked [] c e = cc
-map_asked (name ∷ words) c e = by_name (bytes_eq name (codes "map")) e
+map_asked (name ∷ words) c e = by_name (mapping_begun (begun_by words)) _ (bytes_eq name (codes "map")) e
   where
-    by_name : {one other : Option Command} (t : Bool) → (if t then one else None) ≡ Some c → (if t then one else other) ≡ Some c
-    by_name true s = s
-    by_name false s = cc
+    by_name : (one other : Option Command) (t : Bool) → (if t then one else None) ≡ Some c → (if t then one else other) ≡ Some c
+    by_name one other true s = s
+    by_name one other false s = cc
 
 module _ (options : Options) (certified : Bool) (library network : List ℕ) where
   abbrev own : Command
