@@ -21,10 +21,10 @@ CRATES = Path(__file__).resolve().parent.parent / "crates"
 CLAUSES = {
     "mapping": ("lw_top.specs.Mappings.IsMappingText", 45, 1500, 600),
     "no_cover": ("lw_top.specs.Mappings.LacksOutput", 45, 1350, 500),
-    "checked": ("lw_top.specs.Mappings.IsCheckedMapping", 57, 2000, 560),
-    "tables": ("lw_top.specs.Tabled.AreTables", 37, 1050, 380),
-    "trading": ("lw_top.specs.Traded.IsTrade", 57, 1850, 640),
-    "complete": ("lw_top.specs.Answers.IsAnswer", 120, 3700, 2350),
+    "checked": ("lw_top.specs.Mappings.IsCheckedMapping", 60, 2050, 600),
+    "tables": ("lw_top.specs.Tabled.AreTables", 40, 1050, 400),
+    "trading": ("lw_top.specs.Traded.IsTrade", 60, 1900, 650),
+    "complete": ("lw_top.specs.Answers.IsAnswer", 125, 3750, 2400),
 }
 
 # The definitions that say the formats of texts, of words and of names in texts.

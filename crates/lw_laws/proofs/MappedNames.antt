@@ -24,7 +24,7 @@ use Rattle.lw_laws.proofs.ExtractLaws.{gate_once, net_once}
 use Rattle.lw_laws.proofs.NameLaws.{names_differ, names_owned}
 use Rattle.lw_laws.proofs.Numbers.{slice_get_map, slice_get_map_back}
 use Rattle.lw_laws.proofs.Listed.{come_first}
-use Rattle.lw_laws.proofs.Sound.{network_is_sound}
+use Rattle.lw_laws.proofs.Sound.{network_is_sound, netlist_of_sops}
 
 length_both : {X : Type 0} (xs ys : List X) → length (xs ++ ys) ≡ length xs + length ys
 length_both [] ys = omega arith
@@ -129,5 +129,5 @@ module _ (mode : Mode) (inputs : ℕ) (o : Listing) (form : ℕ → Form) (sound
 
 -- the same for the netlist that a network is mapped to
 pub net_names_are : (mode : Mode) (width : ℕ) (net : Network) (ports : Ports) (pats : List Pattern) (timing : Timing) (cap : ℕ) (n : Netlist) (names : List (List ℕ)) (mapped : Ports) → 2 ≤ width → IsNetlistOf mode width net ports pats timing cap n names mapped → ArePortNames net ports → 1 + (length n.gates + (length ports.inputs + length ports.outputs)) < 2 ^ 64 → AreNetNames n names mapped
-net_names_are mode width net ports pats timing cap n names mapped wide =
-    form_names_are mode net.inputs (listing_of width net) (sop_at (signals_of width net)) (network_is_sound width wide net) net refl (input_sop width net) ports pats timing cap n names mapped
+net_names_are mode width net ports pats timing cap n names mapped wide is =
+    form_names_are mode net.inputs (listing_of width net) (sop_at (signals_of width net)) (network_is_sound width wide net) net refl (input_sop width net) ports pats timing cap n names mapped (netlist_of_sops mode width net ports pats timing cap n names mapped is)

@@ -32,7 +32,7 @@ use Rattle.lw_laws.specs.Mapped.{IsPotentialOf, forms_of, root_class, IsMappedOv
 use Rattle.lw_laws.specs.Headline.{Port, Ports, MapsForms, IsMapping, HasLeastTime, HasLeastArrival, HasNoCoverOf, HasNoCover}
 use Rattle.lw_laws.specs.MappedNetlists.{form_classes, HasPorts, IsNetlistOfForms, IsNetlistOf}
 use Rattle.lw_laws.proofs.Listed.{occurring_is_listing}
-use Rattle.lw_laws.proofs.Sound.{network_is_sound}
+use Rattle.lw_laws.proofs.Sound.{network_is_sound, netlist_of_sops}
 use Rattle.lw_laws.proofs.Covering.{cover_costs, cost_covered}
 use Rattle.lw_laws.proofs.NetlistValues.{some_arrivals}
 use Rattle.lw_laws.proofs.ExtractLaws.{ordered_and_mapped, extracted_arrivals}
@@ -157,15 +157,15 @@ module _ (mode : Mode) (width : ℕ) (net : Network) (ports : Ports) (pats : Lis
 
   pub netlist_leaf_labels : (n : Netlist) (names : List (List ℕ)) (mapped : Ports) → 2 ≤ width → ArePatterns (map length timing.delays) pats → (is : IsNetlistOf mode width net ports pats timing cap n names mapped) → HaveLeafLabels is.graph (delay_cost timing cap) (labels_in is.labels)
   netlist_leaf_labels n names mapped wide patterns is =
-      form_leaf_labels mode net.inputs (listing_of width net) sop (network_is_sound width wide net) ports pats timing cap n names mapped patterns is
+      form_leaf_labels mode net.inputs (listing_of width net) sop (network_is_sound width wide net) ports pats timing cap n names mapped patterns (netlist_of_sops mode width net ports pats timing cap n names mapped is)
 
   pub netlist_by_depth : (n : Netlist) (names : List (List ℕ)) (mapped : Ports) → 2 ≤ width → ArePatterns (map length timing.delays) pats → IsNetlistOf mode width net ports pats timing cap n names mapped → AreByDepth n
   netlist_by_depth n names mapped wide patterns is =
-      form_by_depth mode net.inputs (listing_of width net) sop (network_is_sound width wide net) ports pats timing cap n names mapped patterns is
+      form_by_depth mode net.inputs (listing_of width net) sop (network_is_sound width wide net) ports pats timing cap n names mapped patterns (netlist_of_sops mode width net ports pats timing cap n names mapped is)
 
   pub netlist_maps : (truth : CellTruth) (n : Netlist) (names : List (List ℕ)) (mapped : Ports) → 2 ≤ width → IsInOrder net → net.inputs < 2 ^ 32 → HasPorts net ports → ArePatterns (map length timing.delays) pats → HaveCellTruths (map length timing.delays) truth pats → (is : IsNetlistOf mode width net ports pats timing cap n names mapped) → ((c l : ℕ) → labels_in is.labels c ≡ Some l → l < cap) → IsMapping mode width net ports pats timing truth n mapped
   netlist_maps truth n names mapped wide order few has patterns truths is low =
-      netlist_maps_forms mode net.inputs (listing_of width net) sop (network_is_sound width wide net) ports pats timing cap n names mapped patterns is net refl truth (sops_are_forms width wide net order) few has truths low
+      netlist_maps_forms mode net.inputs (listing_of width net) sop (network_is_sound width wide net) ports pats timing cap n names mapped patterns (netlist_of_sops mode width net ports pats timing cap n names mapped is) net refl truth (sops_are_forms width wide net order) few has truths low
 
 module _ (mode : Mode) (width : ℕ) (net : Network) (g : Graph) (pats : List Pattern) (timing : Timing) (cap : ℕ) (wide : 2 ≤ width) (encodes : Encodes (family_of mode (forms_of width net)) g) (s : ℕ) (lt : s < net.inputs + length net.nodes) where
   pub root_least : (d : ℕ) → d < cap → IsLeastCover g pats (delay_cost timing cap) (root_class width net g s) (Some d) → HasLeastArrival mode width net pats timing s d

@@ -27,7 +27,7 @@ use Rattle.lw_laws.proofs.Unique.{IsHeight_once}
 use Rattle.lw_laws.proofs.ClassLaws.{graphs_once}
 use Rattle.lw_laws.proofs.InputClasses.{forms_leaves_differ}
 use Rattle.lw_laws.proofs.ExtractLaws.{gate_classes_once, extracted_once, net_once}
-use Rattle.lw_laws.proofs.Sound.{network_is_sound}
+use Rattle.lw_laws.proofs.Sound.{network_is_sound, netlist_of_sops}
 use Rattle.lw_laws.proofs.Lists.{slice_get_some}
 
 -- the least time of a form is one
@@ -175,5 +175,6 @@ form_netlist_once mode inputs o form ports pats timing cap n m names others mapp
 
 -- so is that of a network
 pub netlist_once : (mode : Mode) (width : ℕ) (net : Network) (ports : Ports) (pats : List Pattern) (timing : Timing) (cap : ℕ) (n m : Netlist) (names others : List (List ℕ)) (mapped also : Ports) → 2 ≤ width → IsNetlistOf mode width net ports pats timing cap n names mapped → IsNetlistOf mode width net ports pats timing cap m others also → (n ≡ m) × (names ≡ others) × (mapped ≡ also)
-netlist_once mode width net ports pats timing cap n m names others mapped also wide =
+netlist_once mode width net ports pats timing cap n m names others mapped also wide a b =
     form_netlist_once mode net.inputs (listing_of width net) (sop_at (signals_of width net)) ports pats timing cap n m names others mapped also (network_is_sound width wide net)
+    (netlist_of_sops mode width net ports pats timing cap n names mapped a) (netlist_of_sops mode width net ports pats timing cap m others also b)

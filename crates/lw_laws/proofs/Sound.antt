@@ -1,10 +1,15 @@
--- The forms of a network are a listing whose linked forms have one value, and further links keep a listing so.
+-- The forms of a network are a listing whose linked forms have one value, and further links keep a listing so. Its netlist is that of forms.
 use Rattle.std.proofs.Common.{ℕ, ◌≤◌, ◌≡◌, List, [], ◌∷◌, ◌++◌, Contains, Some, slice_get, suc, refl}
 use Rattle.std.specs.List.{AllByRecursion}
 use Rattle.lw_facts.proofs.Lists.{at_contained, contained_at, get_left}
 use Rattle.lw_laws.specs.Networks.{Network}
 use Rattle.lw_laws.specs.Forms.{Form, form_value}
-use Rattle.lw_laws.specs.Signals.{Signal}
+use Rattle.lw_laws.specs.Signals.{Signal, sop_at, signals_of}
+use Rattle.lw_laws.specs.Modes.{Mode}
+use Rattle.lw_laws.specs.Covers.{Timing, Pattern}
+use Rattle.lw_laws.specs.Netlists.{Netlist}
+use Rattle.lw_laws.specs.Headline.{Ports}
+use Rattle.lw_laws.specs.MappedNetlists.{IsNetlistOfForms, IsNetlistOf}
 use Rattle.lw_laws.specs.Decompositions.{Occurs}
 use Rattle.lw_laws.specs.Decompositions.Occurs.{true_occurs, sop_occurs, fac_occurs, operand_occurs, part_occurs, complement_occurs}
 use Rattle.lw_laws.specs.Listings.{Listing, listing_of, IsListed}
@@ -56,3 +61,20 @@ links_sound inputs o links sound are = record {
   where
     further : (x : Signal) → Contains o.signals x → Contains (o.signals ++ links) x
     further x c = let (k, e) = contained_at o.signals x c in at_contained (o.signals ++ links) k x (get_left o.signals links k x e)
+
+-- the netlist of a network is that of the sums of products of its nets
+abbrev pub netlist_of_sops : (mode : Mode) (width : ℕ) (net : Network) (ports : Ports) (pats : List Pattern) (timing : Timing) (cap : ℕ) (n : Netlist) (names : List (List ℕ)) (mapped : Ports) → IsNetlistOf mode width net ports pats timing cap n names mapped → IsNetlistOfForms mode net.inputs (listing_of width net) (sop_at (signals_of width net)) ports pats timing cap n names mapped
+netlist_of_sops mode width net ports pats timing cap n names mapped is = record {
+  graph = is.graph;
+  is_graph = is.is_graph;
+  labels = is.labels;
+  least = is.least;
+  heights = is.heights;
+  height = is.height;
+  gates = is.gates;
+  gate_classes = is.gate_classes;
+  extracted = is.extracted;
+  input_names = is.input_names;
+  outputs = is.outputs;
+  names_are = is.names_are;
+}

@@ -4,7 +4,6 @@ use Rattle.std.specs.List.{AllZip, AllByRecursion}
 use Rattle.lw_laws.specs.Modes.{Mode}
 use Rattle.lw_laws.specs.Networks.{Network}
 use Rattle.lw_laws.specs.Forms.{Form}
-use Rattle.lw_laws.specs.Signals.{sop_at, signals_of}
 use Rattle.lw_laws.specs.Listings.{Listing, listing_of}
 use Rattle.lw_laws.specs.Covers.{Timing, Pattern}
 use Rattle.lw_laws.specs.Graphs.{Graph}
@@ -56,6 +55,18 @@ pub record IsNetlistOfForms (mode : Mode) (inputs : ℕ) (o : Listing) (form : �
   pub outputs : AllZip (λ p q. (p.name ≡ q.name) × IsNetOf graph gates (class_in o graph (form p.net)) q.net) ports.outputs mapped.outputs
   pub names_are : names ≡ net_names ports.inputs (map (λ p. p.name) ports.outputs) (form_classes o form graph ports.outputs) gates
 
--- The netlist of the chosen matches for the sums of products of the network's nets.
-abbrev pub IsNetlistOf : Mode → ℕ → Network → Ports → List Pattern → Timing → ℕ → Netlist → List (List ℕ) → Ports → Type 0
-IsNetlistOf mode width net ports pats timing cap n names mapped = IsNetlistOfForms mode net.inputs (listing_of width net) (sop_at (signals_of width net)) ports pats timing cap n names mapped
+-- The same for the sums of products of a network's nets: the graph of the network's forms, the least time and the height of each class, the
+-- classes that are needed for the outputs, by height and then class, and a gate for each.
+pub record IsNetlistOf (mode : Mode) (width : ℕ) (net : Network) (ports : Ports) (pats : List Pattern) (timing : Timing) (cap : ℕ) (n : Netlist) (names : List (List ℕ)) (mapped : Ports) : Type 0 where
+  pub graph : Graph
+  pub is_graph : IsGraphOf mode net.inputs (listing_of width net) graph
+  pub labels : List (Option ℕ)
+  pub least : (c : ℕ) → IsLeastCover graph pats (delay_cost timing cap) c (labels_in labels c)
+  pub heights : ℕ → ℕ
+  pub height : (c l : ℕ) → labels_in labels c ≡ Some l → IsHeight (choices_of graph (map length timing.delays) pats) (delay_cost timing cap) (labels_in labels) c (heights c)
+  pub gates : List ℕ
+  pub gate_classes : AreGateClasses graph (delay_cost timing cap) pats (labels_in labels) heights (root_classes width net graph ports.outputs) gates
+  pub extracted : IsExtracted graph (delay_cost timing cap) pats (labels_in labels) heights gates n
+  pub input_names : mapped.inputs ≡ ports.inputs
+  pub outputs : AllZip (λ p q. (p.name ≡ q.name) × IsNetOf graph gates (root_class width net graph p.net) q.net) ports.outputs mapped.outputs
+  pub names_are : names ≡ net_names ports.inputs (map (λ p. p.name) ports.outputs) (root_classes width net graph ports.outputs) gates

@@ -1,6 +1,5 @@
 -- Where the answer to a mapping is a text it is that of a mapping, and where it names an output this has no cover.
-use Rattle.std.proofs.Common.{◌≡◌, ◌≤◌, inl, inr, ℕ, nat_le, length, leb-true, Bool, true, false, List, [], ◌∷◌, codes, Option, Some, None, Result, Ok, Err, is_some, refl, ap, sym, ◌∙◌, subst, if◌then◌else◌, arith}
-use Rattle.std.specs.Str.{bytes_eq}
+use Rattle.std.proofs.Common.{◌≡◌, ◌≤◌, inl, inr, ℕ, nat_le, length, leb-true, Bool, true, false, List, [], Option, Some, None, Result, Ok, Err, is_some, refl, ap, sym, ◌∙◌, subst, if◌then◌else◌, arith}
 use Rattle.lw_io.specs.declared.file.File.{File}
 use Rattle.lw_io.specs.Files.{bytes_of}
 use Rattle.lw_blif.specs.declared.parsed.Parsed.{Parsed}
@@ -25,7 +24,7 @@ use Rattle.lw_blif.specs.LineFaults.{FaultAt, first_fault, lines_read}
 use Rattle.lw_top.specs.Answers.{ReadsLibrary, ReadsModel, asked_for, IsCommandAnswer, IsAnswer}
 use Rattle.lw_top.specs.Outcome.{IsDone, Meets, outcome_status}
 use Rattle.lw_top.specs.Telling.{outcome_line, refusal_line}
-use Rattle.lw_top.specs.Mappings.{AsksForMapping, AsksForTables, IsMappingText, LacksOutput, SaysLibrary, SaysModel, map_words}
+use Rattle.lw_top.specs.Mappings.{AsksForMapping, AsksForTables, IsMappingText, LacksOutput, SaysLibrary, SaysModel}
 use Rattle.lw_top.specs.Tabled.{AreTables}
 use Rattle.lw_top.specs.Trades.{Trades}
 use Rattle.lw_top.specs.Traded.{AsksForTrade, IsTrade, LacksTradedOutput}
@@ -34,6 +33,7 @@ use Rattle.lw_top.proofs.InRange.{command_in_range}
 use Rattle.lw_files.proofs.Kept.{cells_kept, model_kept}
 use Rattle.lw_top.proofs.Sound.{asked_some}
 use Rattle.lw_top.proofs.Asked.{names_read}
+use Rattle.lw_top.proofs.MapWords.{map_asked}
 use Rattle.lw_top.proofs.TradedNames.{traded_named}
 
 -- no step before the mapping refuses for want of a cover
@@ -55,15 +55,6 @@ asked-ok words files text (inr (e, refused, is)) = cc
 asked-lacks : (words : List (List ℕ)) (files : Files) (name : List ℕ) → IsAnswer words files (Err (NoCover name)) → IsAsked words files (Err (NoCover name))
 asked-lacks words files name (inl (c, is, comes)) = (c, asked_some (command_of words) c is, comes)
 asked-lacks words files name (inr (e, refused, is)) = absurd (words-stand (command_of words) name (refused ∙ ap (λ c. Err c) (cause e (NoCover name) is)))
-
--- words of this form are the command's
-pub map_asked : (words : List (List ℕ)) (c : Command) → map_words words ≡ Some c → command_of words ≡ Some c
-map_asked [] c e = cc
-map_asked (name ∷ words) c e = by_name (bytes_eq name (codes "map")) e
-  where
-    by_name : {one other : Option Command} (t : Bool) → (if t then one else None) ≡ Some c → (if t then one else other) ≡ Some c
-    by_name true s = s
-    by_name false s = cc
 
 -- a file that is there, of at most so many bytes
 read-bytes : (name : List ℕ) (files : Files) (bytes : List ℕ) → text_of name files ≡ Ok bytes → (files name ≡ Some bytes) × (length bytes ≤ most_bytes)

@@ -8,6 +8,7 @@ pub mod Giving
 pub mod Serving
 pub mod Whole
 pub mod Asked
+pub mod MapWords
 pub mod Headline
 pub mod Sound
 pub mod Numerals
