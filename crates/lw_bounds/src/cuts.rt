@@ -52,11 +52,7 @@ impl<'a> Cuts<'a> {
 }
 
 /// What the numbers of sides are read from.
-pub fn numbers_of<'a>(
-    graph: &Graph,
-    marks: &'a [Option<Mark>],
-    cuts: &Cuts<'a>,
-) -> Numbers<'a>
+pub fn numbers_of<'a>(graph: &Graph, marks: &'a [Option<Mark>], cuts: &Cuts<'a>) -> Numbers<'a>
     ensures { reading result ≡ cuts_reading (cuts_state cuts.now) graph.now marks.entry.now }
 {
     Numbers {

@@ -9,9 +9,8 @@ ghost use Rattle.lw_settle.specs.Stores.{AreOfStoredCells, placed, uses_of};
 
 use crate::queue::Queue;
 use crate::store::Store;
-use lw_cost::{Cost, Mark};
+use lw_cost::{Cost, Labels, Mark};
 use lw_graph::Graph;
-use lw_cost::Labels;
 use lw_pool::ClassId;
 use std::alloc::{AllocError, Global};
 
