@@ -1,5 +1,5 @@
 -- Marks as labels, and priced matches.
-use Rattle.std.proofs.Common.{ℕ, zero, suc, ◌+◌, ◌<◌, ◌≤◌, ◌^◌, ◌-◌, ◌≡◌, ◌⊎◌, List, [], ◌∷◌, length, Option, Some, None, slice_index_or, slice_set, sym, ◌∙◌, arith, ◌↔◌, Contains, option_map, slice_get, refl, ap, ap₂, subst}
+use Rattle.std.proofs.Common.{ℕ, zero, suc, ◌+◌, ◌<◌, ◌≤◌, ◌≡◌, List, [], ◌∷◌, length, Option, Some, None, slice_index_or, slice_set, sym, ◌∙◌, arith, ◌↔◌, Contains, option_map, slice_get, refl, ap, ap₂, subst}
 use Rattle.std.proofs.lemmas.List.{map-set}
 use Rattle.std.proofs.lemmas.Option.{none-some, same_Some, slice_get-get_or}
 use Rattle.lw_laws.specs.Graphs.{Graph}
