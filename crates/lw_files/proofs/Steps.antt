@@ -1,5 +1,5 @@
 -- One step after another, over files that may be known.
-use Rattle.std.proofs.Common.{◌≡◌, inl, inr, ℕ, ◌≤◌, List, Option, Result, Ok, Err, refl, arith}
+use Rattle.std.proofs.Common.{inl, inr, ℕ, ◌≤◌, List, Option, Result, Ok, Err, refl, arith}
 use Rattle.lw_io.specs.declared.file.File.{File}
 use Rattle.lw_files.specs.declared.fault.FileFault.{FileFault}
 use Rattle.lw_files.specs.declared.fault.FileFault.TheVariants.{Unread, Memory}

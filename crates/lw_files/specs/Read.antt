@@ -1,5 +1,5 @@
 -- What is known of a mapped netlist that was read.
-use Rattle.std.specs.Prelude.{ℕ, ◌≤◌, List, length}
+use Rattle.std.specs.Prelude.{◌≤◌, List, length}
 use Rattle.lw_genlib.specs.Cells.{CellParts}
 use Rattle.lw_netlist.specs.Netlists.{most_gates}
 use Rattle.lw_netlist.specs.Plain.{IsOver}
