@@ -24,8 +24,8 @@ not_words w fault.Memory = λ is. cc
 not_words w other = λ is. cc
 
 blames : (w : Which) (f : FileFault) → Blames w (file_refusal w f)
-blames w fault.Memory = tt
-blames w other = refl
+blames w fault.Unread = refl
+blames w other = tt
 
 module _ {X A : Type 0} (view : X → A) {F : Type 0} (told : F → Option (List File)) (faults : F → ℕ) (old new : F) (w : Which) (step : FileStep A) where
   -- the file is refused by its name
