@@ -33,3 +33,10 @@ value_of_complement v l =
 -- equal values of its node give a literal equal values
 pub value_agrees : (v w : ℕ → Bool) (l : Literal) → v (node_of l) ≡ w (node_of l) → literal_value v l ≡ literal_value w l
 value_agrees v w l e = ap (λ b. if l.0 % 2 == 0 then b else not b) e
+
+-- the literal of a node has the node's value
+pub value_of_node : (v : ℕ → Bool) (n : ℕ) (l : Literal) → l.0 ≡ 2 * n → literal_value v l ≡ v n
+value_of_node v n l e =
+    let even : l.0 % 2 ≡ 0 = omega arith in
+    let half : l.0 / 2 ≡ n = omega arith in
+    ap (λ r. if r == 0 then v (node_of l) else not (v (node_of l))) even ∙ ap v half

@@ -25,11 +25,15 @@ IsLater Zero n = ⊤
 IsLater Input n = ⊤
 IsLater (And a b) n = IsBelow n a × IsBelow n b
 
+-- how many nodes there are at most
+abbrev pub most_nodes : ℕ
+most_nodes = 2147483648
+
 -- Node 0 is the constant, each gate stands behind what it joins, and literals have 32 bits.
 pub record IsAig (gates : List Gate) : Type 0 where
   pub zero_first : slice_get gates 0 ≡ Some Zero
   pub in_order : (n : ℕ) (gate : Gate) → slice_get gates n ≡ Some gate → IsLater gate n
-  pub few : length gates ≤ 2147483648
+  pub few : length gates ≤ most_nodes
 
 -- Two literals have one value, whatever the values of the inputs are.
 pub record AreEqual (gates : List Gate) (l m : Literal) : Type 0 where

@@ -6,7 +6,7 @@ use std::alloc::{AllocError, Global};
 use std::marker::Model;
 
 /// How many nodes there are at most, so that each literal has 32 bits.
-pub const MOST_NODES: usize = 2147483648;
+const MOST_NODES: usize = 2147483648;
 
 /// An and-inverter graph. Node 0 is the constant false.
 #[derive(Debug, Drop)]
@@ -28,8 +28,8 @@ impl Model for Aig {
 }
 
 impl Aig {
-    ghost use Rattle.std.specs.Prelude.{ℕ, ◌≤◌};
-    ghost use Rattle.lw_aig.specs.Aigs.{IsAig, IsBelow, IsLater};
+    ghost use Rattle.std.specs.Prelude.{◌≤◌};
+    ghost use Rattle.lw_aig.specs.Aigs.{IsAig, IsBelow, most_nodes};
     ghost use Rattle.lw_aig.specs.Lookups.{IsGateOf};
     ghost use Rattle.lw_aig.specs.declared.gate.Gate.TheVariants.{Zero, Input, And};
 
@@ -52,7 +52,7 @@ impl Aig {
 
     /// Whether there is no room for a further node.
     pub fn is_full(&self) -> bool
-        ensures { IsTrue result ↔ (MOST_NODES ≤ length self.now) }
+        ensures { IsTrue result ↔ (most_nodes ≤ length self.now) }
     {
         self.gates.len() >= MOST_NODES
     }
@@ -66,7 +66,7 @@ impl Aig {
 
     /// Appends an input. If memory runs out, nothing is changed.
     pub fn push_input(&mut self) -> Result<(), AllocError>
-        requires { length self.old < MOST_NODES }
+        requires { length self.old < most_nodes }
         ensures ok { IfOk result (λ _. self.new ≡ self.old ++ Input ∷ []) }
         ensures err { OnErr result (self.new ≡ self.old) }
     {
@@ -81,7 +81,7 @@ impl Aig {
         left: Literal,
         right: Literal,
     ) -> Result<(), AllocError>
-        requires room { length self.old < MOST_NODES }
+        requires room { length self.old < most_nodes }
         requires left { IsBelow (length self.old) left }
         requires right { IsBelow (length self.old) right }
         ensures ok { IfOk result (λ _. self.new ≡ self.old ++ And left right ∷ []) }

@@ -11,7 +11,7 @@ mod laws;
 mod literal;
 mod places;
 
-pub use aig::{Aig, MOST_NODES};
+pub use aig::Aig;
 pub use gate::Gate;
 pub use laws::each_input_is_free;
 pub use literal::Literal;
