@@ -15,4 +15,5 @@ mod starting;
 mod sweep;
 
 pub use limits::{Counts, Limits};
+pub use patterns::Pattern;
 pub use sweep::Sweep;

@@ -21,6 +21,13 @@ pub(crate) struct Patterns {
     random: Random,
 }
 
+/// A pattern, by its word and its place there.
+#[derive(Clone, Copy, Debug, PartialEq, Eq)]
+pub struct Pattern {
+    word: usize,
+    bit: u32,
+}
+
 // A word for each node.
 #[derive(Debug, Drop)]
 struct Words {
@@ -175,37 +182,42 @@ impl Patterns {
     }
 
     // Some pattern in which two literals differ.
-    pub(crate) fn difference(&self, one: Literal, other: Literal) -> Option<(usize, u32)> {
+    pub(crate) fn difference(&self, one: Literal, other: Literal) -> Option<Pattern> {
         let turn = sign(one) ^ sign(other);
         for k in 0..BASE {
             let x = word(&self.base, place(one.node(), k));
             let apart = x ^ turn ^ word(&self.base, place(other.node(), k));
             if apart != 0 {
-                return Some((k, apart.trailing_zeros()));
+                return Some(Pattern {
+                    word: k,
+                    bit: apart.trailing_zeros(),
+                });
             }
         }
         for (k, words) in self.further.iter().enumerate() {
             let x = word(&words.items, one.node() as usize);
             let apart = x ^ turn ^ word(&words.items, other.node() as usize);
             if apart != 0 {
-                return Some((k.wrapping_add(BASE), apart.trailing_zeros()));
+                return Some(Pattern {
+                    word: k.wrapping_add(BASE),
+                    bit: apart.trailing_zeros(),
+                });
             }
         }
         None
     }
 
-    // The value of a node in a pattern, by its word and its place there.
-    pub(crate) fn value(&self, node: u32, at: (usize, u32)) -> bool {
-        let (k, bit) = at;
-        let bits = if k < BASE {
-            word(&self.base, place(node, k))
+    // The value of a node in a pattern.
+    pub(crate) fn value(&self, node: u32, pattern: Pattern) -> bool {
+        let bits = if pattern.word < BASE {
+            word(&self.base, place(node, pattern.word))
         } else {
-            match self.further.get(k - BASE) {
+            match self.further.get(pattern.word - BASE) {
                 Some(words) => word(&words.items, node as usize),
                 None => 0,
             }
         };
-        bits >> (bit & 63) & 1 == 1
+        bits >> (pattern.bit & 63) & 1 == 1
     }
 }
 

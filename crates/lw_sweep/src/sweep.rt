@@ -1,7 +1,7 @@
 ghost use Rattle.std.specs.Prelude.{◌≡◌, ◌+◌, ◌^◌, ◌<◌, ◌++◌, [], ◌∷◌, length, IfOk, IfSome, MatchResult};
 
 use crate::classes::Classes;
-use crate::patterns::{Patterns, input_words};
+use crate::patterns::{Pattern, Patterns, input_words};
 use crate::simplifying::simple;
 use crate::starting::{candidates, graph_of_inputs, themselves};
 use crate::{Counts, Limits};
@@ -43,6 +43,7 @@ impl Model for Sweep {
 impl Sweep {
     ghost use Rattle.lw_aig.specs.Aigs.{AreEqual, IsBelow, IsConjunction, most_nodes};
     ghost use Rattle.lw_aig.specs.declared.gate.Gate.TheVariants.{And};
+    ghost use Rattle.lw_search.specs.Queries.{Tells};
     ghost use Rattle.lw_sweep.specs.Sweeps.{IsExtended, StandsFor, inputs_alone};
 
     /// A graph of some inputs: input i is node i + 1.
@@ -83,6 +84,40 @@ impl Sweep {
     /// How many conflicts there were.
     pub fn conflicts(&self) -> u64 {
         self.search.conflicts()
+    }
+
+    /// Whether two literals have one value under every assignment, with so many conflicts each way
+    /// at most. After `Apart` the values of `found_value` may tell them apart.
+    pub fn decide(
+        &mut self,
+        alloc: Global,
+        left: Literal,
+        right: Literal,
+        tries: u32,
+    ) -> Result<Found, AllocError>
+        ensures kept { self.new ≡ self.old }
+        ensures told { IfOk result (Tells self.old left right) }
+    {
+        if left == right {
+            return Ok(Found::Equal);
+        }
+        let found = self.search.compare(alloc, left, right, tries)?;
+        Ok(found)
+    }
+
+    /// The value of an input in the last search, if it has one.
+    pub fn found_value(&self, input: u32) -> Option<bool> {
+        self.search.value(input.wrapping_add(1))
+    }
+
+    /// A pattern in which two literals differ, if there is one.
+    pub fn difference(&self, left: Literal, right: Literal) -> Option<Pattern> {
+        self.patterns.difference(left, right)
+    }
+
+    /// The value of an input in a pattern.
+    pub fn pattern_value(&self, input: u32, pattern: Pattern) -> bool {
+        self.patterns.value(input.wrapping_add(1), pattern)
     }
 
     // The literal that stands for a node.
