@@ -1,0 +1,3 @@
+pub mod Aigs
+pub mod Literals
+pub mod Lookups

@@ -1,0 +1,3 @@
+pub mod Antecedents
+pub mod Leaving
+pub mod Storing

@@ -1,0 +1,3 @@
+pub mod Checks
+pub mod Clauses
+pub mod Stores

@@ -1,0 +1,19 @@
+//! An and-inverter graph in which literals that are equal under every assignment are one.
+//!
+//! Each new conjunction is compared with earlier nodes that have its values in simulated patterns.
+//! Where the search says that both are equal, the earlier node stands for the new one from then on;
+//! where it finds an assignment that tells them apart, that becomes a further pattern. Patterns and
+//! the classes that they make are candidates alone, and nothing is believed of them.
+#![tactic(auto)]
+
+mod classes;
+mod limits;
+mod patterns;
+mod random;
+mod simplifying;
+mod starting;
+mod sweep;
+
+pub use limits::{Counts, Limits};
+pub use patterns::Pattern;
+pub use sweep::Sweep;
