@@ -1,8 +1,10 @@
 //! Networks over one swept graph: a literal for each net.
 #![tactic(auto)]
 
+mod laws;
 mod nets;
 mod nodes;
 mod rows;
 
+pub use laws::equal_literals_tell;
 pub use nets::net_literals;
