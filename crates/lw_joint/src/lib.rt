@@ -4,7 +4,9 @@
 mod laws;
 mod nets;
 mod nodes;
+mod pairs;
 mod rows;
 
 pub use laws::equal_literals_tell;
 pub use nets::net_literals;
+pub use pairs::{Placed, compare_nets, place_network};
