@@ -1,3 +1,4 @@
 pub mod Columns
+pub mod Staying
 pub mod Telling
 pub mod Whole

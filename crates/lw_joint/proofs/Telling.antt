@@ -6,7 +6,7 @@ use Rattle.std.proofs.lemmas.Option.{slice_get_within}
 use Rattle.lw_aig.specs.declared.gate.Gate.{Gate}
 use Rattle.lw_aig.specs.declared.gate.Gate.TheVariants.{Input}
 use Rattle.lw_aig.specs.declared.literal.Literal.{Literal}
-use Rattle.lw_aig.specs.Aigs.{AreEqual, AreNodeValues, HasValues, IsAig, IsBelow}
+use Rattle.lw_aig.specs.Aigs.{AreEqual, HasValues, IsAig, IsBelow}
 use Rattle.lw_aig.specs.Literals.{literal_value}
 use Rattle.lw_aig.proofs.Literals.{value_of_node}
 use Rattle.lw_aig.proofs.Values.{inputs_are_free}

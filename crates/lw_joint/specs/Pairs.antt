@@ -1,5 +1,5 @@
 -- Nets of two networks that have one value under every assignment.
-use Rattle.std.specs.Prelude.{ℕ, ◌+◌, ◌*◌, ◌<◌, ◌≡◌, Bool, false, ⊤, Some, List, map, length, slice_get, slice_index_or, All}
+use Rattle.std.specs.Prelude.{ℕ, ◌+◌, ◌*◌, ◌≡◌, Bool, false, ⊤, Some, List, map, length, slice_get, slice_index_or, All}
 use Rattle.lw_aig.specs.declared.gate.Gate.{Gate}
 use Rattle.lw_aig.specs.declared.gate.Gate.TheVariants.{Input}
 use Rattle.lw_aig.specs.declared.literal.Literal.{Literal}

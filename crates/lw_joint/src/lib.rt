@@ -7,6 +7,6 @@ mod nodes;
 mod pairs;
 mod rows;
 
-pub use laws::equal_literals_tell;
+pub use laws::{equal_literals_tell, placed_networks_stay};
 pub use nets::net_literals;
 pub use pairs::{Placed, compare_nets, place_network};
