@@ -1,2 +1,4 @@
 pub mod Columns
+pub mod Staying
+pub mod Telling
 pub mod Whole
