@@ -12,8 +12,7 @@ import itertools
 import os
 import sys
 
-import script
-import svg
+from lib import script, svg
 
 ROOT = os.path.join(os.path.dirname(os.path.abspath(__file__)), "..")
 INV, NANDS = 1, {2: 1.5, 3: 2}
