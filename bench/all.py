@@ -14,111 +14,17 @@ import sys
 import tempfile
 import time
 
+import quality
+from lib import fronts, program, script
+from measure import ABC, LIMIT, RUNS, Library, Room, table_size
+
 HERE = os.path.dirname(os.path.realpath(__file__))
 ROOT = os.path.dirname(HERE)
-sys.path.insert(0, HERE)
-import tables  # noqa: E402
-import timing  # noqa: E402
-
 LIBRARIES = os.environ.get("LIBS", "tiny mcnc rich").split()
-LIMIT = int(os.environ.get("LIMIT", "10"))
-RUNS = int(os.environ.get("RUNS", "3"))
-ABC = shutil.which("berkeley-abc")
-ROUND = "if -g -K 6; strash; dch"
-SCRIPTS = {
-    "map": "strash; map",
-    "dch; map": "strash; dch; map",
-    "three rounds": f"strash; {ROUND}; {ROUND}; {ROUND}; map",
-}
+ROUNDS = fronts.rounds(3)
+SCRIPTS = {"map": "strash; map", "dch; map": "strash; dch; map", "three rounds": f"{ROUNDS}; map"}
 FRONTS = {"strash": "strash", "if -K 4": "strash; if -K 4; sop"}
 UNMAP = "; unmap; sop"
-
-
-# Runs of a command
-
-class Run:
-    """What a run gave: its status (0, or why there is no answer), processor seconds, megabytes, and its output's path."""
-    def __init__(self, status, seconds, memory, out):
-        self.status, self.seconds, self.memory, self.out = status, seconds, memory, out
-
-    def ok(self):
-        return self.status == 0
-
-
-class Room:
-    """A folder for what is written, with the programs that are measured."""
-    def __init__(self, folder, program):
-        self.folder, self.program, self.limit = folder, program, LIMIT
-        self.starts = {"lwmap": self.start([program]), "abc": self.start([ABC, "-s", "-q", "quit"]) if ABC else 0}
-
-    def path(self, name):
-        return os.path.join(self.folder, name)
-
-    def start(self, command):
-        return statistics.median(self.timed(command, 15))
-
-    def once(self, command, out="out"):
-        """One run, with its memory as /usr/bin/time reports it; the limit is one of processor time."""
-        took, out = self.path("took"), self.path(out)
-        command = ["prlimit", f"--cpu={self.limit}", "/usr/bin/time", "-q", "-f", "%M", "-o", took] + command
-        status, seconds = self.spawn(command, out)
-        try:
-            memory = int(open(took, encoding="ascii").read().split()[-1]) / 1024
-        except (OSError, ValueError, IndexError):
-            memory = 0
-        return Run(status, seconds, memory, out)
-
-    def spawn(self, command, out=os.devnull):
-        """Spawned and not forked, so that what Python does before the command becomes another program does not count."""
-        files = [(os.POSIX_SPAWN_OPEN, 0, os.devnull, os.O_RDONLY, 0),
-                 (os.POSIX_SPAWN_OPEN, 1, out, os.O_WRONLY | os.O_CREAT | os.O_TRUNC, 0o644),
-                 (os.POSIX_SPAWN_OPEN, 2, self.path("err"), os.O_WRONLY | os.O_CREAT | os.O_TRUNC, 0o644)]
-        child = os.posix_spawnp(command[0], command, os.environ, file_actions=files)
-        resource.prlimit(child, resource.RLIMIT_CPU, (self.limit, self.limit))
-        _, status, usage = os.wait4(child, 0)
-        return os.waitstatus_to_exitcode(status), usage.ru_utime + usage.ru_stime
-
-    def timed(self, command, runs=RUNS):
-        return sorted(self.spawn(command)[1] for _ in range(runs))
-
-    def lwmap(self, words, out="out"):
-        return self.once([self.program] + words, out)
-
-    def abc(self, script, made):
-        made = self.path(made)
-        if os.path.exists(made):
-            os.remove(made)
-        run = self.once([ABC, "-s", "-q", script])
-        if run.ok() and not (os.path.exists(made) and os.path.getsize(made)):
-            run.status = "none"
-        return run
-
-    def equivalent(self, one, other):
-        kept, self.limit = self.limit, max(1, LIMIT // 5)
-        self.once([ABC, "-s", "-q", f"cec {one} {other}"], "verdict")
-        self.limit = kept
-        said = open(self.path("verdict"), encoding="latin-1").read()
-        return "different" if "NOT EQUIVALENT" in said else "equivalent" if "are equivalent" in said else "undecided"
-
-
-class Library:
-    """A library as lwmap gets it, and padded and with equal delays of rise and fall, as ABC gets it."""
-    def __init__(self, room, name, path):
-        self.name, self.path = name, path
-        self.peers = room.path(f"{name}.peers")
-        self.cells = timing.read_genlib(path)
-        open(self.peers, "w", encoding="latin-1").write(timing.padded(self.cells))
-        self.padded = timing.read_genlib(self.peers)
-
-    def size(self, path):
-        """Delay and area of a netlist."""
-        found = timing.Timing(self.padded, path)
-        return found.max / timing.UNIT, found.area / timing.UNIT
-
-    def plain(self, room, path):
-        made = room.path("plain.blif")
-        open(made, "w", encoding="latin-1").write(timing.unmap(self.padded, path))
-        return made
 
 
 # Figures and tables
@@ -197,7 +103,7 @@ def measure_circuit(room, lib, network, figures, verdicts):
             figures[key + " failed"] = run.status
             return
         figures[key], figures[key + " area"] = lib.size(run.out)
-        if key in ("given", "after three rounds") and ABC:
+        if verdicts is not None and key in ("given", "after three rounds"):
             verdict = room.equivalent(network, lib.plain(room, run.out))
             verdicts[verdict] = verdicts.get(verdict, 0) + 1
         if timed:
@@ -231,9 +137,9 @@ def measure_circuit(room, lib, network, figures, verdicts):
 
 def main_part(room, libraries, sets):
     """For each set and library the figures of each circuit."""
-    found, verdicts = {}, {}
-    for folder, circuits in sets.items():
-        for lib in libraries:
+    found, verdicts = {}, {} if ABC and os.environ.get("CEC") else None
+    for lib in libraries:
+        for folder, circuits in sets.items():
             figures = found[folder, lib.name] = {}
             for circuit, network in circuits.items():
                 measure_circuit(room, lib, network, figures.setdefault(circuit, {}), verdicts)
@@ -268,8 +174,9 @@ def summary(found, verdicts, room):
             delay, number, order = ratio(figures, "after " + name, name)
             cells += [number, delay, order, ratio(figures, "after " + name + " area", name + " area", 2)[0]]
         row(*cells)
-    verdict = ", ".join(f"{n} {name}" for name, n in sorted(verdicts.items()))
-    print(f"\nNetlists of `lwmap` compared with their circuits by `cec`: {verdict or 'none'}.\n")
+    if verdicts is not None:
+        print(f"\nNetlists of `lwmap` compared with their circuits by `cec`: {', '.join(f'{n} {name}' for name, n in sorted(verdicts.items()))}.")
+    print()
     print("### Front ends\n\nMeans of the delay and area of `lwmap` to those of ABC's `map` on the circuit as given, over the circuits that have every entry:\n")
     names = ["given"] + ["after " + name for name in [*FRONTS, "dch; map", "three rounds"]]
     head("set, library", "circuits", *names, *["ABC: " + name for name in ("dch; map", "three rounds")])
@@ -377,16 +284,10 @@ def mended(path, made):
             out.write(line)
 
 
-def table_size(path):
-    nodes = tables.read(path)
-    return max(tables.depths(nodes).values(), default=0), sum(not tables.is_wire(node) for node in nodes.values())
-
-
 def lut_part(room, circuits):
     print("### Lookup tables\n\nDepth and number of tables; ABC's columns begin with `strash`:\n")
     head("circuit", "`lut 4`", "`if -K 4`", "`lut 6`", "`if -K 6`", "`dch; if -K 6`", "three rounds, `if -K 6`", "`lut 6` after them")
     figures, verdicts = {}, {}
-    rounds = f"strash; {ROUND}; {ROUND}; {ROUND}"
     for circuit, network in circuits.items():
         f = figures[circuit] = {}
 
@@ -407,8 +308,8 @@ def lut_part(room, circuits):
         ours("lut 6", 6, network)
         theirs("if 6", "strash; if -K 6")
         theirs("dch 6", "strash; dch; if -K 6")
-        theirs("rounds 6", rounds + "; if -K 6")
-        if room.abc(f"read_blif {network}; {rounds}; if -g -K 6; strash; write_blif {room.path('front.blif')}", "front.blif").ok():
+        theirs("rounds 6", ROUNDS + "; if -K 6")
+        if room.abc(f"read_blif {network}; {ROUNDS}; if -g -K 6; strash; write_blif {room.path('front.blif')}", "front.blif").ok():
             ours("after", 6, room.path("front.blif"))
         row(circuit, *[f"{f[k]}, {f[k + ' tables']}" if k in f else "-" for k in ("lut 4", "if 4", "lut 6", "if 6", "dch 6", "rounds 6", "after")])
         tell("lut", circuit)
@@ -583,22 +484,19 @@ def goals(found, room, trades):
 
 
 def main(words):
-    program = subprocess.run(["sh", os.path.join(ROOT, "release", "program.sh")], capture_output=True, text=True, check=False)
-    if program.returncode:
-        sys.exit(program.stderr.strip())
     for tool in ("/usr/bin/time", "prlimit"):
         if not shutil.which(tool):
-            sys.exit(f"all: there is no {tool}")
-    parts = os.environ.get("PARTS", "machine main sizes loads trade luts widths idempotence certificates texts goals").split()
+            raise script.Fault(f"there is no {tool}")
+    parts = os.environ.get("PARTS", "machine main sizes loads trade luts widths idempotence certificates texts goals quality").split()
     if words:
         sets = {os.path.basename(os.path.abspath(words[0])): circuits_of(words[0])}
         if not all(sets.values()):
-            sys.exit(f"all: there is no .blif in {words[0]}")
+            raise script.Fault(f"there is no .blif in {words[0]}")
     else:
         sets = {name: circuits_of(os.path.join(HERE, name)) for name in ("circuits", "further")}
     begun, used = time.time(), resource.getrusage(resource.RUSAGE_CHILDREN)
     with tempfile.TemporaryDirectory() as folder:
-        room = Room(folder, program.stdout.strip())
+        room = Room(folder, program.path())
         libraries = [Library(room, name, os.path.join(HERE, "libs", name + ".genlib")) for name in LIBRARIES]
         first = next(iter(sets.values()))
         every = {circuit: path for circuits in sets.values() for circuit, path in circuits.items()}
@@ -629,10 +527,12 @@ def main(words):
             texts_part()
         if "goals" in parts:
             goals(found, room, trades)
+        if "quality" in parts and not words:
+            quality.record(room, libraries, sets)
     after = resource.getrusage(resource.RUSAGE_CHILDREN)
     took = after.ru_utime + after.ru_stime - used.ru_utime - used.ru_stime
     print(f"All of this took {took / 60:.0f} processor minutes and {(time.time() - begun) / 60:.0f} minutes of clock; load average at the end {os.getloadavg()[0]:.1f}.")
 
 
 if __name__ == "__main__":
-    main(sys.argv[1:])
+    script.run("all", main)
