@@ -18,15 +18,11 @@ import os
 import re
 import sys
 
-import script
-import svg
+from lib import script, svg
+from lib.script import Fault
 
 ROOT = os.path.join(os.path.dirname(os.path.abspath(__file__)), "..")
 LEFT, RIGHT, TOP, STEP = 130, 40, 74, 19
-
-
-class Fault(Exception):
-    """Why nothing was drawn."""
 
 
 def tables(page):

@@ -11,14 +11,10 @@ import re
 import sys
 from decimal import Decimal
 
-import functions
-import script  # (functions has told where bench is)
+from lib import expressions, script
+from lib.script import Fault
 
 MOST_PINS, MOST_ENTRIES, BOUND = 16, 4096, 1000000
-
-
-class Fault(Exception):
-    pass
 
 
 def said(text):
@@ -83,7 +79,7 @@ def entries(path):
 def figure(word, what):
     value = Decimal(word)
     if not value.is_finite():
-        raise functions.Fault(f"{what} {word}")
+        raise Fault(f"{what} {word}")
     return value
 
 
@@ -96,21 +92,21 @@ def entry(name, area, output, function, delays, scale):
     """An entry as lwmap reads it."""
     if function in ("CONST0", "CONST1"):
         return f"GATE {name} 0 {output}={function};\n"
-    tree = functions.plain(functions.read(function))
-    pins = functions.pins(tree)
+    tree = expressions.plain(expressions.read(function))
+    pins = expressions.pins(tree)
     if {"0", "1"} & set(pins):
-        raise functions.Fault("a constant in its function")
+        raise Fault("a constant in its function")
     if len(pins) > MOST_PINS:
-        raise functions.Fault(f"more than {MOST_PINS} pins")
-    if not functions.fits(tree):
-        raise functions.Fault(f"more than {functions.MOST_NAMES} names or {functions.MOST_BYTES} bytes in its function")
-    if functions.table(tree, pins) != functions.table(functions.read(function), pins):
-        raise functions.Fault("its function was not rewritten rightly")
-    text = f"GATE {name} {shown(figure(area, 'the area') / scale)} {output}={functions.write(tree)};\n"
+        raise Fault(f"more than {MOST_PINS} pins")
+    if not expressions.fits(tree):
+        raise Fault(f"more than {expressions.MOST_NAMES} names or {expressions.MOST_BYTES} bytes in its function")
+    if expressions.table(tree, pins) != expressions.table(expressions.read(function), pins):
+        raise Fault("its function was not rewritten rightly")
+    text = f"GATE {name} {shown(figure(area, 'the area') / scale)} {output}={expressions.write(tree)};\n"
     for pin, word in delays:
         delay = figure(word, "the delay")
         if delay >= BOUND:
-            raise functions.Fault(f"the delay {word}, which is not below {BOUND}")
+            raise Fault(f"the delay {word}, which is not below {BOUND}")
         if delay < 0:
             said(f"{name}: the delay {word} of pin {pin} is taken as 0")
         if pin != "*" and pin not in pins:
@@ -145,7 +141,7 @@ def genlib(library, path, log):
         try:
             sys.stdout.write(entry(name, area, output, function, delays, scale))
             kept += 1
-        except functions.Fault as fault:
+        except Fault as fault:
             reasons[name] = str(fault)
     for reason in dict.fromkeys(reasons.values()):
         said(f"left out ({reason}): " + " ".join(name for name in reasons if reasons[name] == reason))
@@ -173,4 +169,4 @@ def main(words):
 
 if __name__ == "__main__":
     sys.stdout.reconfigure(encoding="latin-1")
-    script.run("liberty", main, Fault, ArithmeticError, IndexError)
+    script.run("liberty", main, ArithmeticError, IndexError)

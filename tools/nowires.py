@@ -17,16 +17,13 @@ ABC needs the library with one entry for each cell, as `timing.py -f` writes it;
 comments are gone from OUT. Where a file cannot be read, or LIB has neither a buffer nor an inverter and one is needed, one
 line on standard error says why, and the status is 1.
 """
-import os
 import sys
 
-sys.path.insert(0, os.path.join(os.path.dirname(os.path.abspath(__file__)), "..", "bench"))
-import script  # noqa: E402
-import timing  # noqa: E402
+from lib import blif, genlib, script, timing
 
 
 def fastest(lib, truth):
-    cells = [c for c in lib.values() if len(c.pins) == 1 and timing.truth(c.funs[0], c.pins) == truth]
+    cells = [c for c in lib.values() if len(c.pins) == 1 and genlib.truth(c.funs[0], c.pins) == truth]
     return min(cells, key=lambda c: (c.delays[0], c.area), default=None)
 
 
@@ -58,7 +55,7 @@ class Writer:
             self.gate(buffer, [net], out)
             delay = buffer.delays[0]
         else:
-            raise timing.Fault(f"{out} is the input {net}, and the library has neither a buffer nor an inverter")
+            raise script.Fault(f"{out} is the input {net}, and the library has neither a buffer nor an inverter")
         self.added = max(self.added, delay)
 
     def wire(self, out):
@@ -66,7 +63,7 @@ class Writer:
         for _ in self.mapped.wires:
             net = self.mapped.wires.get(net, net)
         if net in self.mapped.wires:
-            raise timing.Fault(f"wire {out} is on a cycle")
+            raise script.Fault(f"wire {out} is on a cycle")
         if net in self.mapped.gates:
             cell, nets = self.mapped.gates[net]
             self.gate(cell, [self.source(one) for one in nets], out)
@@ -95,7 +92,7 @@ class Writer:
         for out in m.wires:
             self.wire(out)
         head = [model, ".inputs " + " ".join(m.inputs), ".outputs " + " ".join(m.outputs)]
-        head += [f".input_arrival {one} {timing.show(at)} {timing.show(at)}" for one, at in m.starts.items() if at]
+        head += [f".input_arrival {one} {genlib.show(at)} {genlib.show(at)}" for one, at in m.starts.items() if at]
         head += [" ".join(self.latch(words)) for words in m.latches]
         return "\n".join(head + self.lines + [".end"]) + "\n"
 
@@ -103,26 +100,24 @@ class Writer:
 def main(words):
     if len(words) != 2:
         sys.exit("nowires: usage: python3 tools/nowires.py LIB MAPPED >OUT")
-    lib = timing.read_genlib(words[0])
+    lib = genlib.read_genlib(words[0])
     mapped = timing.read_mapped(words[1], lib)
     constant = next((c.name for c, _ in mapped.gates.values() if c.name not in lib), None)
     if constant:
-        raise timing.Fault(f"{words[1]}: a {constant} is no cell of the library")
+        raise script.Fault(f"{words[1]}: a {constant} is no cell of the library")
     for net, (_, nets) in mapped.gates.items():
         lost = next((one for one in nets if one not in mapped.inputs and one not in mapped.gates and one not in mapped.wires
                      and one not in {w[2] for w in mapped.latches}), None)
         if lost:
-            raise timing.Fault(f"{words[1]}: net {lost} is not driven")
-    model = next((" ".join(line) for line in timing.lines(words[1]) if line[0] == ".model"), None)
-    if not model:
-        raise timing.Fault(f"{words[1]}: there is no .model in it")
+            raise script.Fault(f"{words[1]}: net {lost} is not driven")
+    model = " ".join(blif.need_model(words[1]))
     writer = Writer(lib, mapped)
     sys.stdout.reconfigure(encoding="latin-1")
     sys.stdout.write(writer.text(model))
     if writer.added:
-        added = timing.show(writer.added)
+        added = genlib.show(writer.added)
         print(f"nowires: what is read as it comes in has gates before it now, of delay {added}", file=sys.stderr)
 
 
 if __name__ == "__main__":
-    script.run("nowires", main, timing.Fault)
+    script.run("nowires", main)

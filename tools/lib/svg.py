@@ -11,6 +11,7 @@ STYLE = """<style>
   .link { stroke: #57606a; stroke-width: 1.3; fill: none; }
   .box { fill: #f6f8fa; stroke: #57606a; stroke-width: 1.2; }
   .chosen { stroke: #b54708; stroke-width: 2.6; }
+  .shade { fill: #fdead7; stroke: none; }
   .a { fill: #0969da; stroke: #0969da; } .b { fill: #b54708; stroke: #b54708; } .c { fill: #116329; stroke: #116329; }
   .hollow { fill: none; stroke-width: 1.6; }
   @media (prefers-color-scheme: dark) {
@@ -21,6 +22,7 @@ STYLE = """<style>
     .axis, .link { stroke: #9198a1; }
     .box { fill: #161b22; stroke: #9198a1; }
     .chosen { stroke: #f0883e; }
+    .shade { fill: #3b2614; }
     .a { fill: #58a6ff; stroke: #58a6ff; } .b { fill: #f0883e; stroke: #f0883e; } .c { fill: #56d364; stroke: #56d364; }
     .hollow { fill: none; }
   }

@@ -1,25 +1,20 @@
-#!/usr/bin/env python3
-"""Functions of cells: read, written, compared and put into other forms. For liberty.py and forms.py; it has no words.
+"""Functions of cells: read, written, compared and put into other forms.
 
 A tree is a pin's name, or ("!", tree), or ("*", tree..), or ("+", tree..), or ("^", tree, tree). Trees are flat: no
 product stands in a product, no sum in a sum, no complement in a complement; but read with flat=False a tree has the
-brackets of its text.
+brackets of its text. The ranks are ' and !, then ^, then products (* & and blanks), then sums (+ and |). A function of a
+genlib has ! ' * + and brackets alone.
 """
-import os
 import re
-import sys
 
-sys.path.insert(0, os.path.join(os.path.dirname(os.path.abspath(__file__)), "..", "bench"))
-from expression import NAME, Expression  # noqa: E402
+from .script import Fault
 
+NAME = r"[^\s#;()!'+*=&|^\"]+"
 MOST_NAMES, MOST_BYTES = 64, 2048
 
 
-class Fault(Exception):
-    """Why a function cannot be taken, in a few words."""
-
-
 def inverse(tree):
+    """The complement of a tree."""
     return tree[1] if tree[0] == "!" and isinstance(tree, tuple) else ("!", tree)
 
 
@@ -31,42 +26,77 @@ def join(sign, parts):
     return flat[0] if len(flat) == 1 else (sign, *flat)
 
 
-class Reader(Expression):
-    """Reads the text of a function, by Liberty's ranks: ' and !, then ^, then * & and blanks, then + and |. Genlib's
-    functions are read in the same way."""
+def nest(sign, parts):
+    """The same, with the brackets kept."""
+    return parts[0] if len(parts) == 1 else (sign, *parts)
 
-    AND, OR = ("*", "&"), ("+", "|")
 
-    def __init__(self, text, flat=True):
-        super().__init__(re.findall(r"[()!'+*&|^]|" + NAME, text))
-        self.joined = join if flat else lambda sign, parts: parts[0] if len(parts) == 1 else (sign, *parts)
-        if "".join(self.signs) != "".join(text.split()):
-            raise Fault("a sign that is not understood")
+class Reader:
+    """Reads the text of a function. Where genlib holds, the signs of Liberty alone (& | ^) are refused."""
 
-    def leaf(self, sign):
-        if not re.fullmatch(NAME, sign):
-            self.unknown(sign)
-        return sign
+    def __init__(self, text, flat=True, genlib=False):
+        self.signs = re.findall(r"[()!'+*]|" + NAME + r"|\S", text) + [""]
+        self.at = 0
+        self.joined = join if flat else nest
+        self.ands, self.ors, self.xors = (("*",), ("+",), ()) if genlib else (("*", "&"), ("+", "|"), ("^",))
 
-    def inverse(self, tree):
-        return inverse(tree)
+    def next(self):
+        self.at += 1
+        return self.signs[self.at - 1]
+
+    def refuse(self, sign):
+        raise Fault(f"not understood at {sign or 'its end'}")
+
+    def factor(self):
+        sign = self.next()
+        if sign == "!":
+            return inverse(self.factor())
+        if sign == "(":
+            tree = self.sum()
+            if self.next() != ")":
+                raise Fault("a bracket is missing")
+        elif re.fullmatch(NAME, sign):
+            tree = sign
+        else:
+            self.refuse(sign)
+        while self.signs[self.at] == "'":
+            self.at += 1
+            tree = inverse(tree)
+        return tree
 
     def operand(self):
         tree = self.factor()
-        while self.signs[self.at] == "^":
+        while self.signs[self.at] in self.xors:
             self.at += 1
             tree = ("^", tree, self.factor())
         return tree
 
-    def unclosed(self):
-        raise Fault("a bracket is missing")
+    def product(self):
+        parts = [self.operand()]
+        while self.signs[self.at] not in ("", ")", *self.ors):
+            if self.signs[self.at] in self.ands:
+                self.at += 1
+            parts.append(self.operand())
+        return self.joined("*", parts)
 
-    def unknown(self, sign):
-        raise Fault(f"not understood at {sign or 'its end'}")
+    def sum(self):
+        parts = [self.product()]
+        while self.signs[self.at] in self.ors:
+            self.at += 1
+            parts.append(self.product())
+        return self.joined("+", parts)
+
+    def whole(self):
+        """The tree of the whole text."""
+        tree = self.sum()
+        if self.signs[self.at]:
+            self.refuse(self.signs[self.at])
+        return tree
 
 
-def read(text, flat=True):
-    return Reader(text, flat).whole()
+def read(text, flat=True, genlib=False):
+    """The tree of a text; a Fault says what is wrong with it."""
+    return Reader(text, flat, genlib).whole()
 
 
 def names(tree):
@@ -75,20 +105,23 @@ def names(tree):
 
 
 def pins(tree):
+    """The names of a tree, each once, in the order of their first places."""
     return list(dict.fromkeys(names(tree)))
 
 
 def table(tree, order):
     """The truth table: bit r is the value in row r, in which the pin at place i of the order has the value of bit i."""
     rows = 1 << len(order)
+    ones = (1 << rows) - 1
     of = {pin: sum(1 << r for r in range(rows) if r >> i & 1) for i, pin in enumerate(order)}
+    of.update({"CONST0": 0, "CONST1": ones})
 
     def value(tree):
         if isinstance(tree, str):
             return of[tree]
         parts = [value(part) for part in tree[1:]]
         if tree[0] == "!":
-            return parts[0] ^ ((1 << rows) - 1)
+            return parts[0] ^ ones
         one = parts[0]
         for other in parts[1:]:
             one = one & other if tree[0] == "*" else one | other if tree[0] == "+" else one ^ other
@@ -110,7 +143,7 @@ def plain(tree):
 
 
 def write(tree):
-    """The text of a tree, with brackets where the tree has them."""
+    """The text of a tree in genlib, with brackets where the tree has them."""
     if isinstance(tree, str):
         return tree
     if tree[0] == "!":
@@ -123,6 +156,15 @@ def write(tree):
 def bracketed(tree, signs):
     text = write(tree)
     return f"({text})" if isinstance(tree, tuple) and tree[0] in signs else text
+
+
+def verilog(tree):
+    """The text of a tree as an expression of Verilog."""
+    if isinstance(tree, str):
+        return {"CONST0": "1'b0", "CONST1": "1'b1"}.get(tree) or f"\\{tree} "
+    if tree[0] == "!":
+        return "~" + verilog(tree[1])
+    return "(" + f" {({'*': '&', '+': '|', '^': '^'})[tree[0]]} ".join(verilog(part) for part in tree[1:]) + ")"
 
 
 def fits(tree):
@@ -157,6 +199,7 @@ def primes(truth, count):
 
 
 def rows_of(cube, count):
+    """The rows of a cube, as a table."""
     return sum(1 << r for r in range(1 << count) if (r & cube[0]) == cube[1])
 
 
@@ -173,11 +216,35 @@ def cover(truth, count):
     return kept
 
 
+def irredundant(truth, count):
+    """A list of prime cubes, none of which can be left out, found without all primes: Minato's recursion over the pins, from
+    the last on. A table of the first n pins has 1 << n rows, and the one of a pin's value is a half of it."""
+
+    def some(lower, upper, pins):
+        """Cubes whose rows hold all of lower and nothing outside of upper, and these rows."""
+        if not lower:
+            return [], 0
+        if upper == (1 << (1 << pins)) - 1:
+            return [(0, 0)], upper
+        half, bit = 1 << pins - 1, 1 << pins - 1
+        ones = (1 << half) - 1
+        low, high = (lower & ones, lower >> half), (upper & ones, upper >> half)
+        without, made0 = some(low[0] & ~high[1], high[0], pins - 1)
+        with_it, made1 = some(low[1] & ~high[0], high[1], pins - 1)
+        both, made = some(low[0] & ~made0 | low[1] & ~made1, high[0] & high[1], pins - 1)
+        cubes = [(mask | bit, value) for mask, value in without] + [(mask | bit, value | bit) for mask, value in with_it] + both
+        return cubes, made0 | made | (made1 | made) << half
+
+    return some(truth, truth, count)[0]
+
+
 def literals(cube, order):
+    """The literals of a cube over the pins of an order."""
     return [pin if cube[1] >> i & 1 else ("!", pin) for i, pin in enumerate(order) if cube[0] >> i & 1]
 
 
 def sum_of(cubes, order):
+    """The sum of some cubes."""
     return join("+", [join("*", literals(cube, order)) for cube in cubes])
 
 
