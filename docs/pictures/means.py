@@ -12,7 +12,7 @@ import sys
 
 ROOT = os.path.dirname(os.path.dirname(os.path.dirname(os.path.realpath(__file__))))
 WIDTH, HEIGHT, LEFT, RIGHT, TOP, BOTTOM = 760, 430, 70, 30, 64, 74
-NOTE = "Geometric means, 49 circuits, library mcnc, lwmap 0.2.0, ABC 1.01, December 2026. Both scales are logarithmic; down and left is better."
+NOTE = "Geometric means of 49 circuits, library mcnc, lwmap 0.2.0, ABC 1.01, December 2026; logarithmic scales"
 DELAYS, AREAS = (0.6, 1.05), (0.8, 2.0)
 STYLE = """text { font-family: sans-serif; font-size: 13px; fill: #1f2328 } .grid { stroke: #d0d7de } .pair { stroke: #8c959f; stroke-dasharray: 4 3 }
 .abc { fill: #ffffff; stroke: #57606a; stroke-width: 2 } .lwmap { fill: #b84a0a } .note { font-size: 11px } .title { font-size: 16px; font-weight: bold }
