@@ -107,7 +107,8 @@ for name in delay time and3; do
 done
 refused 'no table' python3 bench/plot.py README.md "$room"
 good "a page without the table"
-
+python3 docs/pictures/means.py README.md "$room/means.svg" && cmp -s "$room/means.svg" docs/pictures/means.svg
+good "docs/pictures/means.svg is what its script draws of README.md"
 
 # The second program in the place of the built one.
 # shellcheck disable=SC2016
