@@ -18,7 +18,7 @@
 # where the netlist, with its registers, their clocks and their initial values, was shown equal to the Verilog. The status
 # is 0 then, that of lwmap where lwmap refuses, and else 1.
 # LIMIT holds the seconds that one step may take (60). The program is the one that release/program.sh
-# finds. docs/FLOW.md goes through the steps.
+# finds. docs/HOWTO.md goes through the steps.
 set -eu
 root=$(dirname -- "$(dirname -- "$(readlink -f -- "$0")")")
 timing=$root/bench/timing.py
