@@ -1,16 +1,15 @@
 #!/usr/bin/env python3
-"""Draws the figures of bench/RESULTS.md as SVG: delays by circuit, and delay against area.
+"""Draws the delays of bench/RESULTS.md by circuit, as SVG.
 
   plot.py [RESULTS FOLDER]
 
-RESULTS is a page with tables as bench/all.sh prints them: 'Circuits of circuits with LIB', and the means of front ends. FOLDER gets
-delay.svg and quality.svg. Without words they are bench/RESULTS.md and docs/pictures. In delay.svg each sign is the delay of lwmap as a
-ratio to that of ABC's map, for circuits as given; the circuits are in two groups, sorted by the ratio with the first library of
-mcnc, rich, tiny that is there. In quality.svg each sign is a mean over circuits, of delay and area as ratios to those of ABC's map.
+RESULTS is a page with tables 'Circuits of circuits with LIB', as bench/all.sh prints them. FOLDER gets delay.svg. Without words they
+are bench/RESULTS.md and docs/pictures. Each sign is the delay of lwmap as a ratio to that of ABC's map, for circuits as given. The
+circuits are in two groups, sorted by the ratio with the first library of mcnc, rich, tiny that is there.
 
 Example: python3 bench/plot.py
 
-Where such a table is not in RESULTS, one line on standard error says so, and the status is 1.
+Where no such table is in RESULTS, one line on standard error says so, and the status is 1.
 """
 import math
 import os
@@ -59,16 +58,6 @@ def delays(page):
     return {library: found[library] for library in LIBRARIES if library in found}
 
 
-def means(page):
-    """What was tried, with its mean delay and area, for the first library that is there."""
-    for library in LIBRARIES:
-        for heading, rows in tables(page):
-            for row in rows[2:] if heading == "Front ends" else []:
-                if row[0] == f"circuits, {library}":
-                    return library, row[1], [(name, *map(float, cell.split(", "))) for name, cell in zip(rows[0][2:], row[2:])]
-    raise Fault("there is no table of front ends")
-
-
 def mean(ratios):
     return math.exp(sum(map(math.log, ratios)) / len(ratios))
 
@@ -106,29 +95,6 @@ def draw_delays(found):
     return svg.picture(WIDTH, height, title, parts)
 
 
-def draw_means(library, count, rows):
-    """Delay to the right, area upwards; ABC's map is at 1, 1."""
-    title = "Area against delay, as ratios to ABC's map"
-    width, height, low, high = 760, 420, (0.55, 0.8), (1.1, 1.9)
-
-    def place(delay, area):
-        return (70 + 640 * (delay - low[0]) / (high[0] - low[0]), 360 - 290 * (area - low[1]) / (high[1] - low[1]))
-    parts = [svg.text(16, 26, title, "title"), svg.text(16, 46, f"Means over {count} circuits with {library}. Left is faster, down is smaller.", "small")]
-    for mark in (0.6, 0.7, 0.8, 0.9, 1, 1.1):
-        x, _ = place(mark, 1)
-        parts += [svg.line(x, 70, x, 360, "axis" if mark == 1 else "rule"), svg.text(x, 378, f"{mark:g}", "small", "middle")]
-    for mark in (0.8, 1, 1.2, 1.4, 1.6, 1.8):
-        _, y = place(1, mark)
-        parts += [svg.line(70, y, 710, y, "axis" if mark == 1 else "rule"), svg.text(60, y + 4, f"{mark:g}", "small", "end")]
-    parts += [svg.text(390, 400, "delay", "small", "middle"), svg.text(16, 64, "area", "small")]
-    for name, delay, area in rows + [("ABC: map", 1, 1)]:
-        theirs = name.startswith("ABC: ")
-        x, y = place(delay, area)
-        said = name.removeprefix("ABC: ") + (" (ABC)" if theirs else " (lwmap)")
-        parts += [svg.sign(1 if theirs else 0, x, y, "b" if theirs else "a"), svg.text(x + 9, y + 4, said, "small")]
-    return svg.picture(width, height, title, parts)
-
-
 def main(words):
     if len(words) not in (0, 2):
         sys.exit("plot: usage: python3 bench/plot.py [RESULTS FOLDER]")
@@ -136,9 +102,8 @@ def main(words):
     with open(source, encoding="utf-8") as file:
         page = file.read()
     os.makedirs(folder, exist_ok=True)
-    for name, drawn in (("delay", draw_delays(delays(page))), ("quality", draw_means(*means(page)))):
-        with open(os.path.join(folder, name + ".svg"), "w", encoding="utf-8") as file:
-            file.write(drawn)
+    with open(os.path.join(folder, "delay.svg"), "w", encoding="utf-8") as file:
+        file.write(draw_delays(delays(page)))
 
 
 if __name__ == "__main__":

@@ -19,6 +19,8 @@ CODE = ["crates/*/src/**/*.rt", "crates/*/specs/**/*.antt", "crates/*/proofs/**/
         "release/*.sh", "crates/*/must-fail/*.edit"]
 SPAN = re.compile(r"`([^`\n]+)`")
 NAME = re.compile(r"(\w+::)*(\w*[a-z]_[a-z]\w*|\w*[a-z][A-Z]\w*)")
+# names of files that a flow makes, and of instances in a text
+MADE = re.compile(r"(flow|lwmap)_\w+|uN")
 CLAUSES = re.compile(r"((?:\w+::)*\w+): ([a-z_]+(?:, [a-z_]+)*)")
 
 
@@ -33,7 +35,7 @@ def text_of(path):
 
 def code():
     """The words of the code, and by function and record the names of its clauses and fields."""
-    words, clauses = set(), {}
+    words, clauses = {os.path.basename(path).split(".")[0] for path in files(["bench/*/*", "examples/*/*"])}, {}
     for path in files(CODE):
         if path.endswith(".md"):
             continue
@@ -67,7 +69,7 @@ def main():
             if found and found[1].split("::")[-1] in clauses:
                 for clause in found[2].split(", "):
                     look(page, span, clause in clauses[found[1].split("::")[-1]])
-            elif NAME.fullmatch(span) and not span.startswith("lw_"):
+            elif NAME.fullmatch(span) and not span.startswith("lw_") and not MADE.fullmatch(span):
                 look(page, span, span.split("::")[-1] in words)
     print(f"{looked} looked at, {lost} lead nowhere")
     sys.exit(lost > 0)

@@ -101,7 +101,7 @@ else
 fi
 
 python3 bench/plot.py bench/RESULTS.md "$room" && python3 bench/and3.py "$room/and3.svg" && python3 bench/pipeline.py "$room/pipeline.svg"
-for name in delay quality and3 pipeline; do
+for name in delay and3 pipeline; do
     cmp -s "$room/$name.svg" "docs/pictures/$name.svg"
     good "docs/pictures/$name.svg is what its script draws now"
 done
