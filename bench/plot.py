@@ -52,7 +52,8 @@ def delays(page):
         name = re.fullmatch(r"Circuits of circuits with (\S+)", heading)
         if name and "`map`: delay" in rows[0]:
             ours, theirs = rows[0].index("`lwmap`: delay"), rows[0].index("`map`: delay")
-            found[name[1]] = {row[0]: number(row[ours]) / number(row[theirs]) for row in rows[2:] if number(row[ours]) and number(row[theirs])}
+            found[name[1]] = {row[0]: number(row[ours]) / number(row[theirs]) for row in rows[2:]
+                              if number(row[ours]) and number(row[theirs])}
     if not found:
         raise Fault("there is no table of delays by circuit")
     return {library: found[library] for library in LIBRARIES if library in found}
@@ -71,10 +72,12 @@ def draw_delays(found):
     """The mean on top, then nodes of several inputs, then nodes of two."""
     first = next(iter(found))
     order = sorted(found[first], key=found[first].get)
-    rows = [("mean", None)] + [(name, name) for name in order if WIDE.search(name)] + [("", None)] + [(name, name) for name in order if not WIDE.search(name)]
+    wide, narrow = ([(name, name) for name in order if bool(WIDE.search(name)) == is_wide] for is_wide in (True, False))
+    rows = [("mean", None)] + wide + [("", None)] + narrow
     height = TOP + STEP * len(rows) + 56
     title = "Delay of lwmap as a ratio to ABC's map, circuits as given"
-    parts = [svg.text(16, 26, title, "title"), svg.text(16, 46, f"{len(order)} circuits, width 6; ABC: strash; map. Left of 1 is faster. Scale: logarithm.", "small")]
+    note = f"{len(order)} circuits, width 6; ABC: strash; map. Left of 1 is faster. Scale: logarithm."
+    parts = [svg.text(16, 26, title, "title"), svg.text(16, 46, note, "small")]
     for k, library in enumerate(found):
         parts += [svg.sign(k, LEFT + 130 * k, 68, "abc"[k] + ("" if k == 0 else " hollow")),
                   svg.text(LEFT + 10 + 130 * k, 72, f"{library}, mean {mean(found[library].values()):.3f}")]
