@@ -15,8 +15,8 @@ import sys
 
 ROOT = os.path.dirname(os.path.dirname(os.path.realpath(__file__)))
 PAGES = ["*.md", "docs/*.md", "bench/*.md", "tests/*.md", "tools/*.md", "examples/*.md", "release/*.md"]
-CODE = ["crates/*/src/**/*.rt", "crates/*/specs/**/*.antt", "crates/*/proofs/**/*.antt", "tests/*", "bench/*", "tools/**/*.py", "tools/*.sh", "examples/*.sh",
-        "release/*.sh", "crates/*/must-fail/*.edit"]
+CODE = ["crates/*/src/**/*.rt", "crates/*/specs/**/*.antt", "crates/*/proofs/**/*.antt", "crates/*/must-fail/*.edit", "tests/*",
+        "bench/*", "tools/**/*.py", "tools/*.sh", "examples/*.sh", "release/*.sh"]
 SPAN = re.compile(r"`([^`\n]+)`")
 NAME = re.compile(r"(\w+::)*(\w*[a-z]_[a-z]\w*|\w*[a-z][A-Z]\w*)")
 # names of files that a flow makes, and of instances in a text
