@@ -3,6 +3,7 @@
 import glob
 import os
 import platform
+import re
 import resource
 import shutil
 import statistics
@@ -70,7 +71,20 @@ def map_goals(library, figures):
     goal(f"{library}: no netlist later than ABC's `map`", f"{later} later", not later)
 
 
-def goals(found, room, trades):
+def verilog_goals(printed):
+    """From the tables of bench/verilog.sh: commands with their speed and memory, and texts of one part."""
+    rows = [[cell.strip() for cell in line.strip("|").split("|")] for line in printed.split("\n") if line.startswith("| ")]
+    for name, _, _, speed, _, times in (row for row in rows if row[0] in ("`verilog`", "`unverilog`")):
+        goal(f"{name} of 60 MB at 60 MB a second", speed, float(speed) >= 60)
+        goal(f"{name} of 60 MB in at most 6 times the text in memory", times, float(times) <= 6)
+    parts_of = [row for row in rows if len(row) == 5 and re.fullmatch("[0-9]+", row[3])]
+    if parts_of:
+        slowest, largest = max(int(row[3]) for row in parts_of), max(int(row[4]) / float(row[1]) for row in parts_of)
+        goal("a text of one part in 2 s", f"{slowest} ms", slowest <= 2000)
+        goal("a text of one part in at most 6 times its memory", f"{largest:.1f}", largest <= 6)
+
+
+def goals(found, room, trades, printed):
     print("### Goals\n")
     head("goal", "measured", "met")
     for (folder, library), figures in found.items():
@@ -84,6 +98,7 @@ def goals(found, room, trades):
         run = room.lwmap(["trade", "0", library, os.path.join(HERE, "circuits", "i10_a.blif")])
         goal("`trade 0` of `i10_a` with rich in 3 s", f"{run.seconds:.1f} s" if run.ok() else f"over {LIMIT} s",
              run.ok() and run.seconds <= 3)
+    verilog_goals(printed.get("verilog", ""))
     print()
 
 
@@ -92,7 +107,7 @@ def measure(room, wanted, sets, own):
     libraries = [Library(room, name, os.path.join(HERE, "libs", name + ".genlib")) for name in LIBRARIES]
     first = next(iter(sets.values()))
     every = {circuit: path for circuits in sets.values() for circuit, path in circuits.items()}
-    found, trades = {}, {}
+    found, trades, printed = {}, {}, {}
     if "machine" in wanted:
         machine(room)
     if "maps" in wanted:
@@ -113,9 +128,9 @@ def measure(room, wanted, sets, own):
     if "certificates" in wanted:
         parts.certificates(room, libraries, first)
     if "texts" in wanted and own:
-        parts.texts()
+        printed = parts.texts()
     if "goals" in wanted:
-        goals(found, room, trades)
+        goals(found, room, trades, printed)
     if "quality" in wanted and own:
         quality.record(room, libraries, sets)
 

@@ -261,10 +261,13 @@ def loads(room, circuits):
 
 
 def texts():
-    """What the scripts for texts and limits print."""
+    """What the scripts for texts and limits print; gives it by script."""
+    printed = {}
     for name, environment in (("layers", {}), ("blif", {}), ("verilog", {"RUNS": "1"}), ("sim", {})):
         print(f"### `bench/{name}.sh`\n", flush=True)
         run = subprocess.run(["sh", os.path.join(HERE, name + ".sh")], capture_output=True, text=True, env={**os.environ, **environment},
                              check=False)
+        printed[name] = run.stdout
         print(run.stdout or f"failed: {run.stderr[:200]}\n")
         tell(name)
+    return printed
