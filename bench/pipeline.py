@@ -10,8 +10,7 @@ Example: python3 bench/pipeline.py
 import os
 import sys
 
-import script
-import svg
+from lib import script, svg
 
 ROOT = os.path.join(os.path.dirname(os.path.abspath(__file__)), "..")
 # what is made, how, and what carries that; a row of boxes each

@@ -100,8 +100,9 @@ else
     echo "skipped: there is no berkeley-abc"
 fi
 
-python3 bench/plot.py bench/RESULTS.md "$room" && python3 bench/and3.py "$room/and3.svg"
-for name in delay time and3; do
+python3 bench/plot.py bench/RESULTS.md "$room" && python3 bench/and3.py "$room/and3.svg" &&
+    python3 bench/choices.py "$room/choices.svg" && python3 bench/pipeline.py "$room/pipeline.svg"
+for name in delay and3 choices pipeline; do
     cmp -s "$room/$name.svg" "docs/pictures/$name.svg"
     good "docs/pictures/$name.svg is what its script draws now"
 done
