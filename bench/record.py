@@ -1,10 +1,10 @@
 #!/usr/bin/env python3
 """Records the delay and area of what the program writes, and finds figures that got worse.
 
-  quality.py [PART]
+  record.py [PART]
 
-bench/quality.csv has a line 'circuit,library,words,delay,area' for each run, of tables 'circuit,-,words,depth,tables'; the words
-are those of the command line before the files. 'PARTS=quality sh bench/all.sh' writes it. PART is 0, 1 or 2 (0): every third line
+bench/record.csv has a line 'circuit,library,words,delay,area' for each run, of tables 'circuit,-,words,depth,tables'; the words
+are those of the command line before the files. 'PARTS=record sh bench/all.sh' writes it. PART is 0, 1 or 2 (0): every third line
 is run again, from that one on. Each figure that is greater than the recorded one is printed, and each run that fails; the last line
 is 'N passed, N failed'. Figures that are smaller are printed too, and the file is then to be written anew.
 """
@@ -17,7 +17,7 @@ from lib import program, script
 from measure import Library, Room, table_size
 
 HERE = os.path.dirname(os.path.realpath(__file__))
-RECORD = os.path.join(HERE, "quality.csv")
+RECORD = os.path.join(HERE, "record.csv")
 SETS = ("circuits", "further")
 # What is recorded besides 'map', with this library; runs that take more seconds are left out.
 WAYS, WITH, SECONDS = ["map -w 3", "trade none"], "mcnc", 0.5
@@ -50,7 +50,7 @@ def record(room, libraries, sets):
         lines += lines_of(room, circuit, None, ["lut 4", "lut 6"])
     with open(RECORD, "w", encoding="ascii", newline="") as file:
         csv.writer(file, lineterminator="\n").writerows(lines)
-    print(f"{len(lines)} lines of bench/quality.csv written")
+    print(f"{len(lines)} lines of bench/record.csv written")
 
 
 def lines_of(room, circuit, library, ways):
@@ -81,4 +81,4 @@ def main(words):
 
 
 if __name__ == "__main__":
-    script.run("quality", main)
+    script.run("record", main)
