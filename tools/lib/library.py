@@ -19,7 +19,10 @@ class Library:
             self.sizes = liberty.functions(text)
         else:
             shutil.copyfile(given, self.path(self.file))
-        self.cells = genlib.read_genlib(self.path(self.file))
+        try:
+            self.cells = genlib.read_genlib(self.path(self.file))
+        except Fault as fault:
+            raise Fault(str(fault).replace(self.path(self.file), given, 1)) from None
         self.look()
         with open(self.path("padded.genlib"), "w", encoding="latin-1") as out:
             out.write(genlib.padded(self.cells))

@@ -264,18 +264,21 @@ def search(work):
 
 
 def loop(work):
-    """The best netlist as a network again, until a turn gains nothing."""
-    clock = runs.Clock()
+    """Our best netlist as a network again, each once, until two turns in a row gain nothing."""
+    clock, used, idle = runs.Clock(), set(), 0
     before = clock.spent()
     for turn in range(1, work.effort.loop + 1):
-        best = min(work.netlists, key=Netlist.rank)
-        network, netlist = again(work, best, turn)
+        fresh = [one for one in work.netlists if one.ours() and one not in used]
+        if not fresh or idle == 2 or clock.spent() - before > work.search:
+            return
+        best, seed = min(one.rank() for one in work.netlists), min(fresh, key=Netlist.rank)
+        used.add(seed)
+        network, netlist = again(work, seed, turn)
         if network is None:
             return
         last_step(work, [network])
         keep_theirs(work, [netlist])
-        if min(work.netlists, key=Netlist.rank) is best or clock.spent() - before > work.search:
-            return
+        idle = 0 if min(one.rank() for one in work.netlists) < best else idle + 1
 
 
 # Area
