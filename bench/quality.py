@@ -11,7 +11,7 @@
   -n          measures nothing, and prints the tables of what RAW has
   -t          the small circuits first, in all libraries
 
-Without words the circuits are those of bench/circuits. For each library there is a table: for each flow the geometric means of
+Without words the circuits are those of bench/circuits and bench/further. For each library there is a table: for each flow the geometric means of
 delay and area to ABC's 'strash; map' of the circuit as given, the processor seconds of all its circuits, and how many circuits it
 has; 'ABC, best' is by circuit the best of ABC's flows. The means of two flows can be compared where both have all
 circuits; the lines 'on the same circuits' compare each effort of lwflow with ABC's best on the circuits that both have. Netlists
@@ -159,7 +159,7 @@ def table(raw, name, efforts):
 
 def circuits_of(words):
     """The files of circuits by name."""
-    words = words or [os.path.join(program.ROOT, "bench", "circuits")]
+    words = words or [os.path.join(program.ROOT, "bench", name) for name in ("circuits", "further")]
     files = [file for word in words for file in (sorted(glob.glob(os.path.join(word, "*.blif"))) if os.path.isdir(word) else [word])]
     return {os.path.basename(file).removesuffix(".blif"): file for file in files}
 
