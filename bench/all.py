@@ -13,13 +13,13 @@ import time
 
 import maps
 import parts
-import quality
+import record
 from lib import program, script
 from measure import ABC, LIMIT, RUNS, Library, Room, head, mean, row, said
 
 HERE = os.path.dirname(os.path.realpath(__file__))
 LIBRARIES = os.environ.get("LIBS", "tiny mcnc rich").split()
-PARTS = "machine maps sizes loads trade luts widths idempotence certificates texts goals quality"
+PARTS = "machine maps sizes loads trade luts widths idempotence certificates texts goals record"
 # The part of the processor time of ABC's map that 'map' is to take, starts included.
 GOALS = {"tiny": 0.10, "mcnc": 0.12, "rich": 0.20}
 
@@ -131,15 +131,15 @@ def measure(room, wanted, sets, own):
         printed = parts.texts()
     if "goals" in wanted:
         goals(found, room, trades, printed)
-    if "quality" in wanted and own:
-        quality.record(room, libraries, sets)
+    if "record" in wanted and own:
+        record.record(room, libraries, sets)
 
 
 def main(words):
     for tool in ("/usr/bin/time", "prlimit"):
         if not shutil.which(tool):
             raise script.Fault(f"there is no {tool}")
-    folders = words[:1] or [os.path.join(HERE, name) for name in quality.SETS]
+    folders = words[:1] or [os.path.join(HERE, name) for name in record.SETS]
     sets = {os.path.basename(os.path.abspath(folder)): circuits_of(folder) for folder in folders}
     if not all(sets.values()):
         raise script.Fault(f"there is no .blif in {folders[0]}")

@@ -166,8 +166,18 @@ def spread(seconds):
     return f"{1000 * statistics.median(seconds):.1f}", f"{1000 * seconds[0]:.1f} to {1000 * seconds[-1]:.1f}"
 
 
+def with_all(found):
+    """The same, and where there are several sets the figures of all of them together."""
+    folders = {folder for folder, _ in found}
+    joined = dict(found)
+    for _, library in found if len(folders) > 1 else ():
+        joined["all", library] = {circuit: f for (_, name), figures in found.items() if name == library for circuit, f in figures.items()}
+    return joined
+
+
 def report(found, verdicts, room):
-    summary(found, verdicts)
-    front_ends(found)
-    times(found, room)
+    joined = with_all(found)
+    summary(joined, verdicts)
+    front_ends(joined)
+    times(joined, room)
     circuits(found)

@@ -1,17 +1,18 @@
 #!/usr/bin/env python3
 """The two steps of liberty.sh around ABC; it is called by that script alone.
 
-  liberty.py without PATTERNS LIBERTY OUT       LIBERTY without the cells whose names match a line of PATTERNS
+  liberty.py without PATTERNS LIBERTY OUT [every]
+                                                LIBERTY without the cells whose names match a line of PATTERNS and, unless 'every'
+                                                stands there, without pads and buffers for clocks
   liberty.py genlib LIBERTY GENLIB LOG          ABC's GENLIB as lwmap reads it; LOG is what ABC said of LIBERTY
 
 What is left out is named on standard error. A failure is one line there, and the status is 1.
 """
-import fnmatch
 import re
 import sys
 from decimal import Decimal
 
-from lib import expressions, script
+from lib import expressions, liberty, script
 from lib.script import Fault
 
 MOST_PINS, MOST_ENTRIES, BOUND = 16, 4096, 1000000
@@ -19,39 +20,6 @@ MOST_PINS, MOST_ENTRIES, BOUND = 16, 4096, 1000000
 
 def said(text):
     print("liberty: " + text, file=sys.stderr)
-
-
-def cells(text):
-    """Each cell's name, and where its group begins and ends."""
-    bare = re.sub(r"/\*.*?\*/|\"(?:\\.|[^\"\\])*\"", lambda m: re.sub(r"[{}]", " ", m[0]) if m[0][0] == '"'
-                  else " " * len(m[0]), text, flags=re.S)
-    found = []
-    for m in re.finditer(r"\bcell\s*\(\s*\"?([^\s\")]+)\"?\s*\)\s*\{", bare):
-        depth, at = 1, m.end()
-        while depth:
-            brace = re.compile(r"[{}]").search(bare, at)
-            if not brace:
-                raise Fault(f"the group of cell {m[1]} does not end")
-            depth += 1 if brace[0] == "{" else -1
-            at = brace.end()
-        found.append((m[1], m.start(), at))
-    return found
-
-
-def without(patterns, text):
-    if not re.search(r"\blibrary\s*\(", text):
-        raise Fault("it holds no library of Liberty")
-    kept, at, dropped = [], 0, []
-    for name, start, end in cells(text):
-        if any(fnmatch.fnmatchcase(name, pattern) for pattern in patterns):
-            kept.append(text[at:start])
-            at = end
-            dropped.append(name)
-    if len(dropped) == len(cells(text)):
-        raise Fault("no cell is left")
-    if dropped:
-        said("left out, as asked: " + " ".join(dropped))
-    return "".join(kept) + text[at:]
 
 
 def outputs(text):
@@ -128,7 +96,7 @@ def genlib(library, path, log):
     reasons = {name: "registers" for name in re.findall(r'skipped sequential cell "(.*?)"', log)}
     reasons.update({name: "three states" for name in re.findall(r'skipped three-state cell "(.*?)"', log)})
     reasons.update({name: "no function" for name in re.findall(r'skipped cell "(.*?)" without', log)})
-    spans = {name: library[start:end] for name, start, end in cells(library)}
+    spans = {name: library[start:end] for name, start, end in liberty.cells(library)}
     reasons.update({name: "several outputs" for name in spans if name not in reasons and outputs(spans[name]) > 1})
     reasons.update({name: "another cell of the same function stands" for name in spans
                     if name not in reasons and name not in names})
@@ -158,9 +126,13 @@ def text_of(path):
 
 
 def main(words):
-    if len(words) == 4 and words[0] == "without":
+    if len(words) in (4, 5) and words[0] == "without":
+        text, asked, alone = liberty.without(text_of(words[1]).split("\n")[:-1], text_of(words[2]), words[4:] == ["every"])
+        for why, names in (("as asked", asked), ("pads and buffers for clocks", alone)):
+            if names:
+                said(f"left out ({why}): " + " ".join(names))
         with open(words[3], "w", encoding="latin-1") as out:
-            out.write(without(text_of(words[1]).split("\n")[:-1], text_of(words[2])))
+            out.write(text)
     elif len(words) == 4 and words[0] == "genlib":
         genlib(text_of(words[1]), words[2], text_of(words[3]))
     else:

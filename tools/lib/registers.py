@@ -2,10 +2,11 @@
 
 The two netlists do the same at all times where the two networks compute the same: with equal states the registers read
 equal values and clocks, and so have equal states again. Names are those of the nets that a register drives. A register of
-the first netlist without a partner has to keep one value for ever (its first one, that of its reset, or the constant that it
-reads), or else may have any value.
+the first netlist without a partner has to keep one value for ever (its first one, that of its reset, the constant that it
+reads, or, where its first value is not known, one that it reads again and again once it has it), or else may have any value.
 """
 import json
+import random
 import re
 from itertools import product
 
@@ -212,6 +213,64 @@ def tie_of(register):
     return value
 
 
+class Values:
+    """Random values of the nets of a module, many at a time, under registers that keep a value."""
+
+    WIDE = 256
+
+    def __init__(self, module):
+        self.drivers = {out: (ins, rows) for ins, out, rows in module.logic}
+        self.sources, self.random = {}, random.Random(1)
+
+    def of(self, net, kept):
+        """The values of a net where some registers' nets are constants."""
+        known = {"0": 0, "1": (1 << self.WIDE) - 1, **kept}
+        stack = [net]
+        while stack:
+            one = stack[-1]
+            if one in known:
+                stack.pop()
+            elif one not in self.drivers:
+                known[one] = self.sources.setdefault(one, self.random.getrandbits(self.WIDE))
+            else:
+                ins, rows = self.drivers[one]
+                todo = [bit for bit in ins if bit not in known]
+                if todo:
+                    stack += todo
+                else:
+                    known[one] = self.node([known[bit] for bit in ins], rows)
+        return known[net]
+
+    def node(self, values, rows):
+        ones, found = (1 << self.WIDE) - 1, 0
+        for row in rows:
+            part = ones
+            for sign, value in zip(row, values):
+                part &= ones if sign == "-" else value if sign == "1" else value ^ ones
+            found |= part
+        return found
+
+
+def steady(module, registers):
+    """Those registers of no known first value that read one value again and again once they have it, by trial with random
+    values: the value of each. That it is so is for cec to decide."""
+    values, ones = Values(module), (1 << Values.WIDE) - 1
+    found, kept, left = {}, {}, [one for one in registers if "S" not in one.pins]
+    while left:
+        fresh = []
+        for register in left:
+            for sign, value in (("0", 0), ("1", ones)):
+                data = [register.pins[port] for port in ("D", "AD") if port in register.pins]
+                if register.reset in ("", sign) and all(values.of(net, {**kept, register.q: value}) == value for net in data):
+                    found[register.q], kept[register.q] = sign, value
+                    fresh.append(register)
+                    break
+        if not fresh:
+            break
+        left = [one for one in left if one not in fresh]
+    return found
+
+
 def agree_ports(given, made):
     sides = [{name: way for name, (way, _) in module.ports.items()} for module in (given, made)]
     if sides[0] != sides[1]:
@@ -225,20 +284,22 @@ def plan(given, made):
     agree_ports(given, made)
     ins = {f"in:{name}": ([bit], [made.ports[name][1]]) for name, bit in given.side("input")}
     outs = [(f"out:{name}", ([bit], ["1"]), ([made.ports[name][1]], ["1"])) for name, bit in given.side("output")]
-    ties = []
-    for register, partner in partners(given, made):
+    ties, pairs = [], partners(given, made)
+    settled = steady(given, [register for register, partner in pairs if partner is None and tie_of(register) == "x" and register.start == "x"])
+    for register, partner in pairs:
         name = register.name()
         if partner is not None:
             agree(register, partner)
             ins.setdefault(f"register:{partner.name()}", ([], [partner.q]))[0].append(register.q)
             outs += [(f"{port}:{name}", mine, theirs) for (port, *mine), (_, *theirs)
                      in zip(sorted(reads(register)), sorted(reads(partner)))]
-        elif tie_of(register) == "x":
+            continue
+        tie = settled.get(register.q, tie_of(register))
+        if tie == "x":
             ins[f"register:{name}"] = ([register.q], [])
-        else:
-            ties.append((register.q, tie_of(register)))
-            outs += [(f"{port}:{name}", ([register.pins[port]], ["1"]), ([tie_of(register)], ["1"]))
-                     for port in ("D", "AD") if port in register.pins]
+            continue
+        ties.append((register.q, tie))
+        outs += [(f"{port}:{name}", ([register.pins[port]], ["1"]), ([tie], ["1"])) for port in ("D", "AD") if port in register.pins]
     return ins, outs, ties
 
 
