@@ -40,6 +40,8 @@ class Flow:
         self.library = library.Library(chosen.library, self.room, self.limit)
         self.loads = self.library.has_loads() and not chosen.no_loads
         self.design = self.read_design()
+        if self.design.top in self.library.cells:
+            raise Fault(f"{self.design.top} is the name of a cell, too; the design needs another name")
         self.work = search.Work(self.room, self.design.file, self.library, chosen.effort, chosen.jobs, self.told, chosen.limit, self.loads)
         search.search(self.work)
         search.trade(self.work, chosen.area)
@@ -122,8 +124,6 @@ class Flow:
             final = netlist.file
         with open(self.path("cells.v"), "w", encoding="utf-8") as out:
             out.write(genlib.modules(cells))
-        if self.design.top in cells:
-            raise Fault(f"{self.design.top} is the name of a cell, too; the design needs another name")
         self.told("the netlist as Verilog")
         self.steps += self.design.write(final, cells, "mapped.v", max(self.work.proof, 30))
 

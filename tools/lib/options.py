@@ -50,7 +50,7 @@ def parser():
     it.add_argument("--no-loads", action="store_true", help="with Liberty: judge by delays of cells, and size nothing")
     it.add_argument("-D", metavar="NAME[=V]", dest="defines", action="append", default=[], help="a define of Verilog")
     it.add_argument("-I", metavar="DIR", dest="includes", action="append", default=[], help="a folder of included files")
-    it.add_argument("-P", metavar="PARAM=V", dest="parameters", action="append", default=[], help="a parameter of the top")
+    it.add_argument("-P", metavar="PARAM=V", dest="parameters", action="append", default=[], help="a parameter of TOP, which -t names")
     it.add_argument("--vectors", metavar="N", type=int, default=1000, help="steps of the simulation beside Icarus Verilog, 0 for none (1000)")
     it.add_argument("--limit", metavar="SECONDS", type=float, help="processor time that one step may take (by size and effort)")
     it.add_argument("--jobs", metavar="N", type=int, default=os.cpu_count() or 1, help="how many steps at a time (the processors)")
@@ -77,6 +77,8 @@ def parse(words):
     options.parameters = [tuple(word.split("=", 1)) for word in options.parameters]
     if any(len(pair) != 2 for pair in options.parameters):
         it.error("-P wants PARAM=V")
+    if options.parameters and not options.top:
+        it.error("-P wants -t TOP beside it, the module whose parameter it is")
     if options.jobs < 1 or options.vectors < 0 or options.limit is not None and options.limit <= 0:
         it.error("--jobs, --vectors and --limit are numbers above 0 (--vectors may be 0)")
     options.area = area_of(it, options.area)

@@ -101,3 +101,19 @@ def declarations(path, module):
             indices = range(int(wire[3] or 0), int(wire[3] or 0) + int(wire[1] or 1))
             found.append((int(wire[5]), wire[6], (line, wire[4], list(reversed(indices)) if wire[2] else list(indices))))
     return {name: port for _, name, port in sorted(found)}
+
+
+def sets_before_resets(text):
+    """The signals of a text of RTLIL behind proc_arst that an asynchronous rule sets, or gives a value that is no constant,
+    before another asynchronous rule."""
+    found = []
+    for process in re.findall(r"^  process .*?^  end$", text, re.M | re.S):
+        rules = re.findall(r"^    sync (?:high|low) \S.*\n((?:      .*\n)*)", process, re.M)
+        for k, rule in enumerate(rules[:-1]):
+            for signal, value in re.findall(r"update (\S+(?: \[[\d:]+\])?) (.*)", rule):
+                later = [other for after in rules[k + 1:] for other in re.findall(rf"update {re.escape(signal)} (.*)", after)]
+                first = re.fullmatch(r"\d+'([01]+)", value)
+                seconds = [re.fullmatch(r"\d+'([01]+)", other) for other in later]
+                if later and (not first or any(not one or any(a == "1" and b == "0" for a, b in zip(first[1], one[1])) for one in seconds)):
+                    found.append(signal.lstrip("\\"))
+    return list(dict.fromkeys(found))

@@ -15,7 +15,7 @@ Effort = namedtuple("Effort", "fronts rounds loop widths search proof")
 EFFORTS = {
     "fast": Effort(("if4",), 1, 0, (6,), 2, 2),
     "normal": Effort(("if4", "dch+map"), 3, 0, (6,), 10, 10),
-    "best": Effort(("if4", "dch+map"), 4, 12, (6, 8), 40, 40),
+    "best": Effort(("if4", "dch+map"), 4, 20, (6, 8), 30, 40),
 }
 GIVEN = "as given"
 
@@ -264,12 +264,12 @@ def search(work):
 
 
 def loop(work):
-    """Our best netlist as a network again, each once, until two turns in a row gain nothing."""
+    """A netlist as a network again, by turns our best one and the best of all, each once, until three in a row gain nothing."""
     clock, used, idle = runs.Clock(), set(), 0
     before = clock.spent()
     for turn in range(1, work.effort.loop + 1):
-        fresh = [one for one in work.netlists if one.ours() and one not in used]
-        if not fresh or idle == 2 or clock.spent() - before > work.search:
+        fresh = [one for one in work.netlists if one not in used and (turn % 2 == 0 or one.ours())]
+        if not fresh or idle == 3 or clock.spent() - before > work.search:
             return
         best, seed = min(one.rank() for one in work.netlists), min(fresh, key=Netlist.rank)
         used.add(seed)

@@ -1,6 +1,9 @@
 """Simulation of a design in Verilog beside its netlist, by Icarus Verilog, on random values: Icarus is the one reader of the
 Verilog that is not Yosys.
 
+A register with both a set and a reset that do not wait for the clock, or with an asynchronous load, follows levels in a netlist,
+and only edges in Verilog; where there is one, the sides are compared behind both edges of each clock alone.
+
 Both sides begin with equal registers: known first values as they are, all others at 0, or at what the netlist has made of
 them. Inputs change one at a time where an edge may hang on them, so that no order of events is a matter of chance. A bit counts
 where both sides know it.
@@ -36,6 +39,7 @@ class Bench:
         self.made = registers.Module(design.path("made.json"), design.top)
         self.ports = {name: (way, len(indices)) for name, (_, way, indices) in rtlil.declarations(design.path("proc.il"), design.top).items()}
         self.starts = self.first_values()
+        self.loose = any("S" in one.pins and "R" in one.pins or "L" in one.pins for one in self.given.registers)
         self.edges, self.levels = self.reaching(("C", "E")), self.reaching(("R", "S", "L"))
 
     def first_values(self):
@@ -77,6 +81,7 @@ class Bench:
         lines += ["task look; begin"] + [line for name, width in outs for line in self.look(name, width)] + ["end endtask"]
         lines += ["initial begin", "same = 0; open = 0;"] + [f"\\{name} = {{{(width + 31) // 32}{{$random}}}}; #1;" for name, width in ins]
         lines += deposits + ["#1 look;", f"for (turn = 0; turn < {self.vectors}; turn = turn + 1) begin"]
+        ins.sort(key=lambda pair: pair[0] in self.edges)
         lines += [line for name, width in ins for line in self.change(name, width)]
         lines += ["#1 look;", "end", '$display("SAME %0d OPEN %0d", same, open); $finish; end']
         return "module lwflow_bench;\n" + "\n".join(lines) + "\nendmodule\n"
@@ -91,6 +96,9 @@ class Bench:
         """How an input changes in a step."""
         careful = name in self.edges or name in self.levels
         odds = 1 if name in self.edges else 16 if name in self.levels or width == 1 and SLOW.search(name) else 2
+        if self.loose and careful:
+            turns = f"\\{name} [at] = ~\\{name} [at]; #1; " * (2 if name in self.edges else 1)
+            return [f"for (at = 0; at < {width}; at = at + 1) if ($unsigned($random) % {odds} == 0) begin {turns}end"]
         if careful:
             return [f"for (at = 0; at < {width}; at = at + 1) if ($unsigned($random) % {max(odds, 2)} == 0) begin kept = at; "
                     f"\\{name} [kept] = ~\\{name} [kept]; #1 look; at = kept; end"]
@@ -102,11 +110,11 @@ class Bench:
         """The lines that set the registers of both sides; skipped names are no variables."""
         lines, missing = [], 0
         for names, value in self.starts:
-            usable = [name for name in names if name not in skipped and all(PLAIN.fullmatch(part) for part in split(name))]
+            usable = [path for name in names for path in paths(name) if path not in skipped]
             if value == "x" or not usable:
                 missing += 1
                 continue
-            lines.append(f"g_side.{'.'.join(split(usable[0]))} = 1'b{value}; // {usable[0]}")
+            lines.append(f"g_side.{usable[0]} = 1'b{value}; // {usable[0]}")
         for width, name, value in re.findall(r"^\s*reg (?:\[(\d+:\d+)\] )?(\\\S+ |\w+)(?:\s*=\s*(\d+'\w+))?;", self.netlist(), re.M):
             lines.append(f"m_side.{name} = {value or 0};")
             del width
@@ -147,7 +155,7 @@ class Bench:
         chosen, skipped = self.design.options, set()
         words = [f"-D{define}" for define in chosen.defines] + [f"-I{folder}" for folder in chosen.includes]
         bench, log = os.path.join(self.folder, "bench.v"), os.path.join(self.folder, "iverilog.log")
-        for _ in range(12):
+        for _ in range(20):
             lines, missing = self.deposits(skipped)
             text = self.text(lines)
             with open(bench, "w", encoding="utf-8") as out:
@@ -166,6 +174,15 @@ class Bench:
         raise Fault("Icarus Verilog does not read the design: " + (yosys.read(log).strip().splitlines() or ["no reason is given"])[0])
 
 
-def split(name):
-    """The parts of a name between dots that stand outside of brackets."""
-    return re.split(r"\.(?![^\[]*\])", name)
+def paths(name):
+    """How a variable of a name may be called from outside: each dot may be one of the hierarchy or of an escaped name."""
+    name = re.sub(r"%([0-9a-f]{2})", lambda sign: chr(int(sign[1], 16)), name)
+    parts = re.split(r"\.(?![^\[]*\])", name)
+    found = [name] if all(PLAIN.fullmatch(part) for part in parts) else []
+    for count in range(len(parts)):
+        if all(PLAIN.fullmatch(part) for part in parts[:count]):
+            before, last = "".join(part + "." for part in parts[:count]), ".".join(parts[count:])
+            found.append(f"{before}\\{last} ")
+            index = re.fullmatch(r"(.*)(\[\d+\])", last)
+            found += [f"{before}\\{index[1]} {index[2]}"] if index else []
+    return found

@@ -36,7 +36,8 @@ class Verilog:
 
     def given(self, passes=""):
         """The design as Yosys reads it, without any of its optimising passes, as given.json."""
-        return self.yosys(f"{yosys.reading(self.options)}; proc; write_rtlil {self.path('proc.il')}; flatten; design -save plain; tribuf; "
+        arst = "proc_clean; proc_rmdead; proc_prune; proc_init; proc_arst"
+        return self.yosys(f"{yosys.reading(self.options)}; {arst}; write_rtlil {self.path('arst.il')}; proc; write_rtlil {self.path('proc.il')}; flatten; design -save plain; tribuf; "
                           f"tee -q -o {self.path('tristate.txt')} select -list t:$tribuf; design -load plain; {passes} "
                           f"memory -nordff -nomap; opt_clean; memory_map; techmap; {yosys.FINE} {self.path('given.json')}", "given.log")
 
@@ -51,10 +52,11 @@ class Verilog:
         self.top = yosys.top_of(self.path("proc.il"))
         if not re.fullmatch(r"[A-Za-z_][A-Za-z0-9_]*", self.top):
             raise Fault(f"the top's name {self.top} has other signs than letters, digits and _")
-        complex_resets = re.findall(r"Complex async reset for dff `\\?(.*?)'", log)
-        if complex_resets:
-            raise Fault(f"register {', '.join(complex_resets)} has a set that comes before its reset, which Yosys reads the other way round; "
-                        "write the reset first, if (reset) .. else if (set) .., or make one of them wait for the clock")
+        if "Complex async reset" in log:
+            wrong = rtlil.sets_before_resets(yosys.read(self.path("arst.il")))
+            if wrong:
+                raise Fault(f"register {', '.join(wrong)} has an asynchronous set that comes before its reset, which Yosys reads the other way "
+                            "round; write the reset first, if (reset) .. else if (set) .., or make one of them wait for the clock")
         drivers = yosys.read(self.path("tristate.txt")).split()
         ports = rtlil.declarations(self.path("proc.il"), self.top)
         inouts = [name for name, (_, way, _) in ports.items() if way == "inout"]
@@ -115,8 +117,7 @@ class Verilog:
         free = [one.name() for one in found if one.start == "x" and not {"R", "S"} & set(one.pins)]
         if free:
             self.notes.append(f"{len(free)} of {len(found)} registers have neither an initial value nor an asynchronous reset "
-                              f"({', '.join(free[:3])}{' ..' * (len(free) > 3)}); a simulation of the netlist that begins at x may stay there, since a "
-                              "reset that waits for the clock is part of the logic: begin it with registers at 0")
+                              f"({', '.join(free[:3])}{' ..' * (len(free) > 3)}); a simulation of the netlist at x may stay there: begin it with registers at 0")
 
     # Steps
 

@@ -37,7 +37,7 @@ def reason(log):
         return f"several drivers of one net ({nets}); each net has to be assigned in one place"
     loops = re.findall(r"Warning: found logic loop in module (\S+?):\n((?:    .*\n)*)", log)
     if loops:
-        nets = [word.replace("\\", "") for line in loops[0][1].splitlines() for word in line.split()[-1:]]
+        nets = re.findall(r"\\(\S+)", loops[0][1]) or re.findall(r"^    (\w\S*)$", loops[0][1], re.M)
         return f"a loop of logic without a register, through {', '.join(nets[:4]) or loops[0][0]}"
     errors = re.findall(r"^(?:\S+:\d+: )?ERROR: .*|^.*ERROR: .*", log, re.M)
     return "Yosys: " + (errors[-1].replace("ERROR: ", "").replace("\\", "") if errors else "it failed without an error")
@@ -54,7 +54,9 @@ def quoted(path):
 
 def reading(options):
     """The passes that read the files of Verilog and take the top."""
-    words = "".join(f" -D {define}" for define in options.defines) + "".join(f" -I {quoted(folder)}" for folder in options.includes)
+    words = "".join(f" -D {define}" for define in options.defines) + "".join(f" -I {folder}" for folder in options.includes)
+    if any(len(word.split()) != 1 for word in options.includes + options.defines):
+        raise Fault("-D and -I take no words with blanks in them, since Yosys takes none")
     passes = [f"read_verilog{' -sv' if file.endswith(('.sv', '.svh')) else ''}{words} {quoted(file)}" for file in options.files]
     top = f"-top {options.top}" if options.top else "-auto-top"
     values = "".join(f" -chparam {name} {value}" for name, value in options.parameters)
