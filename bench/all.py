@@ -50,7 +50,8 @@ def machine(room):
     row("load average at the start", f"{os.getloadavg()[0]:.1f}")
     row("ABC", first_line("dpkg-query", "-W", "-f", "${Version}", "berkeley-abc"))
     row("Yosys", first_line("yosys", "-V").split("(")[0])
-    row("start of `lwmap`, of ABC", f"{1000 * room.starts['lwmap']:.1f} ms, {1000 * room.starts['abc']:.1f} ms")
+    row("start of `lwmap`", f"{1000 * room.start([room.program]):.1f} ms")
+    row("start of ABC", f"{1000 * room.start([ABC, '-s', '-q', 'quit']):.1f} ms" if ABC else "-")
     row("runs for a time; limit of a run, of `cec`", f"{RUNS}; {LIMIT} and {max(1, LIMIT // 5)} processor seconds")
     print()
 
@@ -112,7 +113,7 @@ def measure(room, wanted, sets, own):
         machine(room)
     if "maps" in wanted:
         found, verdicts = maps.measure(room, libraries, sets)
-        maps.report(found, verdicts, room)
+        maps.report(found, verdicts)
     if "sizes" in wanted and ABC:
         parts.sizes(room, next((library for library in libraries if library.name == "mcnc"), libraries[0]))
     if "loads" in wanted and ABC:

@@ -37,6 +37,7 @@ class Circuit:
     def measure(self):
         self.ours("given", self.network)
         if "given" in self.figures:
+            self.figures["given start"] = self.room.start([self.room.program])
             self.figures["given s"] = self.room.timed([self.room.program, "map", self.library.path, self.network])
         if ABC:
             self.beside_abc()
@@ -47,6 +48,7 @@ class Circuit:
         if "map" in self.figures:
             begin = f"read_genlib {self.library.peers}; read_blif {self.network}"
             script = f"{begin}; {SCRIPTS['map']}; write_blif {self.room.path('abc.blif')}"
+            self.figures["map start"] = self.room.start([ABC, "-s", "-q", "quit"])
             self.figures["map s"] = self.room.timed([ABC, "-s", "-q", script])
         for name in MAPPED:
             front = self.room.path("front.blif")
@@ -124,7 +126,7 @@ def front_ends(found):
     print()
 
 
-def times(found, room):
+def times(found):
     print("### Run time and memory of `map` and of ABC's `strash; map`\n")
     head("set, library", "circuits", "time, mean ratio", "starts left out", "slower than ABC", "total s of `lwmap`", "of ABC",
          "greatest MB of `lwmap`", "of ABC")
@@ -133,7 +135,7 @@ def times(found, room):
         if not both:
             continue
         pairs = [(statistics.median(f["given s"]), statistics.median(f["map s"])) for f in both]
-        less = [max(a - room.starts["lwmap"], 1e-4) / max(b - room.starts["abc"], 1e-4) for a, b in pairs]
+        less = [max(a - f["given start"], 1e-4) / max(b - f["map start"], 1e-4) for (a, b), f in zip(pairs, both)]
         row(f"{folder}, {library}", len(both), said(mean([a / b for a, b in pairs])), said(mean(less)), sum(a > b for a, b in pairs),
             said(sum(a for a, _ in pairs), 2), said(sum(b for _, b in pairs), 2),
             f"{max(f['given MB'] for f in both):.0f}", f"{max(f['map MB'] for f in both):.0f}")
@@ -175,9 +177,9 @@ def with_all(found):
     return joined
 
 
-def report(found, verdicts, room):
+def report(found, verdicts):
     joined = with_all(found)
     summary(joined, verdicts)
     front_ends(joined)
-    times(joined, room)
+    times(joined)
     circuits(found)

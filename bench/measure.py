@@ -34,13 +34,13 @@ class Room:
 
     def __init__(self, folder, program):
         self.folder, self.program, self.limit = folder, program, LIMIT
-        self.starts = {"lwmap": self.start([program]), "abc": self.start([ABC, "-s", "-q", "quit"]) if ABC else 0}
 
     def path(self, name):
         return os.path.join(self.folder, name)
 
     def start(self, command):
-        return statistics.median(self.timed(command, 15))
+        """The time of a call that does nothing."""
+        return statistics.median(self.timed(command, 5))
 
     def spawn(self, command, out=os.devnull):
         """Spawned and not forked, so that what Python does before the command becomes another program does not count."""

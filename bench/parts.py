@@ -6,6 +6,7 @@ import statistics
 import subprocess
 import sys
 
+from lib.liberty import without
 from maps import ROUNDS, SCRIPTS
 from measure import ABC, LIMIT, UNMAP, Library, common, head, mean, ratio, row, said, table_size, tell
 
@@ -204,15 +205,15 @@ def sizes(room, library):
 
 # Loads
 
-LOADS = {"raw": "topo; stime", "buffered": "topo; buffer; topo; stime", "sized": "topo; buffer; topo; upsize; dnsize; topo; stime"}
+STEPS = ["raw", "buffered", "sized"]
+LOADS = "topo; stime; buffer; topo; stime; upsize; dnsize; stime"
 
 
-def stime(room, liberty, netlist, commands):
-    """Delay and area as ABC's 'stime' prints them."""
-    run = room.once([ABC, "-s", "-q", f"read_lib {liberty}; read_blif {netlist}; {commands}"])
+def stime(room, liberty, netlist):
+    """Area and delay as ABC's 'stime' prints them after each step."""
+    run = room.once([ABC, "-s", "-q", f"read_lib -w {liberty}; read_blif {netlist}; {LOADS}"])
     with open(run.out, encoding="latin-1") as text:
-        found = re.search(r"Area = *([0-9.]+).*Delay = *([0-9.]+) ps", text.read())
-    return (float(found[2]), float(found[1])) if found else None
+        return re.findall(r"Area = *([0-9.]+).*Delay = *([0-9.]+) ps", text.read())
 
 
 def script_to(path, *words):
@@ -230,30 +231,30 @@ def loads_circuit(room, library, liberty, network, script):
     for who, size, path, cells in (("lwmap", ours, run.out, library.path), ("abc", theirs, room.path("abc.blif"), library.peers)):
         f[who + " own"], f[who + " own area"] = size
         script_to(room.path("nowires"), sys.executable, os.path.join(ROOT, "tools", "nowires.py"), cells, path)
-        for step, commands in LOADS.items():
-            got = stime(room, liberty, room.path("nowires"), commands)
-            if got:
-                f[f"{who} {step}"], f[f"{who} {step} area"] = got
+        for step, (area, delay) in zip(STEPS, stime(room, liberty, room.path("nowires"))):
+            f[f"{who} {step}"], f[f"{who} {step} area"] = float(delay), float(area)
     return f
 
 
 def loads(room, circuits):
-    """With a library in Liberty, whose loads and slews ABC's 'stime' counts."""
+    """With a library in Liberty, whose loads and slews ABC's 'stime' counts. Pads and buffers for clocks are left out."""
     liberty = os.environ.get("LIBERTY", "/usr/share/qflow/tech/osu035/osu035_stdcells.lib")
     print("### Real loads\n")
     if not os.path.exists(liberty):
         print(f"Not measured: there is no {os.path.basename(liberty)}.\n")
         return
-    script_to(room.path("liberty.genlib"), "sh", os.path.join(ROOT, "tools", "liberty.sh"), "-x", "PAD*", "-x", "CLKBUF*", liberty)
+    with open(liberty, encoding="latin-1") as text, open(room.path("given.lib"), "w", encoding="latin-1") as out:
+        out.write(without([], text.read())[0])
+    script_to(room.path("liberty.genlib"), "sh", os.path.join(ROOT, "tools", "liberty.sh"), liberty)
     library = Library(room, "liberty", room.path("liberty.genlib"))
     head(f"{os.path.basename(liberty)}, {len(circuits)} circuits", "figure", "circuits", "`lwmap` to ABC's `map`", "lower/equal/higher",
          "area")
     for kind, name in (("as given", "map"), ("after three rounds", "three rounds")):
         figures = {}
         for circuit, network in circuits.items():
-            figures[circuit] = loads_circuit(room, library, liberty, network, SCRIPTS[name])
+            figures[circuit] = loads_circuit(room, library, room.path("given.lib"), network, SCRIPTS[name])
             tell("loads", kind, circuit)
-        for step in ["own", *LOADS]:
+        for step in ["own", *STEPS]:
             delay, number, order = ratio(figures, "lwmap " + step, "abc " + step)
             row(kind, {"own": "block delays"}.get(step, f"`stime`, {step}"), number, delay, order,
                 ratio(figures, f"lwmap {step} area", f"abc {step} area", 2)[0])

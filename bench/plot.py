@@ -3,7 +3,7 @@
 
   plot.py [RESULTS FOLDER]
 
-RESULTS is a page with tables 'Circuits of circuits with LIB', as bench/all.sh prints them. FOLDER gets delay.svg. Without words they
+RESULTS is a page with tables 'Circuits of SET with LIB', as bench/all.sh prints them. FOLDER gets delay.svg. Without words they
 are bench/RESULTS.md and docs/pictures. Each sign is the delay of lwmap as a ratio to that of ABC's map, for circuits as given. The
 circuits are in two groups, sorted by the ratio with the first library of mcnc, rich, tiny that is there.
 
@@ -23,8 +23,8 @@ ROOT = os.path.join(os.path.dirname(os.path.abspath(__file__)), "..")
 LIBRARIES = ["mcnc", "rich", "tiny"]
 # What the letters behind a circuit's name say of its nodes.
 WIDE = re.compile(r"_(l4|l5|l6|s|f|r)$")
-LEFT, RIGHT, TOP, STEP, WIDTH = 150, 30, 96, 19, 760
-MARKS = [0.7, 0.8, 0.9, 1, 1.1, 1.2, 1.3, 1.4]
+LEFT, RIGHT, TOP, STEP, WIDTH = 150, 30, 96, 16, 760
+MARKS = [0.7, 0.8, 0.9, 1, 1.1, 1.2, 1.3, 1.4, 1.5]
 
 
 def tables(page):
@@ -49,11 +49,11 @@ def delays(page):
     """For each library the ratio of each circuit."""
     found = {}
     for heading, rows in tables(page):
-        name = re.fullmatch(r"Circuits of circuits with (\S+)", heading)
+        name = re.fullmatch(r"Circuits of \S+ with (\S+)", heading)
         if name and "`map`: delay" in rows[0]:
             ours, theirs = rows[0].index("`lwmap`: delay"), rows[0].index("`map`: delay")
-            found[name[1]] = {row[0]: number(row[ours]) / number(row[theirs]) for row in rows[2:]
-                              if number(row[ours]) and number(row[theirs])}
+            ratios = {row[0]: number(row[ours]) / number(row[theirs]) for row in rows[2:] if number(row[ours]) and number(row[theirs])}
+            found.setdefault(name[1], {}).update(ratios)
     if not found:
         raise Fault("there is no table of delays by circuit")
     return {library: found[library] for library in LIBRARIES if library in found}

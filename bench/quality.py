@@ -9,7 +9,7 @@
               ('tiny mcnc rich osu035 osu035+loads')
   -r RAW      the file of raw results, a line of CSV each (quality.csv); what stands there is not measured again
   -n          measures nothing, and prints the tables of what RAW has
-  -t          the small circuits first, in all libraries
+  -t          the small circuits first
 
 Without words the circuits are those of bench/circuits and bench/further. For each library there is a table: for each flow the geometric means of
 delay and area to ABC's 'strash; map' of the circuit as given, the processor seconds of all its circuits, and how many circuits it
@@ -23,6 +23,8 @@ import glob
 import json
 import math
 import os
+import re
+import shutil
 import subprocess
 import sys
 import tempfile
@@ -31,7 +33,7 @@ from lib import abc, blif, fronts, genlib, library, program, runs, script, searc
 from lib.script import Fault
 
 OSU = "/usr/share/qflow/tech/osu035/osu035_stdcells.lib"
-THEIRS = {"map": "strash; map", "dch; map": "strash; dch; map", **{f"{k} round{'s' * (k > 1)}": fronts.rounds(k) + "; map" for k in range(1, 5)}}
+THEIRS = ["map", "dch; map", *(f"{k} round{'s' * (k > 1)}" for k in range(1, 5))]
 LIMIT = 120
 FIELDS = "library circuit flow delay area seconds status".split()
 
@@ -67,32 +69,48 @@ class Raw:
         self.rows[row["library"], row["circuit"], row["flow"]] = row
 
 
+def script_of():
+    """ABC's commands for all of its flows, in one process: after each a netlist, and what it took since the last 'time'."""
+    first, choices = fronts.ROUND.rsplit("; ", 1)
+    commands = ["read_genlib padded.genlib", "read_blif cut.blif", "strash", "time", "backup", "map", "write_blif abc.0.blif", "time",
+                "restore", "dch", "map", "write_blif abc.1.blif", "time", "restore"]
+    for k in range(1, 5):
+        commands += [first, choices, "backup", "time", "map", f"write_blif abc.{k + 1}.blif", "time", "restore"]
+    return "; ".join(commands)
+
+
+def seconds_of(log):
+    """What each flow took, from the times of that script: reading counts for each, and a round for all behind it."""
+    parts = [float(one) for one in re.findall(r"elapse:\s*([0-9.]+)", abc.said(log))]
+    found = [sum(parts[:1] + parts[k:k + 1]) for k in (1, 2)]
+    for k in range(1, 5):
+        found.append(parts[0] + sum(parts[3:2 * k + 2:2]) + sum(parts[2 * k + 2:2 * k + 3]) if len(parts) > 2 * k + 2 else 0)
+    return found
+
+
 def theirs(raw, name, circuit, path):
     """ABC's flows for one circuit."""
-    todo = [flow for flow in THEIRS if (name, circuit, "ABC, " + flow) not in raw.rows]
-    if not todo:
+    if all((name, circuit, "ABC, " + flow) in raw.rows for flow in THEIRS):
         return
     with tempfile.TemporaryDirectory() as room:
         file, loads = library_of(name)
-        work = search.Work.__new__(search.Work)
-        with open(path, "rb") as given, open(os.path.join(room, "design.blif"), "wb") as out:
-            out.write(given.read())
-        search.Work.__init__(work, room, "design.blif", library.Library(file, room, LIMIT), "normal", 1, lambda text: None, LIMIT, loads)
+        shutil.copyfile(path, os.path.join(room, "design.blif"))
+        work = search.Work(room, "design.blif", library.Library(file, room, LIMIT), "normal", 1, lambda text: None, LIMIT, loads)
         work.write("cut.blif", blif.cut(path))
-        for flow in todo:
+        ended = abc.call(script_of(), room, "abc.log", LIMIT)
+        for k, (flow, took) in enumerate(zip(THEIRS, seconds_of(work.path("abc.log")))):
+            made = f"abc.{k}.blif"
+            found = search.theirs(work, (made, search.Network("cut.blif", "given"), flow)) if abc.whole(work.path(made)) else None
             clock = runs.Clock()
             before = clock.spent()
-            ended = abc.call(f"read_genlib padded.genlib; read_blif cut.blif; {THEIRS[flow]}; write_blif abc.blif", room, "abc.log", LIMIT)
-            found = search.theirs(work, ("abc.blif", search.Network("cut.blif", "given"), flow)) if abc.whole(work.path("abc.blif")) else None
             if found and loads:
                 found = library.size(work, found)
-            if found:
-                delay, area = found.rank() if loads else (genlib.show(found.delay), genlib.show(found.area))
-                raw.add(name, circuit, "ABC, " + flow, delay, area, f"{clock.spent() - before:.2f}", "")
-            else:
+            took += clock.spent() - before
+            if not found:
                 raw.add(name, circuit, "ABC, " + flow, "", "", f"{ended.seconds:.2f}", "no netlist")
-            for left in glob.glob(os.path.join(room, "*abc.blif*")):
-                os.remove(left)
+                continue
+            delay, area = found.rank() if loads else (genlib.show(found.delay), genlib.show(found.area))
+            raw.add(name, circuit, "ABC, " + flow, delay, area, f"{took:.2f}", "")
 
 
 def ours(raw, name, circuit, path, effort):
@@ -176,14 +194,12 @@ def main(words):
     order = sorted(circuits, key=lambda one: os.path.getsize(circuits[one])) if "-t" in chosen else list(circuits)
     if "-n" not in chosen:
         runs.need("berkeley-abc")
-        for effort in [None, *efforts]:
-            for circuit in order:
-                for name in names:
-                    if effort is None:
-                        theirs(raw, name, circuit, circuits[circuit])
-                    else:
-                        ours(raw, name, circuit, circuits[circuit], effort)
-                print(f"quality: {effort or 'ABC'}: {circuit}", file=sys.stderr, flush=True)
+        for circuit in order:
+            for name in names:
+                theirs(raw, name, circuit, circuits[circuit])
+                for effort in efforts:
+                    ours(raw, name, circuit, circuits[circuit], effort)
+            print(f"quality: {circuit}", file=sys.stderr, flush=True)
     for name in names:
         print("\n".join(table(raw, name, efforts)) + "\n")
 

@@ -95,7 +95,7 @@ class Flow:
         return networks.Network(chosen, self.room, self.limit, self.library, self.told)
 
     def choose(self):
-        """The best netlist of which nothing was found wrong, and its steps."""
+        """The best netlist of which nothing was found wrong, and its steps; with --sure every step has to be shown."""
         lost = set()
         for netlist in search.ranked(self.work, self.options.area):
             if lost & ancestors(netlist.network):
@@ -103,13 +103,16 @@ class Flow:
             self.told(f"{netlist.said()}: is it right?")
             self.steps = self.prover.steps(netlist)
             wrong = [step for step in self.steps if step.verdict == "different"]
-            if not wrong:
+            open_ = [step for step in self.steps if step.verdict == "undecided"]
+            if not wrong and not (open_ and self.options.sure):
                 self.best = netlist
                 return
-            self.told(f"{netlist.said()} is WRONG and not kept: {wrong[0].what}: {wrong[0].why}")
-            self.work.lost.append(f"{netlist.said()}: WRONG: {wrong[0].what}: {wrong[0].why}")
-            lost |= {network for network in ancestors(netlist.network) if network.how == "abc" and network.parent is not None}
-        raise Fault("no netlist that was found is right: " + "; ".join(self.work.lost))
+            said = f"{netlist.said()} {'is WRONG' if wrong else 'was not decided'}: {(wrong + open_)[0].what}: {(wrong + open_)[0].why}"
+            self.told(said)
+            self.work.lost.append(said)
+            if wrong:
+                lost |= {network for network in ancestors(netlist.network) if network.how == "abc" and network.parent is not None}
+        raise Fault("no netlist that was found is shown right: " + "; ".join(self.work.lost))
 
     def write(self):
         """mapped.blif, cells.v and mapped.v in the room, and the steps behind the mapper."""

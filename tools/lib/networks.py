@@ -1,9 +1,10 @@
 """A design that is a network: BLIF as people have it, AIGER, and what ABC reads by its ending."""
 import os
+import re
 import shutil
 
 from . import abc, blif, genlib, program, runs, timing, yosys
-from .proof import Step
+from .proof import Step, same
 from .script import Fault
 
 BY_ABC = (".aig", ".pla", ".bench", ".eqn", ".baf", ".truth")
@@ -21,7 +22,7 @@ class Network:
 
     def __init__(self, options, room, limit, library, told):
         self.options, self.room, self.limit, self.library = options, room, limit, library
-        self.notes, self.steps, self.apart = [], [], False
+        self.notes, self.steps, self.apart, self.renamed = [], [], False, False
         if len(options.files) != 1:
             raise Fault("a design of BLIF or AIGER is one file")
         self.given = options.files[0]
@@ -32,7 +33,8 @@ class Network:
         if ending in BY_ABC:
             self.by_abc(ending)
         elif ending in BY_YOSYS:
-            self.by_yosys("read_aiger", ending)
+            self.by_yosys("read_aiger", self.given, ending)
+            self.renamed = True
         else:
             self.by_lwmap()
         self.canonical()
@@ -57,13 +59,15 @@ class Network:
             raise Fault(f"{self.given}: ABC does not read it: {runs.tail(self.path('read_abc.log')) or 'no reason is given'}")
         self.steps.append(Step("file to network, as ABC reads it, by cec", *abc.cec("given" + ending, "read.blif", self.room, "read_cec.log", self.limit)))
         self.notes.append("read by ABC")
+        self.renamed = True
 
-    def by_yosys(self, reader, ending):
+    def by_yosys(self, reader, file, ending):
         runs.need("yosys")
-        shutil.copyfile(self.given, self.path("given" + ending))
+        shutil.copyfile(file, self.path("given" + ending))
         yosys.call(f"{reader} {self.path('given' + ending)}; hierarchy -check -auto-top; flatten; simplemap; opt_clean -purge; splitnets -ports; "
                    f"write_blif {self.path('read.blif')}", self.room, "read_yosys.log", self.limit)
-        self.notes.append("read by Yosys")
+        if reader != "read_blif":
+            self.notes.append("read by Yosys")
 
     def by_lwmap(self):
         """BLIF as it stands where lwmap reads it; else rewritten; models in models go through Yosys."""
@@ -75,8 +79,7 @@ class Network:
             return
         changes = rewrite(self.given, self.path("rewritten.blif"), self.library.cells)
         if blif.first_word(self.path("rewritten.blif"), (".subckt",)):
-            shutil.copyfile(self.path("rewritten.blif"), self.path("given.blif"))
-            self.by_yosys("read_blif", ".blif")
+            self.by_yosys("read_blif", self.path("rewritten.blif"), ".blif")
             changes.append("models in models by Yosys")
             verdict = abc.cec("given.blif", "read.blif", self.room, "read_cec.log", self.limit)
             self.steps.append(Step("models in models to network, by Yosys and cec", *verdict))
@@ -99,8 +102,9 @@ class Network:
             lines.append(words)
         if waits:
             lines.append(["-" * (len(waits) - 2), "0"])
-        if not any(words[0] == ".model" for words in lines):
-            lines.insert(0, [".model", "unnamed"])
+        stem = re.sub(r"\W", "_", os.path.splitext(os.path.basename(self.given))[0])
+        if self.renamed or not any(words[0] == ".model" for words in lines):
+            lines = [[".model", stem]] + [words for words in lines if words[0] != ".model"]
         with open(self.path(self.file), "w", encoding="latin-1") as out:
             out.write(blif.text(lines))
         ports = blif.ports_of(self.path(self.file))
@@ -127,22 +131,30 @@ class Network:
             self.notes.append(f"{made} by lwmap")
             return [Step(f"netlist to {made}, by the theorem of lwmap verilog", "equal", "")]
         os.remove(self.path(made))
-        why = runs.tail(ended.log).removeprefix("lwmap: ")
+        why = runs.tail(ended.log).removeprefix("lwmap: no verilog: ")
         if not runs.has("yosys"):
             self.notes.append(f"no {made}: {why}; with Yosys (apt-get install yosys) there would be one")
             return []
-        with open(self.path("plain.netlist.blif"), "w", encoding="latin-1") as out:
+        if any(len(latch) < 5 or latch[4] == "NIL" for latch in self.registers):
+            self.notes.append(f"no {made}: a latch of the design names no clock")
+            return []
+        bare = self.bare("netlist.bare.blif", blif.lines(self.path(netlist)))
+        with open(self.path("unmapped.blif"), "w", encoding="latin-1") as out:
             out.write(timing.unmap(cells, self.path(netlist)).replace(".model unmapped", f".model {self.top}", 1))
-        yosys.call(f"read_verilog -lib {self.path('cells.v')}; read_blif {self.path(netlist)}; hierarchy -check -auto-top; "
+        plain = self.bare("netlist.plain.blif", blif.lines(self.path("unmapped.blif")))
+        yosys.call(f"read_verilog -lib {self.path('cells.v')}; read_blif {bare}; hierarchy -check -top {self.top}; "
                    f"write_verilog -noattr {self.path(made)}", self.room, "netlist.log", limit)
-        self.notes.append(f"{made} by Yosys: {why}")
-        yosys.call(f"read_verilog {self.path('cells.v')} {self.path(made)}; hierarchy -check -top {self.top}; proc; flatten; splitnets -ports; "
-                   f"opt_clean; simplemap; write_blif {self.path('made.blif')}", self.room, "made.log", limit)
-        with open(self.path("made.cut.blif"), "w", encoding="latin-1") as out:
-            out.write(blif.cut(self.path("made.blif")))
-        with open(self.path("plain.cut.blif"), "w", encoding="latin-1") as out:
-            out.write(blif.cut(self.path("plain.netlist.blif")))
-        return [Step(f"netlist to {made}, by cec", *abc.cec("plain.cut.blif", "made.cut.blif", self.room, "made_cec.log", limit))]
+        self.notes.append(f"{made} by Yosys")
+        for reader, json, log in ((f"read_blif {plain}", "plain.json", "plain.log"),
+                                  (f"read_verilog {self.path('cells.v')} {self.path(made)}", "made.json", "made.log")):
+            yosys.call(f"{reader}; hierarchy -check -top {self.top}; proc; flatten; {yosys.FINE} {self.path(json)}", self.room, log, limit)
+        return [same(self.room, self.top, f"netlist to {made}", ("plain.json", "made.json"), limit)]
+
+    def bare(self, file, lines):
+        """A netlist without arrivals, which Yosys does not read."""
+        with open(self.path(file), "w", encoding="latin-1") as out:
+            out.write(blif.text([words for words in lines if words[0] not in (".input_arrival", ".default_input_arrival", ".end")]))
+        return self.path(file)
 
 
 def rewrite(path, made, cells):

@@ -54,6 +54,7 @@ def parser():
     it.add_argument("--vectors", metavar="N", type=int, default=1000, help="steps of the simulation beside Icarus Verilog, 0 for none (1000)")
     it.add_argument("--limit", metavar="SECONDS", type=float, help="processor time that one step may take (by size and effort)")
     it.add_argument("--jobs", metavar="N", type=int, default=os.cpu_count() or 1, help="how many steps at a time (the processors)")
+    it.add_argument("--sure", action="store_true", help="keeps the best netlist of which every step was shown")
     it.add_argument("--json", action="store_true", help="prints the report as JSON in place of the table")
     it.add_argument("-q", "--quiet", action="store_true", help="no progress on standard error")
     it.add_argument("--version", action="version", version=version())

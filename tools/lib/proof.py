@@ -1,9 +1,23 @@
 """Whether a netlist computes what its design does: each step from the design's network to the netlist."""
+import os
 from collections import namedtuple
 
-from . import abc, program, runs, search, timing
+from . import abc, program, registers, runs, search, timing
+from .script import Fault
 
 Step = namedtuple("Step", "what verdict why")
+
+
+def same(room, top, what, files, limit):
+    """A step: whether two netlists of single bits, files of Yosys's JSON in the room, have the same registers and the same logic."""
+    folder = os.path.join(room, "compare." + ".".join(files))
+    os.makedirs(folder, exist_ok=True)
+    try:
+        number, free = registers.compare(top, *(os.path.join(room, file) for file in files), folder)
+    except Fault as fault:
+        return Step(what, "different" if str(fault).startswith("difference") else "undecided", str(fault))
+    how = (f", {number} registers by name" if number else "") + (", an x of the Verilog being anything" if free else "")
+    return Step(what + how, *abc.cec("given.blif", "made.blif", folder, "cec.log", limit))
 
 
 class Prover:

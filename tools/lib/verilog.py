@@ -3,8 +3,8 @@ that a latch of BLIF cannot say stay with Yosys. In the end Yosys puts the netli
 import os
 import re
 
-from . import abc, blif, genlib, program, registers, rtlil, runs, timing, yosys
-from .proof import Step
+from . import blif, genlib, program, registers, rtlil, runs, timing, yosys
+from .proof import Step, same
 from .script import Fault
 
 STAY = "$_DFFE_* $_DFF_???_ $_DFFSR* $_SDFF* $_ALDFF* $_DLATCH_???_ $_DLATCHSR* $_SR_*".split()
@@ -132,15 +132,7 @@ class Verilog:
 
     def same(self, what, one, other, limit):
         """A step: whether two files of JSON have the same registers and the same logic."""
-        folder = self.path(f"compare.{one}.{other}")
-        os.makedirs(folder, exist_ok=True)
-        try:
-            number, free = registers.compare(self.top, self.path(one), self.path(other), folder)
-        except Fault as fault:
-            return Step(what, "different" if str(fault).startswith("difference") else "undecided", str(fault))
-        verdict, why = abc.cec("given.blif", "made.blif", folder, "cec.log", limit)
-        how = (f" with {number} registers by name" if number else "") + (", an x of the Verilog being anything" if free else "")
-        return Step(what + how, verdict, why)
+        return same(self.room, self.top, what, (one, other), limit)
 
     def prove_reading(self, limit):
         """The steps from the Verilog to the network."""
