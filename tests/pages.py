@@ -5,10 +5,12 @@
 
 PAGE is README.md, docs/TUTORIAL.md, docs/HOWTO.md and docs/COMMANDS.md without arguments. A block is a run of indented lines. One
 that begins with a command is run by the shell, in a folder with the repository's files and with what earlier blocks of the page left.
-Each block after it, up to the next heading, has to occur in what the section's commands printed or in a file of that folder. Blocks
-with placeholders such as LIB are not run, nor those for which a tool or a library is not installed; -v names them. The last line is
-'N passed, N failed, N skipped', and the status is 0 if none failed.
+Its status has to be 0, unless the next block is what it printed. Each block after it, up to the next heading, has to occur in what the
+section's commands printed or in a file of that folder. Blocks with placeholders such as LIB are not run, and nothing of a page is run
+for which a tool is not installed; -v names what is skipped. The last line is 'N passed, N failed, N skipped', and the status is 0 if
+none failed.
 """
+import itertools
 import os
 import re
 import shutil
@@ -41,23 +43,21 @@ def blocks_of(page):
                 section = line.lstrip("# ")
 
 
-def hindrance(commands):
-    """Why commands cannot be run here, or nothing."""
-    if PLACEHOLDER.search(commands):
-        return "has a placeholder"
-    missing = [tool for tool in TOOLS if re.search(rf"\b{tool}\b|\./lwflow", commands) and not shutil.which(tool)]
-    if "osu035" in commands and not os.path.exists(LIBERTY):
-        missing.append(LIBERTY)
-    return "needs " + ", ".join(missing) if missing else ""
+def lacks(page):
+    """The tools that a page names in its blocks and that are not installed."""
+    text = "\n".join(block for _, block in blocks_of(page))
+    missing = [tool for tool in TOOLS if re.search(rf"\b{tool}\b|\./lwflow", text) and not shutil.which(tool)]
+    return missing + ([LIBERTY] if LIBERTY in text and not os.path.exists(LIBERTY) else [])
 
 
 def run(commands, folder):
-    """What commands print, on both streams."""
+    """The status of commands, and what they print on both streams."""
     try:
-        return subprocess.run(["sh", "-c", commands], cwd=folder, stdout=subprocess.PIPE, stderr=subprocess.STDOUT,
-                              stdin=subprocess.DEVNULL, timeout=SECONDS, text=True, errors="replace", check=False).stdout
+        done = subprocess.run(["sh", "-c", commands], cwd=folder, stdout=subprocess.PIPE, stderr=subprocess.STDOUT,
+                              stdin=subprocess.DEVNULL, timeout=SECONDS, text=True, errors="replace", check=False)
     except subprocess.TimeoutExpired:
-        return f"over {SECONDS} s"
+        return 1, f"over {SECONDS} s"
+    return done.returncode, done.stdout
 
 
 def occurs(block, printed, folder):
@@ -77,45 +77,51 @@ class Trial:
     """A page's blocks, tried one after another in a folder."""
     def __init__(self, page, folder, loud):
         self.page, self.folder, self.loud = page, folder, loud
-        self.section, self.printed, self.skipped = None, [], False
         self.counts = [0, 0, 0]
 
-    def skip(self, section, why):
-        self.skipped = True
-        self.counts[2] += 1
-        if self.loud:
-            print(f"skipped: {self.page}: {section}: {why}")
-
-    def take(self, section, block):
-        if section != self.section:
-            self.section, self.printed, self.skipped = section, [], False
-        if COMMAND.match(block):
-            why = hindrance(block)
-            if why:
-                return self.skip(section, why)
-            self.printed.append(run(block, self.folder))
-            good = not self.printed[-1].startswith("over ")
-        elif self.skipped or not self.printed:
-            return None
-        else:
-            good = occurs(block, self.printed, self.folder)
+    def count(self, good, section, block, printed):
         self.counts[0 if good else 1] += 1
         if not good:
-            print(f"failed: {self.page}: {section}:\n{block}\nprinted:\n{self.printed[-1]}")
+            print(f"failed: {self.page}: {section}:\n{block}\nprinted:\n{printed}")
+
+    def skip(self, what):
+        self.counts[2] += 1
+        if self.loud:
+            print(f"skipped: {self.page}: {what}")
+
+    def section(self, name, blocks):
+        """The blocks of a section; those after a command that is skipped are skipped."""
+        printed = []
+        for place, block in enumerate(blocks):
+            if COMMAND.match(block) and PLACEHOLDER.search(block):
+                return self.skip(name)
+            if COMMAND.match(block):
+                status, said = run(block, self.folder)
+                printed.append(said)
+                wanted = blocks[place + 1:place + 2]
+                self.count(status == 0 or wanted and occurs(wanted[0], [said], self.folder), name, block, said)
+            elif printed:
+                self.count(occurs(block, printed, self.folder), name, block, printed[-1])
+        return None
+
+    def take(self):
+        missing = lacks(self.page)
+        if missing:
+            return self.skip("needs " + ", ".join(missing))
+        for name, blocks in itertools.groupby(blocks_of(self.page), lambda one: one[0]):
+            self.section(name, [block for _, block in blocks])
         return None
 
 
 def main(words):
-    loud = "-v" in words
     totals = [0, 0, 0]
     for page in [word for word in words if word != "-v"] or PAGES:
         with tempfile.TemporaryDirectory() as folder:
             for name in os.listdir(ROOT):
                 if name != ".git":
                     os.symlink(os.path.join(ROOT, name), os.path.join(folder, name))
-            trial = Trial(page, folder, loud)
-            for section, block in blocks_of(page):
-                trial.take(section, block)
+            trial = Trial(page, folder, "-v" in words)
+            trial.take()
             totals = [a + b for a, b in zip(totals, trial.counts)]
     print("{} passed, {} failed, {} skipped".format(*totals))
     return totals[1] > 0
