@@ -137,6 +137,28 @@ wait $child
 verdict "an end from outside" $?
 run "a step without an answer" 3 'NOT DECIDED' -q --limit 1 --effort fast --area each -l $library tests/flows/parallel.v
 
+# The recipes of the pages: a netlist as a network again, a clock of SIS, and a certificate for a netlist of ABC.
+python3 bench/timing.py -u $library "$room/gates.blif" >"$room/plain.blif" && ./lwmap map $library "$room/plain.blif" >"$room/again.blif" &&
+    [ "$(python3 bench/timing.py -s $library "$room/again.blif")" = "$(python3 bench/timing.py -s $library "$room/gates.blif")" ]
+verdict "a netlist as a network, mapped again" $?
+printf '.model k\n.inputs d\n.outputs q\n.clock c\n.latch d q re c 0\n.end\n' | sed 's/^\.clock/.inputs/' >"$room/clock.blif"
+./lwmap map $library "$room/clock.blif" >"$room/out" 2>"$room/err"
+verdict "a clock as an input" $?
+certified() { # LIB CIRCUIT
+    python3 bench/timing.py -f "$1" >"$room/flat.genlib"
+    (cd "$room" && berkeley-abc -s -q "read_genlib flat.genlib; read_blif $root/$2; strash; map; write_blif theirs.blif" >/dev/null 2>&1)
+    python3 bench/timing.py -u "$1" "$room/theirs.blif" >"$room/network.blif"
+    awk '$1 == ".names" { nodes = nodes " " $NF } $1 == ".outputs" { outputs = outputs substr($0, 9); next } $1 == ".end" { next }
+        { print } END { print ".outputs" outputs nodes "\n.end" }' "$room/network.blif" >"$room/all.blif"
+    ./lwmap map -c "$1" "$room/all.blif" | grep '^#@' >"$room/certificate"
+    sed '/^\.end/d' "$room/theirs.blif" | cat - "$room/certificate" >"$room/claimed.blif"
+    ./lwmap check "$1" "$room/network.blif" "$room/claimed.blif" >"$room/out" 2>"$room/err"
+}
+certified examples/small/small.genlib examples/small/shared.blif && grep -q '^yes' "$room/out"
+verdict "a certificate for a netlist of ABC" $?
+! certified $library bench/circuits/rca8_y.blif && grep -q 'its label is' "$room/err"
+verdict "a netlist of ABC that can be made faster" $?
+
 # In Yosys.
 yosys -q -l "$room/log" -p "read_verilog examples/verilog/five.v; synth -flatten -noabc -top five; abc -exe $root/tools/yosys-lwmap -genlib $root/$library; opt_clean; write_verilog -noattr $room/five.v" >"$room/out" 2>"$room/err"
 [ $? -eq 0 ] && grep -q 'ABC: lwmap: delay .*each shown' "$room/log"

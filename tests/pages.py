@@ -1,14 +1,16 @@
 #!/usr/bin/env python3
-"""Runs the commands of pages and compares what they print with the pages.
+"""Runs the commands of the user pages and compares what they print with the pages.
 
-  pages.py [PAGE..]
+  pages.py [-v] [PAGE..]
 
-PAGE is README.md, docs/TUTORIAL.md, docs/HOWTO.md and docs/COMMANDS.md without words. An indented block that begins with a command is
-run as one script of the shell, page by page, in a copy of the pages' folders, with what earlier blocks of the page left there.
-Each other block after it, up to the next heading, has to occur, line by line, in what the section's commands printed or in a
-file that they wrote; a line `...` stands for any lines. Blocks with placeholders in capitals, such as LIB, are not run, and nor
-are those whose tools are not installed. The last line is 'N passed, N failed, N skipped'.
+PAGE is README.md, docs/TUTORIAL.md, docs/HOWTO.md and docs/COMMANDS.md without arguments. A block is a run of indented lines. One
+that begins with a command is run by the shell, in a folder with the repository's files and with what earlier blocks of the page left.
+Its status has to be 0, unless the next block is what it printed. Each block after it, up to the next heading, has to occur in what the
+section's commands printed or in a file of that folder. Blocks with placeholders such as LIB are not run, and nothing of a page is run
+for which a tool is not installed; -v names what is skipped. The last line is 'N passed, N failed, N skipped', and the status is 0 if
+none failed.
 """
+import itertools
 import os
 import re
 import shutil
@@ -19,105 +21,110 @@ import tempfile
 ROOT = os.path.dirname(os.path.dirname(os.path.realpath(__file__)))
 PAGES = ["README.md", "docs/TUTORIAL.md", "docs/HOWTO.md", "docs/COMMANDS.md"]
 COMMAND = re.compile(r"(\./lw\w+|sh|python3|sed|printf|cat|grep|awk|yosys|berkeley-abc|iverilog|sudo) ")
-TOOLS = ("yosys", "berkeley-abc", "iverilog")
-PLACEHOLDER = re.compile(r"\b(LIB|MAPPED|IN|TOP|VER|NAME|FILE|FOLDER|DESIGN)\b|\bx\.blif|\bbench\.v\b|\bsudo\b|yosys\.blif >cut|osu035|\[")
+PLACEHOLDER = re.compile(r"\b(LIB|MAPPED|TOP|NAME|FOLDER)\b|\b(x|circuit)\.blif|\bsudo\b")
+TOOLS = ["yosys", "berkeley-abc", "iverilog"]
+LIBERTY = "/usr/share/qflow/tech/osu035/osu035_stdcells.lib"
 SECONDS = 300
 
 
 def blocks_of(page):
-    """The heading of each block, and its lines without the indent."""
+    """The blocks of a page without their indent, each with its heading."""
+    section, block = "", []
     with open(os.path.join(ROOT, page), encoding="utf-8") as text:
-        lines = text.read().split("\n")
-    section, block, fence, found = "", [], "", []
-    for line in lines + [""]:
-        if not line.strip() and block and lines:
-            block.append("")
-        elif re.match(r"(    |      )\S| {5,}\S", line) and (block or not fence.strip()):
-            block.append(line)
-        else:
+        for line in text.read().split("\n") + [""]:
+            if line.startswith("    "):
+                block.append(line)
+                continue
             if block:
-                found.append((section, unindented(block)))
+                indent = min(len(one) - len(one.lstrip()) for one in block)
+                yield section, "\n".join(one[indent:] for one in block)
                 block = []
-            section = line if line.startswith("#") else section
-        fence = line
-    return found + ([(section, unindented(block))] if block else [])
+            if line.startswith("#"):
+                section = line.lstrip("# ")
 
 
-def unindented(block):
-    while block and not block[-1]:
-        block.pop()
-    indent = min(len(line) - len(line.lstrip()) for line in block if line)
-    return [line[indent:] for line in block]
+def lacks(page):
+    """The tools that a page names in its blocks and that are not installed."""
+    text = "\n".join(block for _, block in blocks_of(page))
+    missing = [tool for tool in TOOLS if re.search(rf"\b{tool}\b|\./lwflow", text) and not shutil.which(tool)]
+    return missing + ([LIBERTY] if LIBERTY in text and not os.path.exists(LIBERTY) else [])
 
 
-def parts(block):
-    """A block that has commands and then, after an empty line, what they print, as two."""
-    if "" in block and COMMAND.match(block[0]) and not any("<<" in line for line in block):
-        cut = block.index("")
-        return [block[:cut]] + parts(block[cut + 1:])
-    if "" in block and any("<<" in line for line in block):
-        cut = max(i for i, line in enumerate(block) if line == "")
-        if not COMMAND.match(block[cut + 1]):
-            return [block[:cut], block[cut + 1:]]
-    return [block] if COMMAND.match(block[0]) or "" not in block else [block]
-
-
-def occurs(block, texts):
-    pieces = "\n".join(block).split("\n...\n")
-    return any(all(piece in text for piece in pieces) for text in texts)
-
-
-def texts_in(folder, since):
-    for name in os.listdir(folder):
-        path = os.path.join(folder, name)
-        if os.path.isfile(path) and not os.path.islink(path) and os.path.getmtime(path) >= since:
-            with open(path, encoding="utf-8", errors="replace") as text:
-                yield text.read()
-
-
-def run(block, folder):
+def run(commands, folder):
+    """The status of commands, and what they print on both streams."""
     try:
-        done = subprocess.run(["sh", "-c", "\n".join(block)], cwd=folder, stdout=subprocess.PIPE, stderr=subprocess.STDOUT,
+        done = subprocess.run(["sh", "-c", commands], cwd=folder, stdout=subprocess.PIPE, stderr=subprocess.STDOUT,
                               stdin=subprocess.DEVNULL, timeout=SECONDS, text=True, errors="replace", check=False)
     except subprocess.TimeoutExpired:
+        return 1, f"over {SECONDS} s"
+    return done.returncode, done.stdout
+
+
+def occurs(block, printed, folder):
+    """Whether a block is part of what was printed, or of a file that is no link."""
+    def indented(text):
+        return "\n".join(line.strip() for line in text.split("\n"))
+    texts = list(printed)
+    for name in os.listdir(folder):
+        path = os.path.join(folder, name)
+        if os.path.isfile(path) and not os.path.islink(path):
+            with open(path, encoding="utf-8", errors="replace") as file:
+                texts.append(file.read())
+    return any(indented(block) in indented(text) for text in texts)
+
+
+class Trial:
+    """A page's blocks, tried one after another in a folder."""
+    def __init__(self, page, folder, loud):
+        self.page, self.folder, self.loud = page, folder, loud
+        self.counts = [0, 0, 0]
+
+    def count(self, good, section, block, printed):
+        self.counts[0 if good else 1] += 1
+        if not good:
+            print(f"failed: {self.page}: {section}:\n{block}\nprinted:\n{printed}")
+
+    def skip(self, what):
+        self.counts[2] += 1
+        if self.loud:
+            print(f"skipped: {self.page}: {what}")
+
+    def section(self, name, blocks):
+        """The blocks of a section; those after a command that is skipped are skipped."""
+        printed = []
+        for place, block in enumerate(blocks):
+            if COMMAND.match(block) and PLACEHOLDER.search(block):
+                return self.skip(name)
+            if COMMAND.match(block):
+                status, said = run(block, self.folder)
+                printed.append(said)
+                wanted = blocks[place + 1:place + 2]
+                self.count(status == 0 or wanted and occurs(wanted[0], [said], self.folder), name, block, said)
+            elif printed:
+                self.count(occurs(block, printed, self.folder), name, block, printed[-1])
         return None
-    return done.stdout
+
+    def take(self):
+        missing = lacks(self.page)
+        if missing:
+            return self.skip("needs " + ", ".join(missing))
+        for name, blocks in itertools.groupby(blocks_of(self.page), lambda one: one[0]):
+            self.section(name, [block for _, block in blocks])
+        return None
 
 
-def try_page(page, counts):
-    with tempfile.TemporaryDirectory() as folder:
-        for name in os.listdir(ROOT):
-            if name != ".git":
-                os.symlink(os.path.join(ROOT, name), os.path.join(folder, name))
-        last, printed, skipped = None, [], False
-        for section, block in ((s, part) for s, b in blocks_of(page) for part in parts(b)):
-            if section != last:
-                last, printed, skipped = section, [], False
-            if COMMAND.match(block[0]):
-                said = "\n".join(block)
-                skipped = bool(PLACEHOLDER.search(said)) or any(tool in said and not shutil.which(tool) for tool in TOOLS)
-                if skipped:
-                    counts["skipped"] += 1
-                    continue
-                result = run(block, folder)
-                printed.append(result or "")
-                good = result is not None
-            elif printed and not skipped:
-                good = occurs(block, printed + list(texts_in(folder, 0)))
-            else:
-                continue
-            counts["passed" if good else "failed"] += 1
-            if not good:
-                print(f"{page}: {section.lstrip('# ')}: " + ("\n    ".join(block)))
-                print("  printed:\n" + (printed[-1] if printed else ""))
-
-
-def main(pages):
-    counts = {"passed": 0, "failed": 0, "skipped": 0}
-    for page in pages or PAGES:
-        try_page(page, counts)
-    print(", ".join(f"{n} {what}" for what, n in counts.items()))
-    return counts["failed"] > 0
+def main(words):
+    totals = [0, 0, 0]
+    for page in [word for word in words if word != "-v"] or PAGES:
+        with tempfile.TemporaryDirectory() as folder:
+            for name in os.listdir(ROOT):
+                if name != ".git":
+                    os.symlink(os.path.join(ROOT, name), os.path.join(folder, name))
+            trial = Trial(page, folder, "-v" in words)
+            trial.take()
+            totals = [a + b for a, b in zip(totals, trial.counts)]
+    print("{} passed, {} failed, {} skipped".format(*totals))
+    return totals[1] > 0
 
 
 if __name__ == "__main__":

@@ -214,60 +214,88 @@ def tie_of(register):
 
 
 class Values:
-    """Random values of the nets of a module, many at a time, under registers that keep a value."""
+    """Random values of the nets of a module, many at a time, under registers that keep a value. Of each net two numbers tell where
+    it can be 0 and where it can be 1; both where it is x."""
 
-    WIDE = 256
+    ONES = (1 << 256) - 1
 
     def __init__(self, module):
         self.drivers = {out: (ins, rows) for ins, out, rows in module.logic}
-        self.sources, self.random = {}, random.Random(1)
+        self.readers = {}
+        for ins, out, _ in module.logic:
+            for bit in ins:
+                self.readers.setdefault(bit, []).append(out)
+        sources = [bit for _, bit in module.side("input")] + [register.q for register in module.registers]
+        self.random = random.Random(1)
+        self.sources = {bit: self.exactly(self.random.getrandbits(256)) for bit in sources}
+        self.known = {}
+        self.keep({})
 
-    def of(self, net, kept):
-        """The values of a net where some registers' nets are constants."""
-        known = {"0": 0, "1": (1 << self.WIDE) - 1, **kept}
+    def exactly(self, value):
+        return value ^ self.ONES, value
+
+    def keep(self, kept):
+        """From here on some registers' nets are constants."""
+        self.sources.update(kept)
+        self.known = {"0": self.exactly(0), "1": self.exactly(self.ONES)}
+
+    def behind(self, net):
+        """A net and those that read it through logic."""
+        seen, stack = {net}, [net]
+        while stack:
+            for out in self.readers.get(stack.pop(), []):
+                if out not in seen:
+                    seen.add(out)
+                    stack.append(out)
+        return seen
+
+    def of(self, net, known, fresh):
+        """The values of a net; those of the nets in fresh are taken anew, into known, all others as they are."""
         stack = [net]
         while stack:
             one = stack[-1]
-            if one in known:
-                stack.pop()
-            elif one not in self.drivers:
-                known[one] = self.sources.setdefault(one, self.random.getrandbits(self.WIDE))
-            else:
-                ins, rows = self.drivers[one]
-                todo = [bit for bit in ins if bit not in known]
-                if todo:
-                    stack += todo
-                else:
-                    known[one] = self.node([known[bit] for bit in ins], rows)
-        return known[net]
+            here = known if one in fresh else self.known
+            ins, rows = self.drivers.get(one, ((), ()))
+            todo = [bit for bit in ins if bit not in (known if bit in fresh else self.known)]
+            if one not in here and todo:
+                stack += todo
+                continue
+            stack.pop()
+            if one not in here and one in self.drivers:
+                here[one] = self.node([(known if bit in fresh else self.known)[bit] for bit in ins], rows)
+            elif one not in here:
+                here[one] = self.sources.get(one, (self.ONES, self.ONES))
+        return (known if net in fresh else self.known)[net]
 
     def node(self, values, rows):
-        ones, found = (1 << self.WIDE) - 1, 0
-        for row in rows:
-            part = ones
-            for sign, value in zip(row, values):
-                part &= ones if sign == "-" else value if sign == "1" else value ^ ones
-            found |= part
-        return found
+        found = [0, 0]
+        for signs in product((0, 1), repeat=len(values)):
+            part = self.ONES
+            for sign, value in zip(signs, values):
+                part &= value[sign]
+            found[is_true([str(sign) for sign in signs], rows)] |= part
+        return tuple(found)
 
 
 def steady(module, registers):
-    """Those registers of no known first value that read one value again and again once they have it, by trial with random
-    values: the value of each. That it is so is for cec to decide."""
-    values, ones = Values(module), (1 << Values.WIDE) - 1
-    found, kept, left = {}, {}, [one for one in registers if "S" not in one.pins]
+    """Those registers of no known first value that read one value again and again once they have it, or may where they read an
+    x, by trial with random values: the value of each. That it is so is for cec to decide."""
+    values = Values(module)
+    found, left = {}, [one for one in registers if "S" not in one.pins]
     while left:
-        fresh = []
+        kept = {}
         for register in left:
-            for sign, value in (("0", 0), ("1", ones)):
+            fresh = values.behind(register.q)
+            for sign in ("0", "1") if register.reset == "" else register.reset:
+                known = {register.q: values.exactly(values.ONES if sign == "1" else 0)}
                 data = [register.pins[port] for port in ("D", "AD") if port in register.pins]
-                if register.reset in ("", sign) and all(values.of(net, {**kept, register.q: value}) == value for net in data):
-                    found[register.q], kept[register.q] = sign, value
-                    fresh.append(register)
+                if all(values.of(net, known, fresh)[int(sign)] == values.ONES for net in data):
+                    found[register.q], kept[register.q] = sign, known[register.q]
                     break
-        if not fresh:
+        if not kept:
             break
-        left = [one for one in left if one not in fresh]
+        values.keep(kept)
+        left = [one for one in left if one.q not in kept]
     return found
 
 

@@ -60,7 +60,7 @@ def without_part(lines):
     joined = re.compile(rf"  connect (?:{NET} \\\1|\\(\S+) \\lwmap_logic\.\2)\n")
     same = {wire[1] or wire[2] for wire in map(joined.fullmatch, lines) if wire}
     taken = {words[-1][1:] for words in map(str.split, lines) if words and words[0] in ("wire", "cell")}
-    starts, attributes = {}, []
+    others, starts, attributes = taken - same, {}, []
     for line in lines:
         wire = re.fullmatch(rf"  wire {NET}\n", line)
         if wire and wire[1] in same:
@@ -79,7 +79,7 @@ def without_part(lines):
             yield from starts.get(line.split()[-1][1:], [])
         yield from attributes
         attributes = []
-        yield re.sub(NET, lambda net: net[0] if net[1] in taken - same else "\\" + net[1], line)
+        yield re.sub(NET, lambda net: net[0] if net[1] in others else "\\" + net[1], line)
 
 
 def lines_of(path, module):

@@ -258,7 +258,8 @@ def search(work):
     last_step(work, [base] + made + more)
     keep_theirs(work, netlists + others)
     if not work.netlists:
-        raise Fault("no netlist: " + "; ".join(dict.fromkeys(work.lost)))
+        why = "; ".join(dict.fromkeys(work.lost))
+        raise Fault("no netlist: " + why + ("; tools/yosys-lwmap in Yosys maps a large design module by module" if "signals" in why else ""))
     loop(work)
     return work.netlists
 
