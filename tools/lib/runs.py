@@ -32,7 +32,8 @@ def need(*tools):
 
 def run(command, log, cwd=None, limit=None, out=None, feed=None):
     """Runs a command, for at most so many seconds of processor time (and, should it wait for something, some thirty times as
-    long by the clock, so that a busy machine changes no result). What it says goes to the file log, what it prints to the file out, or to log too. Gives its status, its seconds, and whether it was ended."""
+    long by the clock: a busy machine changes no result). What it says goes to the file log, what it prints to the file out, or
+    to log too. Gives its status, its seconds, and whether it was ended."""
     if stopped.is_set():
         return Ended(1, 0, True, log)
     with open(log, "ab") as said, open(out or os.devnull, "wb") as printed, open(feed or os.devnull, "rb") as given:
