@@ -9,24 +9,13 @@ have the depth 0, and wires add nothing.
 """
 import sys
 
-
-def logical_lines(path):
-    line = ""
-    with open(path, encoding="latin-1") as file:
-        for part in file:
-            line += part.split("#")[0].rstrip()
-            if line.endswith("\\"):
-                line = line[:-1] + " "
-                continue
-            if line.split():
-                yield line.split()
-            line = ""
+from lib import blif
 
 
 def read(path):
     """For each node its fan-ins and rows, by its net."""
     nodes, rows = {}, None
-    for words in logical_lines(path):
+    for words in blif.lines(path):
         if words[0] == ".names":
             rows = []
             nodes[words[-1]] = words[1:-1], rows

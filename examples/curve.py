@@ -20,12 +20,9 @@ import tempfile
 from collections import namedtuple
 from fractions import Fraction
 
-ROOT = os.path.dirname(os.path.dirname(os.path.realpath(__file__)))
-sys.path.insert(0, os.path.join(ROOT, "bench"))
+from lib import genlib, program, script, svg, timing
+from lib.script import Fault
 
-import script  # noqa: E402 (found in bench/)
-import svg  # noqa: E402
-import timing  # noqa: E402
 
 FACTORS = "1 1.02 1.05 1.1 1.15 1.2 1.25 1.3 1.4 1.5".split()
 WIDTH, HEIGHT, LEFT, TOP, BOTTOM, INNER = 900, 400, 70, 88, 56, 350
@@ -33,19 +30,10 @@ Size = namedtuple("Size", "said kind delay areas")
 KINDS = {"map": (0, "b"), "trade": (1, "a"), "none": (2, "c")}
 
 
-class Fault(Exception):
-    """Why nothing was drawn."""
-
-
-def program_path():
-    found = subprocess.run(["sh", ROOT + "/release/program.sh"], stdout=subprocess.PIPE)
-    return os.fsdecode(found.stdout).rstrip("\n") or sys.exit(1)
-
-
-def written(program, words, path):
+def written(words, path):
     """Whether a run wrote its netlist; a limit is told, and any other end is a fault."""
     with open(path, "wb") as file:
-        done = subprocess.run([program] + words, stdout=file, stderr=subprocess.PIPE)
+        done = subprocess.run([program.path()] + words, stdout=file, stderr=subprocess.PIPE)
     said = os.fsdecode(done.stderr).strip().removeprefix("lwmap: ")
     if done.returncode == 5 and words[0] == "trade":
         print(f"curve: {' '.join(words)}: {said}", file=sys.stderr)
@@ -56,19 +44,19 @@ def written(program, words, path):
 
 def sizes(options, library, network, factors):
     """What each run comes to, 'map' first, in millionths."""
-    cells, program = timing.read_genlib(library), program_path()
+    cells = genlib.read_genlib(library)
     with tempfile.TemporaryDirectory() as room:
         path = os.path.join(room, "mapped")
 
         def size(said, kind, words):
-            if not written(program, words, path):
+            if not written(words, path):
                 return None
             t = timing.Timing(cells, path)
             return Size(said, kind, t.max, (t.area, t.tree_area()))
 
         found = [size("map", "map", ["map", *options, library, network])]
         for factor in factors:
-            deadline = timing.show(-(-found[0].delay * factor.numerator // factor.denominator))
+            deadline = genlib.show(-(-found[0].delay * factor.numerator // factor.denominator))
             found.append(size(f"trade {deadline}", "trade", ["trade", *options, deadline, library, network]))
         found.append(size("trade none", "none", ["trade", *options, "none", library, network]))
     return [one for one in found if one]
@@ -85,7 +73,7 @@ class Panel:
 
     def __init__(self, left, title, which, found):
         self.left, self.title, self.which = left, title, which
-        self.found = [(one, one.delay / timing.UNIT, one.areas[which] / timing.UNIT) for one in found]
+        self.found = [(one, one.delay / genlib.UNIT, one.areas[which] / genlib.UNIT) for one in found]
         delays = [delay for _, delay, _ in self.found]
         room = (max(delays) - min(delays)) * 0.06 or 1
         self.first, self.last = min(delays) - room, max(delays) + room
@@ -136,11 +124,11 @@ def main(words):
     found = sizes(options, library, network, factors)
     print("| command | delay | area, each gate once | area by trees |\n|---|---|---|---|")
     for one in found:
-        print(f"| {one.said} | {' | '.join(timing.show(value) for value in (one.delay, *one.areas))} |")
+        print(f"| {one.said} | {' | '.join(genlib.show(value) for value in (one.delay, *one.areas))} |")
     name = os.path.basename(network).removesuffix(".blif") + " with " + os.path.basename(library).removesuffix(".genlib")
     with open(path, "w", encoding="utf-8") as file:
         file.write(picture(name, found))
 
 
 if __name__ == "__main__":
-    script.run("curve", main, Fault, timing.Fault, written="the picture")
+    script.run("curve", main, written="the picture")

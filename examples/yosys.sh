@@ -1,6 +1,5 @@
-# Read by flow.sh and equal.sh, which name themselves in 'name' and the repository in 'root'.
+# Read by verilog.sh, which names itself in 'name' and the repository in 'root'.
 # shellcheck shell=sh disable=SC2034,SC2154
-registers=$root/bench/registers.py
 limit=${LIMIT:-60}
 
 fail() { # TEXT..

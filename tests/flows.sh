@@ -1,30 +1,37 @@
 #!/bin/sh
-# Takes all of examples/verilog through examples/flow.sh, with registers in the mapper and beside it, and wants each netlist
-# shown equivalent to its Verilog: by the script itself, and once more by Yosys alone, with clocks as signals. Then it wants
-# netlists with one fault each refused. It needs Yosys and ABC, and says 'skipped' where they are not there.
+# Takes designs through lwflow and looks at what it says of each:
 #
-#   sh tests/flows.sh [MODULE..]
+#   sh tests/flows.sh [NAME..]
 #
-# The program is the one that release/program.sh finds. FRONT names the front end (if-g), LIBRARY the library (mcnc), LIMIT the
-# seconds that one step may take (60). The last line is 'N passed, N failed'.
+# - those of tests/flows, of the usual kinds, each with its status and a text in its first line: '// 0 WORD.. says TEXT' for a
+#   status, words of lwflow and a text of the summary, '// 1 TEXT' for a refusal;
+# - those of examples/verilog, each netlist being shown equivalent to its Verilog by lwflow and once more by Yosys alone, with
+#   clocks as signals, and then mapped by tools/yosys-lwmap inside Yosys, which is shown in the same way;
+# - netlists with one fault each, which tools/equal.py has to refuse.
+#
+# With words it takes these alone (a file's name without its ending). It needs Yosys and ABC, and says 'skipped' where they are
+# not there; without Icarus Verilog nothing is simulated, which is said too. The program is the one that release/program.sh
+# finds. LIBRARY names the library (mcnc), EFFORT the effort (fast), LIMIT the seconds that one step of the second opinion may
+# take (120). The last line is 'N passed, N failed'.
 set -u
 export LC_ALL=C
 root=$(dirname -- "$(dirname -- "$(readlink -f -- "$0")")")
+cd -- "$root" || exit 1
 for tool in yosys berkeley-abc python3; do
     command -v "$tool" >/dev/null || { echo "skipped: $tool is not on this machine, so no flow from Verilog was tried" && exit 0; }
 done
-LWMAP_PROGRAM=$(sh "$root/release/program.sh") || exit 1
+command -v iverilog >/dev/null || echo "skipped: iverilog is not on this machine, so nothing is simulated"
+LWMAP_PROGRAM=$(sh release/program.sh) || exit 1
 export LWMAP_PROGRAM
-library=$root/bench/libs/${LIBRARY:-mcnc}.genlib
-front=${FRONT:-if-g}
-LIMIT=${LIMIT:-60}
+library=bench/libs/${LIBRARY:-mcnc}.genlib
+effort=${EFFORT:-fast}
+LIMIT=${LIMIT:-120}
 export LIMIT
-verilog=$root/examples/verilog
+verilog=examples/verilog
 room=$(mktemp -d) || exit 1
 trap 'rm -rf "$room"' EXIT
 trap 'exit 1' HUP INT TERM
-passed=0
-failed=0
+passed=0 && failed=0
 
 verdict() { # WHAT STATUS
     if [ "$2" -eq 0 ]; then
@@ -36,39 +43,68 @@ verdict() { # WHAT STATUS
     fi
 }
 
-# The flow itself, and the second opinion.
-flow() { # FILE TOP WORD..
-    file=$verilog/$1 && top=$2 && shift 2
-    folder=$room/$top$*
-    sh "$root/examples/flow.sh" "$@" -f "$front" -o "$folder" "$library" "$file" "$top" >"$room/out" 2>"$room/err" &&
-        grep -q '^equivalent to the Verilog: ' "$room/out"
-    verdict "$top $*" $?
-    echo "$top${*:+ $*}: $(tr '\n' ' ' <"$room/out")"
-    case $top in
-    adder | prior | alu) written "$top" ;;
-    *)
-        grep -q '^mapped.v by Yosys: ' "$room/out"
-        verdict "$top $*: mapped.v by Yosys" $?
-        ;;
-    esac
+words=$*
+wanted() { # NAME
+    [ -z "$words" ] || case " $words " in *" $1 "*) ;; *) return 1 ;; esac
 }
 
-# Where there are no registers lwmap wrote mapped.v, and reads it as the netlist again.
-written() { # TOP
-    "$LWMAP_PROGRAM" unverilog "$library" "$folder/mapped.v" >"$room/again" 2>"$room/err" &&
-        sed "s/^\.model .*/.model lwmap_$1/" "$folder/mapped.blif" | cmp - "$room/again" >>"$room/err" 2>&1
-    verdict "$1: mapped.v read again" $?
+# The usual kinds.
+for file in tests/flows/*.v tests/flows/*.sv; do
+    name=$(basename "$file" | sed 's/\.[^.]*$//')
+    wanted "$name" || continue
+    head=$(sed -n '1s|^// ||p' "$file")
+    status=${head%% *}
+    text='' && options=''
+    case $head in
+    '1 '*) text=${head#1 } ;;
+    *' says '*) options=${head#"$status"} && text=${head#* says } && options=${options%% says *} ;;
+    *) options=${head#"$status"} ;;
+    esac
+    # shellcheck disable=SC2086
+    python3 lwflow -q --effort "$effort" -l "$library" -o "$room/$name" $options "$file" >"$room/out" 2>"$room/err"
+    [ $? -eq "$status" ] && grep -qFe "$text" "$room/out" "$room/err"
+    verdict "$name: status $status${text:+ and '$text'}" $?
+    case $status in
+    1)
+        [ "$(wc -l <"$room/err")" -eq 1 ] && [ ! -e "$room/$name" ]
+        verdict "$name: one line, and no folder" $?
+        echo "$name: $(sed 's/^lwflow: //' "$room/err")"
+        ;;
+    *)
+        echo "$name: $(sed -n 's/^  kept  *//p' "$room/out" | tr -s ' ')$(sed -n 's/^note: simulated:/; simulated:/p' "$room/out")"
+        if command -v iverilog >/dev/null; then
+            grep -q '^note: simulated: ' "$room/out"
+            verdict "$name: simulated" $?
+        fi
+        ;;
+    esac
+done
+
+# The flow itself on the examples.
+flow() { # FILE TOP
+    python3 lwflow -q --effort "$effort" -l "$library" -t "$2" -o "$room/$2" "$verilog/$1" >"$room/out" 2>"$room/err"
+    verdict "$2" $?
+    echo "$2: $(sed -n 's/^  kept  *//p' "$room/out" | tr -s ' ')"
 }
 
 # Both sides by Yosys: nets of one name are taken for equal at some steps, and have to be equal at the next. A clock is a
 # signal there, so that its edges count.
-opinion() { # FILE TOP
+opinion() { # FILE TOP MADE WHAT
     timeout "$LIMIT" yosys -q -p "read_verilog \"$verilog/$1\"; hierarchy -check -top $2; proc; flatten; memory -nordff -nomap
         opt_clean; memory_map; opt_clean; splitnets; rename $2 given; design -stash given
-        read_verilog \"$room/$2/cells.v\" \"$room/$2/mapped.v\"; hierarchy -check -top $2; proc; flatten; opt_clean; rename $2 made; design -stash made
+        read_verilog \"$room/$2/cells.v\" \"$3\"; hierarchy -check -top $2; proc; flatten; opt_clean; splitnets; rename $2 made; design -stash made
         design -copy-from given given; design -copy-from made made; equiv_make given made both; hierarchy -top both
         clk2fflogic; opt_clean; equiv_simple -undef -seq 2; equiv_induct -undef; equiv_status -assert" >"$room/out" 2>"$room/err"
-    verdict "$2, by Yosys alone" $?
+    verdict "$2, by Yosys alone: $4" $?
+}
+
+# lwmap inside Yosys.
+inside() { # FILE TOP
+    yosys -q -l "$room/log" -p "read_verilog \"$verilog/$1\"; synth -flatten -noabc -nofsm -top $2; read_verilog -lib \"$room/$2/cells.v\"
+        abc -exe \"$root/tools/yosys-lwmap\" -genlib \"$root/$library\"; opt_clean; write_verilog -noattr \"$room/inside.v\"" >"$room/out" 2>"$room/err"
+    [ $? -eq 0 ] && grep -q '^ABC: lwmap: delay .*each shown' "$room/log"
+    verdict "$2, inside Yosys" $?
+    opinion "$1" "$2" "$room/inside.v" "inside Yosys"
 }
 
 # A netlist with a fault: the words are a command of sed that puts it in, into a line that has to be there.
@@ -78,26 +114,21 @@ fault() { # FILE TOP WHAT SED
     if cmp -s "$room/$2/mapped.v" "$room/wrong/mapped.v"; then
         echo "the fault was not put in" >"$room/err"
         verdict "$2, $3" 1
-    elif sh "$root/examples/equal.sh" "$room/wrong" "$verilog/$1" "$2" >"$room/out" 2>"$room/err" || [ -s "$room/out" ]; then
-        verdict "$2, $3: not seen" 1
     else
-        verdict "$2, $3" 0
-        echo "$2, $3: $(sed 's/^equal: //' "$room/err")"
+        python3 tools/equal.py "$room/wrong" "$verilog/$1" >"$room/out" 2>"$room/err"
+        [ $? -eq 4 ] && grep -q '^DIFFERENT: ' "$room/out"
+        verdict "$2, $3: not seen" $?
+        echo "$2, $3: $(grep -m 1 '^DIFFERENT: ' "$room/out")"
     fi
 }
 
-wanted() { # TOP
-    [ -z "$words" ] || case " $words " in *" $1 "*) ;; *) return 1 ;; esac
-}
-
-words=$*
 for pair in adder.v:adder priority.v:prior alu.v:alu counter.v:counter five.v:five traffic.v:traffic accumulator.v:accumulator \
     falling.v:falling lfsr.v:lfsr maximum.v:maximum memory.v:queue uart.v:uart multiplier.v:multiplier watchdog.v:watchdog; do
     top=${pair#*:}
     wanted "$top" || continue
     flow "${pair%:*}" "$top"
-    case $top in adder | prior | alu) ;; *) flow "${pair%:*}" "$top" -r ;; esac
-    opinion "${pair%:*}" "$top"
+    opinion "${pair%:*}" "$top" "$room/$top/mapped.v" lwflow
+    inside "${pair%:*}" "$top"
 done
 ! wanted adder || fault adder.v adder "one cell for another" '/^\\nand2 /{s/nand2/nor2/;:all;n;b all;}'
 ! wanted five || fault five.v five "zero at reset" "s/\(count\[0\]  *<= 1'h\)1/\10/"
@@ -110,6 +141,6 @@ done
 ! wanted queue || fault memory.v queue "another clock" 's/@(posedge clock)/@(posedge push)/'
 ! wanted uart || fault uart.v uart "data that come in early" 's/\(data\[7\]  *<= \)[^;]*;/\1line;/'
 ! wanted watchdog || fault watchdog.v watchdog "no initial value beside a reset" "s/ = 1'h1;/;/"
-! wanted multiplier || fault multiplier.v multiplier "one cell for another" '/^  and2 /{s/and2/or2/;:all;n;b all;}'
+! wanted multiplier || fault multiplier.v multiplier "one cell for another" '/^  nand2 /{s/nand2/nor2/;:all;n;b all;}'
 echo "$passed passed, $failed failed"
 [ "$failed" -eq 0 ] && [ "$passed" -gt 0 ]

@@ -34,12 +34,11 @@ good "a summary of a cycle"
 for lib in bench/libs/*.genlib; do
     name=$(basename "$lib" .genlib)
     python3 tools/forms.py "$lib" >"$room/$name.genlib" 2>"$room/said" &&
-        python3 - "$room/$name.genlib" <<'END'
+        PYTHONPATH=tools python3 - "$room/$name.genlib" <<'END'
 import sys
-sys.path.insert(0, "bench")
-import timing
-for cell in timing.read_genlib(sys.argv[1]).values():
-    if len({timing.truth(form, cell.pins) for form in cell.funs}) != 1:
+from lib import genlib
+for cell in genlib.read_genlib(sys.argv[1]).values():
+    if len({genlib.truth(form, cell.pins) for form in cell.funs}) != 1:
         sys.exit(f"{cell.name} has forms of two functions")
 END
     good "each further form of $name has its cell's function"
@@ -49,6 +48,30 @@ END
 done
 refused 'GATE expected' python3 tools/forms.py README.md
 good "forms of what is no library"
+
+PYTHONPATH=tools python3 - <<'END'
+import sys
+from lib.expressions import irredundant, rows_of
+for count in range(4):
+    for truth in range(1 << (1 << count)):
+        cubes = [rows_of(cube, count) for cube in irredundant(truth, count)]
+        sums = [0]
+        for cube in cubes:
+            sums.append(sums[-1] | cube)
+        behind = 0
+        for place in range(len(cubes) - 1, -1, -1):
+            if sums[place] | behind == truth:
+                sys.exit(f"{truth:b} of {count} pins: a cube can be left out")
+            behind |= cubes[place]
+        if behind != truth:
+            sys.exit(f"{truth:b} of {count} pins: the cubes are another function")
+END
+good "sums of cubes are their functions, and no cube can be left out"
+python3 tests/reference.py map examples/small/small.genlib examples/small/full_adder.blif >"$room/once" &&
+    python3 bench/timing.py -u examples/small/small.genlib "$room/once" >"$room/plain.blif" &&
+    python3 tests/reference.py map examples/small/small.genlib "$room/plain.blif" >"$room/twice" &&
+    [ "$(python3 bench/timing.py -s examples/small/small.genlib "$room/twice" | cut -d ' ' -f 1)" = 5.4 ]
+good "a netlist as plain nodes, mapped again, is as early"
 
 python3 tools/nowires.py examples/plain/plain.genlib examples/plain/wires.mapped.blif >"$room/plain.blif" 2>"$room/said" &&
     ! grep -q '^\.names' "$room/plain.blif" && grep -q 'gates before it' "$room/said"
@@ -77,14 +100,16 @@ else
     echo "skipped: there is no berkeley-abc"
 fi
 
-python3 bench/plot.py bench/RESULTS.md "$room" && python3 bench/and3.py "$room/and3.svg"
-for name in delay time and3; do
+python3 bench/plot.py bench/RESULTS.md "$room" && python3 bench/and3.py "$room/and3.svg" &&
+    python3 bench/choices.py "$room/choices.svg" && python3 bench/pipeline.py "$room/pipeline.svg"
+for name in delay and3 choices pipeline; do
     cmp -s "$room/$name.svg" "docs/pictures/$name.svg"
     good "docs/pictures/$name.svg is what its script draws now"
 done
 refused 'no table' python3 bench/plot.py README.md "$room"
 good "a page without the table"
-
+python3 docs/pictures/means.py README.md "$room/means.svg" && cmp -s "$room/means.svg" docs/pictures/means.svg
+good "docs/pictures/means.svg is what its script draws of README.md"
 
 # The second program in the place of the built one.
 # shellcheck disable=SC2016

@@ -23,15 +23,10 @@ read, one line on standard error says why, and the status is 1.
 """
 import functools
 import itertools
-import os
 import sys
 
-import functions
-from functions import cofactor, inverse, join
-
-sys.path.insert(0, os.path.join(os.path.dirname(os.path.abspath(__file__)), "..", "bench"))
-import script  # noqa: E402
-import timing  # noqa: E402
+from lib import expressions, genlib, script
+from lib.expressions import cofactor, inverse, join
 
 MOST_PINS, MOST_ENTRIES, WIDE = 8, 4096, 4
 INNER = 3
@@ -119,10 +114,10 @@ class Table:
 
     def sums(self):
         """The sum of products, and its factorings."""
-        cubes = functions.cover(self.truth, self.count)
-        found = [functions.sum_of(cubes, self.pins)]
-        for first in functions.most_common(cubes, self.pins)[:4]:
-            found.append(functions.factored(cubes, self.pins, first))
+        cubes = expressions.cover(self.truth, self.count)
+        found = [expressions.sum_of(cubes, self.pins)]
+        for first in expressions.most_common(cubes, self.pins)[:4]:
+            found.append(expressions.factored(cubes, self.pins, first))
         return found
 
     def halves(self):
@@ -218,31 +213,31 @@ def made(table):
 
 def further(cell, most):
     """The texts of a cell's further forms."""
-    first = functions.read(cell.funs[0])
-    truth = functions.table(first, cell.pins)
+    first = expressions.read(cell.funs[0])
+    truth = expressions.table(first, cell.pins)
     table = Table(truth, cell.pins)
     if table.count < max(len(cell.pins), 1):
         return None
-    seen = {key(functions.read(fun, False)) for fun in cell.funs}
+    seen = {key(expressions.read(fun, False)) for fun in cell.funs}
     found = []
-    trees = [functions.read(fun) for fun in cell.funs] + sorted(forms(table) if len(cell.pins) > 1 else [], key=size)
+    trees = [expressions.read(fun) for fun in cell.funs] + sorted(forms(table) if len(cell.pins) > 1 else [], key=size)
     for tree in trees:
         for one in (flat(tree), halved(flat(tree))) if len(found) < most else ():
-            if key(one) not in seen and functions.fits(one) and set(functions.pins(one)) == set(cell.pins):
+            if key(one) not in seen and expressions.fits(one) and set(expressions.pins(one)) == set(cell.pins):
                 seen.add(key(one))
                 found.append(one)
-    texts = [functions.write(tree) for tree in found[:most]]
+    texts = [expressions.write(tree) for tree in found[:most]]
     for text in texts:
-        order = functions.pins(functions.read(text))
-        if sorted(order) != sorted(cell.pins) or timing.truth(text, cell.pins) != timing.truth(cell.funs[0], cell.pins):
-            raise timing.Fault(f"a form of cell {cell.name} has another truth table: {text}")
+        order = expressions.pins(expressions.read(text))
+        if sorted(order) != sorted(cell.pins) or genlib.truth(text, cell.pins) != genlib.truth(cell.funs[0], cell.pins):
+            raise script.Fault(f"a form of cell {cell.name} has another truth table: {text}")
     return texts
 
 
 def entry(cell, text):
-    lines = [f"GATE {cell.name} {timing.show(cell.area)} {cell.out}={text};"]
+    lines = [f"GATE {cell.name} {genlib.show(cell.area)} {cell.out}={text};"]
     for pin, delay, phase in zip(cell.pins, cell.delays, cell.phases):
-        lines.append(f"  PIN {pin} {phase} 1 999 {timing.show(delay)} 0 {timing.show(delay)} 0")
+        lines.append(f"  PIN {pin} {phase} 1 999 {genlib.show(delay)} 0 {genlib.show(delay)} 0")
     return "\n".join(lines) + "\n"
 
 
@@ -254,7 +249,7 @@ def main(words):
         most, words = int(words[1]), words[2:]
     if len(words) != 1 or words[0].startswith("-"):
         sys.exit("forms: usage: python3 tools/forms.py [-n N] LIB >OUT")
-    cells = timing.read_genlib(words[0])
+    cells = genlib.read_genlib(words[0])
     with open(words[0], encoding="latin-1") as file:
         text = file.read()
     entries = sum(len(cell.funs) for cell in cells.values())
@@ -266,7 +261,7 @@ def main(words):
         else:
             added += [entry(cell, one) for one in texts]
     if entries + len(added) > MOST_ENTRIES:
-        raise timing.Fault(f"more than {MOST_ENTRIES} entries; a smaller -n makes fewer")
+        raise script.Fault(f"more than {MOST_ENTRIES} entries; a smaller -n makes fewer")
     sys.stdout.reconfigure(encoding="latin-1")
     sys.stdout.write(text + ("" if text.endswith("\n") or not text else "\n"))
     sys.stdout.write(f"# Further forms, by tools/forms.py.\n{''.join(added)}" if added else "")
@@ -276,4 +271,4 @@ def main(words):
 
 
 if __name__ == "__main__":
-    script.run("forms", main, timing.Fault, functions.Fault)
+    script.run("forms", main)

@@ -1,61 +1,25 @@
 #!/usr/bin/env python3
 """The two steps of liberty.sh around ABC; it is called by that script alone.
 
-  liberty.py without PATTERNS LIBERTY OUT       LIBERTY without the cells whose names match a line of PATTERNS
+  liberty.py without PATTERNS LIBERTY OUT [every]
+                                                LIBERTY without the cells whose names match a line of PATTERNS and, unless 'every'
+                                                stands there, without pads and buffers for clocks
   liberty.py genlib LIBERTY GENLIB LOG          ABC's GENLIB as lwmap reads it; LOG is what ABC said of LIBERTY
 
 What is left out is named on standard error. A failure is one line there, and the status is 1.
 """
-import fnmatch
 import re
 import sys
 from decimal import Decimal
 
-import functions
-import script  # (functions has told where bench is)
+from lib import expressions, liberty, script
+from lib.script import Fault
 
 MOST_PINS, MOST_ENTRIES, BOUND = 16, 4096, 1000000
 
 
-class Fault(Exception):
-    pass
-
-
 def said(text):
     print("liberty: " + text, file=sys.stderr)
-
-
-def cells(text):
-    """Each cell's name, and where its group begins and ends."""
-    bare = re.sub(r"/\*.*?\*/|\"(?:\\.|[^\"\\])*\"", lambda m: re.sub(r"[{}]", " ", m[0]) if m[0][0] == '"'
-                  else " " * len(m[0]), text, flags=re.S)
-    found = []
-    for m in re.finditer(r"\bcell\s*\(\s*\"?([^\s\")]+)\"?\s*\)\s*\{", bare):
-        depth, at = 1, m.end()
-        while depth:
-            brace = re.compile(r"[{}]").search(bare, at)
-            if not brace:
-                raise Fault(f"the group of cell {m[1]} does not end")
-            depth += 1 if brace[0] == "{" else -1
-            at = brace.end()
-        found.append((m[1], m.start(), at))
-    return found
-
-
-def without(patterns, text):
-    if not re.search(r"\blibrary\s*\(", text):
-        raise Fault("it holds no library of Liberty")
-    kept, at, dropped = [], 0, []
-    for name, start, end in cells(text):
-        if any(fnmatch.fnmatchcase(name, pattern) for pattern in patterns):
-            kept.append(text[at:start])
-            at = end
-            dropped.append(name)
-    if len(dropped) == len(cells(text)):
-        raise Fault("no cell is left")
-    if dropped:
-        said("left out, as asked: " + " ".join(dropped))
-    return "".join(kept) + text[at:]
 
 
 def outputs(text):
@@ -83,7 +47,7 @@ def entries(path):
 def figure(word, what):
     value = Decimal(word)
     if not value.is_finite():
-        raise functions.Fault(f"{what} {word}")
+        raise Fault(f"{what} {word}")
     return value
 
 
@@ -96,21 +60,21 @@ def entry(name, area, output, function, delays, scale):
     """An entry as lwmap reads it."""
     if function in ("CONST0", "CONST1"):
         return f"GATE {name} 0 {output}={function};\n"
-    tree = functions.plain(functions.read(function))
-    pins = functions.pins(tree)
+    tree = expressions.plain(expressions.read(function))
+    pins = expressions.pins(tree)
     if {"0", "1"} & set(pins):
-        raise functions.Fault("a constant in its function")
+        raise Fault("a constant in its function")
     if len(pins) > MOST_PINS:
-        raise functions.Fault(f"more than {MOST_PINS} pins")
-    if not functions.fits(tree):
-        raise functions.Fault(f"more than {functions.MOST_NAMES} names or {functions.MOST_BYTES} bytes in its function")
-    if functions.table(tree, pins) != functions.table(functions.read(function), pins):
-        raise functions.Fault("its function was not rewritten rightly")
-    text = f"GATE {name} {shown(figure(area, 'the area') / scale)} {output}={functions.write(tree)};\n"
+        raise Fault(f"more than {MOST_PINS} pins")
+    if not expressions.fits(tree):
+        raise Fault(f"more than {expressions.MOST_NAMES} names or {expressions.MOST_BYTES} bytes in its function")
+    if expressions.table(tree, pins) != expressions.table(expressions.read(function), pins):
+        raise Fault("its function was not rewritten rightly")
+    text = f"GATE {name} {shown(figure(area, 'the area') / scale)} {output}={expressions.write(tree)};\n"
     for pin, word in delays:
         delay = figure(word, "the delay")
         if delay >= BOUND:
-            raise functions.Fault(f"the delay {word}, which is not below {BOUND}")
+            raise Fault(f"the delay {word}, which is not below {BOUND}")
         if delay < 0:
             said(f"{name}: the delay {word} of pin {pin} is taken as 0")
         if pin != "*" and pin not in pins:
@@ -132,7 +96,7 @@ def genlib(library, path, log):
     reasons = {name: "registers" for name in re.findall(r'skipped sequential cell "(.*?)"', log)}
     reasons.update({name: "three states" for name in re.findall(r'skipped three-state cell "(.*?)"', log)})
     reasons.update({name: "no function" for name in re.findall(r'skipped cell "(.*?)" without', log)})
-    spans = {name: library[start:end] for name, start, end in cells(library)}
+    spans = {name: library[start:end] for name, start, end in liberty.cells(library)}
     reasons.update({name: "several outputs" for name in spans if name not in reasons and outputs(spans[name]) > 1})
     reasons.update({name: "another cell of the same function stands" for name in spans
                     if name not in reasons and name not in names})
@@ -145,7 +109,7 @@ def genlib(library, path, log):
         try:
             sys.stdout.write(entry(name, area, output, function, delays, scale))
             kept += 1
-        except functions.Fault as fault:
+        except Fault as fault:
             reasons[name] = str(fault)
     for reason in dict.fromkeys(reasons.values()):
         said(f"left out ({reason}): " + " ".join(name for name in reasons if reasons[name] == reason))
@@ -162,9 +126,13 @@ def text_of(path):
 
 
 def main(words):
-    if len(words) == 4 and words[0] == "without":
+    if len(words) in (4, 5) and words[0] == "without":
+        text, asked, alone = liberty.without(text_of(words[1]).split("\n")[:-1], text_of(words[2]), words[4:] == ["every"])
+        for why, names in (("as asked", asked), ("pads and buffers for clocks", alone)):
+            if names:
+                said(f"left out ({why}): " + " ".join(names))
         with open(words[3], "w", encoding="latin-1") as out:
-            out.write(without(text_of(words[1]).split("\n")[:-1], text_of(words[2])))
+            out.write(text)
     elif len(words) == 4 and words[0] == "genlib":
         genlib(text_of(words[1]), words[2], text_of(words[3]))
     else:
@@ -173,4 +141,4 @@ def main(words):
 
 if __name__ == "__main__":
     sys.stdout.reconfigure(encoding="latin-1")
-    script.run("liberty", main, Fault, ArithmeticError, IndexError)
+    script.run("liberty", main, ArithmeticError, IndexError)

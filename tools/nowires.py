@@ -17,112 +17,20 @@ ABC needs the library with one entry for each cell, as `timing.py -f` writes it;
 comments are gone from OUT. Where a file cannot be read, or LIB has neither a buffer nor an inverter and one is needed, one
 line on standard error says why, and the status is 1.
 """
-import os
 import sys
 
-sys.path.insert(0, os.path.join(os.path.dirname(os.path.abspath(__file__)), "..", "bench"))
-import script  # noqa: E402
-import timing  # noqa: E402
-
-
-def fastest(lib, truth):
-    cells = [c for c in lib.values() if len(c.pins) == 1 and timing.truth(c.funs[0], c.pins) == truth]
-    return min(cells, key=lambda c: (c.delays[0], c.area), default=None)
-
-
-class Writer:
-    def __init__(self, lib, mapped):
-        self.lib, self.mapped, self.added = lib, mapped, 0
-        self.taken = {*mapped.inputs, *mapped.gates, *mapped.wires, *(w[2] for w in mapped.latches)}
-        self.lines = []
-
-    def gate(self, cell, nets, out):
-        pairs = [f"{pin}={net}" for pin, net in zip(cell.pins, nets)]
-        self.lines.append(" ".join([".gate", cell.name] + pairs + [f"{cell.out}={out}"]))
-
-    def fresh(self):
-        number = 1
-        while f"w{number}" in self.taken:
-            number += 1
-        self.taken.add(f"w{number}")
-        return f"w{number}"
-
-    def buffer(self, net, out):
-        buffer, inverter = fastest(self.lib, 2), fastest(self.lib, 1)
-        if inverter and (not buffer or 2 * inverter.delays[0] < buffer.delays[0]):
-            between = self.fresh()
-            self.gate(inverter, [net], between)
-            self.gate(inverter, [between], out)
-            delay = 2 * inverter.delays[0]
-        elif buffer:
-            self.gate(buffer, [net], out)
-            delay = buffer.delays[0]
-        else:
-            raise timing.Fault(f"{out} is the input {net}, and the library has neither a buffer nor an inverter")
-        self.added = max(self.added, delay)
-
-    def wire(self, out):
-        net = self.mapped.wires[out]
-        for _ in self.mapped.wires:
-            net = self.mapped.wires.get(net, net)
-        if net in self.mapped.wires:
-            raise timing.Fault(f"wire {out} is on a cycle")
-        if net in self.mapped.gates:
-            cell, nets = self.mapped.gates[net]
-            self.gate(cell, [self.source(one) for one in nets], out)
-        else:
-            self.buffer(net, out)
-
-    def source(self, net):
-        """The net behind wires that a gate reads; it need not read the copy."""
-        for _ in self.mapped.wires:
-            net = self.mapped.wires.get(net, net)
-        return net
-
-    def latch(self, words):
-        """A latch whose input is an input, or what a latch gives, reads it behind gates: there too ABC ends in a crash."""
-        net = words[1]
-        if net in self.mapped.gates or net in self.mapped.wires:
-            return words
-        own = self.fresh()
-        self.buffer(net, own)
-        return [words[0], own] + words[2:]
-
-    def text(self, model):
-        m = self.mapped
-        for net, (cell, nets) in m.gates.items():
-            self.gate(cell, [self.source(one) for one in nets], net)
-        for out in m.wires:
-            self.wire(out)
-        head = [model, ".inputs " + " ".join(m.inputs), ".outputs " + " ".join(m.outputs)]
-        head += [f".input_arrival {one} {timing.show(at)} {timing.show(at)}" for one, at in m.starts.items() if at]
-        head += [" ".join(self.latch(words)) for words in m.latches]
-        return "\n".join(head + self.lines + [".end"]) + "\n"
+from lib import genlib, nowires, script
 
 
 def main(words):
     if len(words) != 2:
         sys.exit("nowires: usage: python3 tools/nowires.py LIB MAPPED >OUT")
-    lib = timing.read_genlib(words[0])
-    mapped = timing.read_mapped(words[1], lib)
-    constant = next((c.name for c, _ in mapped.gates.values() if c.name not in lib), None)
-    if constant:
-        raise timing.Fault(f"{words[1]}: a {constant} is no cell of the library")
-    for net, (_, nets) in mapped.gates.items():
-        lost = next((one for one in nets if one not in mapped.inputs and one not in mapped.gates and one not in mapped.wires
-                     and one not in {w[2] for w in mapped.latches}), None)
-        if lost:
-            raise timing.Fault(f"{words[1]}: net {lost} is not driven")
-    model = next((" ".join(line) for line in timing.lines(words[1]) if line[0] == ".model"), None)
-    if not model:
-        raise timing.Fault(f"{words[1]}: there is no .model in it")
-    writer = Writer(lib, mapped)
+    text, added = nowires.plain(genlib.read_genlib(words[0]), words[1])
     sys.stdout.reconfigure(encoding="latin-1")
-    sys.stdout.write(writer.text(model))
-    if writer.added:
-        added = timing.show(writer.added)
-        print(f"nowires: what is read as it comes in has gates before it now, of delay {added}", file=sys.stderr)
+    sys.stdout.write(text)
+    if added:
+        print(f"nowires: what is read as it comes in has gates before it now, of delay {genlib.show(added)}", file=sys.stderr)
 
 
 if __name__ == "__main__":
-    script.run("nowires", main, timing.Fault)
+    script.run("nowires", main)

@@ -1,0 +1,157 @@
+#!/usr/bin/env python3
+"""Measures every table of bench/RESULTS.md, for bench/all.sh, which says how it is called."""
+import glob
+import os
+import platform
+import re
+import resource
+import shutil
+import statistics
+import subprocess
+import tempfile
+import time
+
+import maps
+import parts
+import record
+from lib import program, script
+from measure import ABC, LIMIT, RUNS, Library, Room, head, mean, row, said
+
+HERE = os.path.dirname(os.path.realpath(__file__))
+LIBRARIES = os.environ.get("LIBS", "tiny mcnc rich").split()
+PARTS = "machine maps sizes loads trade luts widths idempotence certificates texts goals record"
+# The part of the processor time of ABC's map that 'map' is to take, starts included.
+GOALS = {"tiny": 0.10, "mcnc": 0.12, "rich": 0.20}
+
+
+def circuits_of(folder):
+    return {os.path.basename(path)[:-5]: path for path in sorted(glob.glob(os.path.join(folder, "*.blif")))}
+
+
+def first_line(*command):
+    try:
+        return subprocess.run(command, capture_output=True, text=True, check=False).stdout.strip().split("\n")[0] or "not installed"
+    except OSError:
+        return "not installed"
+
+
+def value_of(path, name):
+    with open(path, encoding="ascii") as text:
+        return next((line.split(":")[1].strip() for line in text if line.startswith(name)), "?")
+
+
+def machine(room):
+    head("what", "value")
+    row("program", f"SHA-256 {first_line('sha256sum', room.program).split()[0][:16]}, {os.path.getsize(room.program)} bytes")
+    row("date", time.strftime("%Y-%m-%d %H:%M"))
+    row("processor", f"{value_of('/proc/cpuinfo', 'model name')}, {os.cpu_count()} processors, one used")
+    row("memory", f"{int(value_of('/proc/meminfo', 'MemTotal').split()[0]) / 1048576:.1f} GB")
+    row("system", f"{platform.system()} {platform.release()}, {platform.machine()}")
+    row("load average at the start", f"{os.getloadavg()[0]:.1f}")
+    row("ABC", first_line("dpkg-query", "-W", "-f", "${Version}", "berkeley-abc"))
+    row("Yosys", first_line("yosys", "-V").split("(")[0])
+    row("start of `lwmap`", f"{1000 * room.start([room.program]):.1f} ms")
+    row("start of ABC", f"{1000 * room.start([ABC, '-s', '-q', 'quit']):.1f} ms" if ABC else "-")
+    row("runs for a time; limit of a run, of `cec`", f"{RUNS}; {LIMIT} and {max(1, LIMIT // 5)} processor seconds")
+    print()
+
+
+def goal(said_of, figure, met):
+    row(said_of, figure, "yes" if met else "no")
+
+
+def map_goals(library, figures):
+    both = [f for f in figures.values() if f.get("given s") and f.get("map s")]
+    if not both:
+        return
+    ratios = [statistics.median(f["given s"]) / statistics.median(f["map s"]) for f in both]
+    later = sum(f["given"] > f["map"] for f in both)
+    goal(f"{library}: processor time at most {GOALS[library]} of ABC's `map`, starts included", said(mean(ratios)),
+         mean(ratios) <= GOALS[library])
+    goal(f"{library}: no circuit slower to map than with ABC", f"{sum(r > 1 for r in ratios)} slower", max(ratios) <= 1)
+    goal(f"{library}: no netlist later than ABC's `map`", f"{later} later", not later)
+
+
+def verilog_goals(printed):
+    """From the tables of bench/verilog.sh: commands with their speed and memory, and texts of one part."""
+    rows = [[cell.strip() for cell in line.strip("|").split("|")] for line in printed.split("\n") if line.startswith("| ")]
+    for name, _, _, speed, _, times in (row for row in rows if row[0] in ("`verilog`", "`unverilog`")):
+        goal(f"{name} of 60 MB at 60 MB a second", speed, float(speed) >= 60)
+        goal(f"{name} of 60 MB in at most 6 times the text in memory", times, float(times) <= 6)
+    parts_of = [row for row in rows if len(row) == 5 and re.fullmatch("[0-9]+", row[3])]
+    if parts_of:
+        slowest, largest = max(int(row[3]) for row in parts_of), max(int(row[4]) / float(row[1]) for row in parts_of)
+        goal("a text of one part in 2 s", f"{slowest} ms", slowest <= 2000)
+        goal("a text of one part in at most 6 times its memory", f"{largest:.1f}", largest <= 6)
+
+
+def goals(found, room, trades, printed):
+    print("### Goals\n")
+    head("goal", "measured", "met")
+    for (folder, library), figures in found.items():
+        if folder == "circuits" and library in GOALS:
+            map_goals(library, figures)
+    for library, figures in trades.items():
+        ratios = [f["trade none s"] / f["map s"] for f in figures.values() if f.get("trade none s")]
+        goal(f"{library}: `trade none` in at most twice the time of `map`", said(mean(ratios), 1), ratios and mean(ratios) <= 2)
+    if "rich" in LIBRARIES:
+        library = os.path.join(HERE, "libs", "rich.genlib")
+        run = room.lwmap(["trade", "0", library, os.path.join(HERE, "circuits", "i10_a.blif")])
+        goal("`trade 0` of `i10_a` with rich in 3 s", f"{run.seconds:.1f} s" if run.ok() else f"over {LIMIT} s",
+             run.ok() and run.seconds <= 3)
+    verilog_goals(printed.get("verilog", ""))
+    print()
+
+
+def measure(room, wanted, sets, own):
+    """Each part that is wanted, in order; own are those that need the repository's circuits."""
+    libraries = [Library(room, name, os.path.join(HERE, "libs", name + ".genlib")) for name in LIBRARIES]
+    first = next(iter(sets.values()))
+    every = {circuit: path for circuits in sets.values() for circuit, path in circuits.items()}
+    found, trades, printed = {}, {}, {}
+    if "machine" in wanted:
+        machine(room)
+    if "maps" in wanted:
+        found, verdicts = maps.measure(room, libraries, sets)
+        maps.report(found, verdicts)
+    if "sizes" in wanted and ABC:
+        parts.sizes(room, next((library for library in libraries if library.name == "mcnc"), libraries[0]))
+    if "loads" in wanted and ABC:
+        parts.loads(room, every)
+    if "trade" in wanted:
+        trades = parts.trade(room, libraries, first)
+    if "luts" in wanted and ABC:
+        parts.luts(room, first)
+    if "widths" in wanted:
+        parts.options(room, libraries, first, "Widths", "-w 6", [f"-w {width}" for width in range(2, 9)])
+    if "idempotence" in wanted:
+        parts.options(room, libraries, first, "The option `-i`", "-w 4", ["-w 4", "-w 3 -i", "-w 4 -i"])
+    if "certificates" in wanted:
+        parts.certificates(room, libraries, first)
+    if "texts" in wanted and own:
+        printed = parts.texts()
+    if "goals" in wanted:
+        goals(found, room, trades, printed)
+    if "record" in wanted and own:
+        record.record(room, libraries, sets)
+
+
+def main(words):
+    for tool in ("/usr/bin/time", "prlimit"):
+        if not shutil.which(tool):
+            raise script.Fault(f"there is no {tool}")
+    folders = words[:1] or [os.path.join(HERE, name) for name in record.SETS]
+    sets = {os.path.basename(os.path.abspath(folder)): circuits_of(folder) for folder in folders}
+    if not all(sets.values()):
+        raise script.Fault(f"there is no .blif in {folders[0]}")
+    begun, used = time.time(), resource.getrusage(resource.RUSAGE_CHILDREN)
+    with tempfile.TemporaryDirectory() as folder:
+        measure(Room(folder, program.path()), os.environ.get("PARTS", PARTS).split(), sets, not words)
+    after = resource.getrusage(resource.RUSAGE_CHILDREN)
+    took = after.ru_utime + after.ru_stime - used.ru_utime - used.ru_stime
+    print(f"All of this took {took / 60:.0f} processor minutes and {(time.time() - begun) / 60:.0f} minutes of clock; "
+          f"load average at the end {os.getloadavg()[0]:.1f}.")
+
+
+if __name__ == "__main__":
+    script.run("all", main)

@@ -1,0 +1,185 @@
+"""The part of bench/all.sh that maps each circuit with each library by both programs: as given, and after front ends of ABC."""
+import json
+import os
+import statistics
+
+from lib import fronts
+from measure import ABC, UNMAP, common, head, mean, plain, ratio, row, said, tell
+
+ROUNDS = fronts.rounds(3)
+SCRIPTS = {"map": "strash; map", "dch; map": "strash; dch; map", "three rounds": f"{ROUNDS}; map"}
+MAPPED = ["dch; map", "three rounds"]
+FRONTS = {"strash": "strash", "if -K 4": "strash; if -K 4; sop"}
+AFTER = ["after " + name for name in [*FRONTS, *MAPPED]]
+
+
+class Circuit:
+    """The figures of one circuit with one library. A time is a list of processor seconds, in order."""
+
+    def __init__(self, room, library, network, verdicts):
+        self.room, self.library, self.network, self.verdicts, self.figures = room, library, network, verdicts, {}
+
+    def ours(self, key, path):
+        run, size = self.room.mapped(self.library, path, "map")
+        if size:
+            self.figures[key], self.figures[key + " area"] = size
+            self.figures[key + " MB"] = run.memory
+            if self.verdicts is not None and key in ("given", "after three rounds"):
+                verdict = self.room.equivalent(self.network, self.library.plain(self.room, run.out))
+                self.verdicts[verdict] = self.verdicts.get(verdict, 0) + 1
+
+    def theirs(self, key, script, then=""):
+        run, size = self.room.mapped_by_abc(self.library, self.network, script, then)
+        if size:
+            self.figures[key], self.figures[key + " area"] = size
+            self.figures[key + " MB"] = run.memory
+
+    def measure(self):
+        self.ours("given", self.network)
+        if "given" in self.figures:
+            self.figures["given start"] = self.room.start([self.room.program])
+            self.figures["given s"] = self.room.timed([self.room.program, "map", self.library.path, self.network])
+        if ABC:
+            self.beside_abc()
+        return self.figures
+
+    def beside_abc(self):
+        self.theirs("map", SCRIPTS["map"])
+        if "map" in self.figures:
+            begin = f"read_genlib {self.library.peers}; read_blif {self.network}"
+            script = f"{begin}; {SCRIPTS['map']}; write_blif {self.room.path('abc.blif')}"
+            self.figures["map start"] = self.room.start([ABC, "-s", "-q", "quit"])
+            self.figures["map s"] = self.room.timed([ABC, "-s", "-q", script])
+        for name in MAPPED:
+            front = self.room.path("front.blif")
+            self.theirs(name, SCRIPTS[name], f"{UNMAP}; write_blif {front}")
+            if name in self.figures:
+                self.ours("after " + name, front)
+        for name, script in FRONTS.items():
+            front = f"{os.path.basename(self.network)}.{name.replace(' ', '')}"
+            if os.path.exists(self.room.path(front)) or \
+                    self.room.abc(f"read_blif {self.network}; {script}; write_blif {self.room.path(front)}", front).ok():
+                self.ours("after " + name, self.room.path(front))
+
+
+def measure(room, libraries, sets):
+    """For each set and library the figures of each circuit. KEEP names a file that keeps them, so that a run can go on later."""
+    kept = os.environ.get("KEEP")
+    known = json.load(open(kept, encoding="ascii")) if kept and os.path.exists(kept) else {}
+    found, verdicts = {}, {} if ABC and os.environ.get("CEC") else None
+    for library in libraries:
+        for folder, circuits in sets.items():
+            figures = found[folder, library.name] = {}
+            for circuit, network in circuits.items():
+                key = f"{folder} {library.name} {circuit}"
+                if key not in known:
+                    known[key] = Circuit(room, library, network, verdicts).measure()
+                    tell(key)
+                    if kept:
+                        with open(kept, "w", encoding="ascii") as out:
+                            json.dump(known, out)
+                figures[circuit] = known[key]
+    return found, verdicts
+
+
+def summary(found, verdicts):
+    print("### Summary\n")
+    titles = ["set, library", "circuits"]
+    for name in SCRIPTS:
+        titles += [f"to {name}: delay", "lower/equal/higher", "area"]
+    head(*titles)
+    for (folder, library), figures in found.items():
+        cells = [f"{folder}, {library}", f"{sum('given' in f for f in figures.values())} of {len(figures)}"]
+        for name in SCRIPTS:
+            delay, _, order = ratio(figures, "given", name)
+            cells += [delay, order, ratio(figures, "given area", name + " area", 2)[0]]
+        row(*cells)
+    after(found)
+    if verdicts is not None:
+        said_of = ", ".join(f"{n} {name}" for name, n in sorted(verdicts.items()))
+        print(f"Netlists of `lwmap` compared with their circuits by `cec`: {said_of}.\n")
+
+
+def after(found):
+    print("\n### After the same commands of ABC, compared with ABC's own netlist after them\n")
+    titles = ["set, library"]
+    for name in MAPPED:
+        titles += [f"after {name}: circuits", "delay", "lower/equal/higher", "area"]
+    head(*titles)
+    for (folder, library), figures in found.items():
+        cells = [f"{folder}, {library}"]
+        for name in MAPPED:
+            delay, number, order = ratio(figures, "after " + name, name)
+            cells += [number, delay, order, ratio(figures, "after " + name + " area", name + " area", 2)[0]]
+        row(*cells)
+    print()
+
+
+def front_ends(found):
+    print("### Front ends\n")
+    columns = ["given", *AFTER, *MAPPED]
+    head("set, library", "circuits in common", *columns[:-2], *["ABC: " + name for name in MAPPED])
+    for (folder, library), figures in found.items():
+        among = common(figures, ["map", *columns])
+        row(f"{folder}, {library}", len(among), *[ratio(figures, name, "map", 3, among)[0] + ", " +
+                                                  ratio(figures, name + " area", "map area", 2, among)[0] for name in columns])
+    print()
+
+
+def times(found):
+    print("### Run time and memory of `map` and of ABC's `strash; map`\n")
+    head("set, library", "circuits", "time, mean ratio", "starts left out", "slower than ABC", "total s of `lwmap`", "of ABC",
+         "greatest MB of `lwmap`", "of ABC")
+    for (folder, library), figures in found.items():
+        both = [f for f in figures.values() if f.get("given s") and f.get("map s")]
+        if not both:
+            continue
+        pairs = [(statistics.median(f["given s"]), statistics.median(f["map s"])) for f in both]
+        less = [max(a - f["given start"], 1e-4) / max(b - f["map start"], 1e-4) for (a, b), f in zip(pairs, both)]
+        row(f"{folder}, {library}", len(both), said(mean([a / b for a, b in pairs])), said(mean(less)), sum(a > b for a, b in pairs),
+            said(sum(a for a, _ in pairs), 2), said(sum(b for _, b in pairs), 2),
+            f"{max(f['given MB'] for f in both):.0f}", f"{max(f['map MB'] for f in both):.0f}")
+    print()
+
+
+def circuits(found):
+    for (folder, library), figures in found.items():
+        print(f"### Circuits of {folder} with {library}\n")
+        titles = ["circuit"]
+        for name in ("`lwmap`", "`map`"):
+            titles += [f"{name}: delay", "area", "median ms", "range", "MB"]
+        for name in ("`dch; map`", "three rounds", "`lwmap` after them"):
+            titles += [f"{name}: delay", "area"]
+        head(*titles)
+        for circuit, f in figures.items():
+            cells = [circuit]
+            for name in ("given", "map"):
+                cells += [plain(f.get(name)), plain(f.get(name + " area")), *spread(f.get(name + " s")), f"{f.get(name + ' MB', 0):.0f}"]
+            for name in (*MAPPED, "after three rounds"):
+                cells += [plain(f.get(name)), plain(f.get(name + " area"))]
+            row(*cells)
+        print()
+
+
+def spread(seconds):
+    """Median and range in milliseconds."""
+    if not seconds:
+        return "-", "-"
+    return f"{1000 * statistics.median(seconds):.1f}", f"{1000 * seconds[0]:.1f} to {1000 * seconds[-1]:.1f}"
+
+
+def with_all(found):
+    """The same, and where there are several sets the figures of all of them together."""
+    folders = {folder for folder, _ in found}
+    joined = dict(found)
+    for _, library in found if len(folders) > 1 else ():
+        joined["all", library] = {circuit: f for (_, name), figures in found.items() if name == library for circuit, f in figures.items()}
+    return joined
+
+
+def report(found, verdicts):
+    joined = with_all(found)
+    summary(joined, verdicts)
+    front_ends(joined)
+    times(joined)
+    circuits(found)

@@ -1,0 +1,274 @@
+"""The parts of bench/all.sh besides mapping for delay: deadlines, tables, options, certificates, size, loads, texts."""
+import math
+import os
+import re
+import statistics
+import subprocess
+import sys
+
+from lib.liberty import without
+from maps import ROUNDS, SCRIPTS
+from measure import ABC, LIMIT, UNMAP, Library, common, head, mean, ratio, row, said, table_size, tell
+
+HERE = os.path.dirname(os.path.realpath(__file__))
+ROOT = os.path.dirname(HERE)
+HALF = max(1, LIMIT // 2)
+
+
+# Deadlines
+
+TRADES = {"trade at 1": 100, "at 1.1": 110, "at 1.25": 125, "trade none": None}
+AREAS = {"ABC: map": "strash; map", "map -a": "strash; map -a", "amap": "strash; amap", "dch; map": "strash; dch; map"}
+
+
+def deadline(earliest, part):
+    """So many hundredths of a time, rounded up to millionths."""
+    return f"{math.ceil(round(earliest * part * 10000, 3)) / 1000000:.6f}".rstrip("0").rstrip(".")
+
+
+def trade_circuit(room, library, network):
+    f = {}
+    run, size = room.mapped(library, network, "map")
+    if not size:
+        return f
+    f["map"], f["map area"] = size
+    f["map s"] = statistics.median(room.timed([room.program, "map", library.path, network]))
+    for name, part in TRADES.items():
+        run, size = room.mapped(library, network, "trade", "none" if part is None else deadline(f["map"], part))
+        if size:
+            (f[name], f[name + " area"]), f[name + " s"], f[name + " MB"] = size, run.seconds, run.memory
+    for name, script in AREAS.items() if ABC else ():
+        _, size = room.mapped_by_abc(library, network, script)
+        if size:
+            f[name], f[name + " area"] = size
+    return f
+
+
+def trade(room, libraries, circuits):
+    """Prints the table, and gives for each library the figures of each circuit."""
+    print(f"### Area under a deadline\n\nRatios to `map` of `lwmap`. A run may take {HALF} s.\n")
+    room.limit, found = HALF, {}
+    for library in libraries:
+        figures = found[library.name] = {}
+        for circuit, network in circuits.items():
+            figures[circuit] = trade_circuit(room, library, network)
+            tell("trade", library.name, circuit)
+    room.limit = LIMIT
+    head("library", "way", "circuits that ended", "delay", "area", "in common", "delay", "area", "time", "greatest MB")
+    for library, figures in found.items():
+        columns = list(TRADES) + list(AREAS if ABC else ())
+        among = common(figures, ["map"] + columns)
+        for name in columns:
+            delay, number, _ = ratio(figures, name, "map")
+            row(library, name, number, delay, ratio(figures, name + " area", "map area", 2)[0], len(among),
+                ratio(figures, name, "map", 3, among)[0], ratio(figures, name + " area", "map area", 2, among)[0],
+                ratio(figures, name + " s", "map s", 1)[0],
+                f"{max((f.get(name + ' MB', 0) for f in figures.values()), default=0):.0f}" if name in TRADES else "-")
+    print()
+    return found
+
+
+# Lookup tables
+
+LUTS = {"`if -K 4`": "strash; if -K 4", "`if -K 6`": "strash; if -K 6", "`dch; if -K 6`": "strash; dch; if -K 6",
+        "rounds, `if -K 6`": f"{ROUNDS}; if -K 6"}
+PAIRS = [("`lut 4`", "`if -K 4`"), ("`lut 6`", "`if -K 6`"), ("`lut 6`", "`dch; if -K 6`"), ("rounds, `lut 6`", "rounds, `if -K 6`")]
+
+
+def mended(path, made):
+    """ABC's reader refuses a node that has fan-ins and no rows, which is a table that is false everywhere. This gives it a row."""
+    open_node = 0
+    with open(path, encoding="latin-1") as text, open(made, "w", encoding="latin-1") as out:
+        for line in text:
+            words = line.split()
+            if line.startswith(".") and open_node:
+                out.write("-" * open_node + " 0\n")
+            open_node = len(words) - 2 if words and words[0] == ".names" else 0
+            out.write(line)
+
+
+def lut_circuit(room, network, verdicts):
+    """Depth and tables of each column."""
+    f = {}
+
+    def ours(key, fanins, path):
+        run = room.lwmap(["lut", fanins, path], "lut.blif")
+        if run.ok():
+            f[key], f[key + " tables"] = table_size(run.out)
+            mended(run.out, room.path("mended.blif"))
+            verdict = room.equivalent(network, room.path("mended.blif"))
+            verdicts[verdict] = verdicts.get(verdict, 0) + 1
+    ours("`lut 4`", "4", network)
+    ours("`lut 6`", "6", network)
+    for name, script in LUTS.items():
+        if room.abc(f"read_blif {network}; {script}; write_blif {room.path('abc.blif')}", "abc.blif").ok():
+            f[name], f[name + " tables"] = table_size(room.path("abc.blif"))
+    front = room.path("front.blif")
+    if room.abc(f"read_blif {network}; {ROUNDS}; if -g -K 6; strash; write_blif {front}", "front.blif").ok():
+        ours("rounds, `lut 6`", "6", front)
+    return f
+
+
+def luts(room, circuits):
+    print("### Lookup tables\n\nDepth and number of tables.\n")
+    columns = ["`lut 4`", "`if -K 4`", "`lut 6`", "`if -K 6`", "`dch; if -K 6`", "rounds, `if -K 6`", "rounds, `lut 6`"]
+    head("circuit", *columns)
+    figures, verdicts = {}, {}
+    for circuit, network in circuits.items():
+        f = figures[circuit] = lut_circuit(room, network, verdicts)
+        row(circuit, *[f"{f[name]}, {f[name + ' tables']}" if name in f else "-" for name in columns])
+        tell("lut", circuit)
+    print()
+    head("ratio", "circuits", "depth", "lower/equal/higher", "tables")
+    for one, other in PAIRS:
+        depth, number, order = ratio(figures, one, other, 2)
+        row(f"{one} to {other}", number, depth, order, ratio(figures, one + " tables", other + " tables", 2)[0])
+    print(f"\nCompared with the circuits by `cec`: {', '.join(f'{n} {name}' for name, n in sorted(verdicts.items()))}.\n")
+
+
+# Options and certificates
+
+def options(room, libraries, circuits, title, base, tried):
+    """Delay and time of `map` with several options, as ratios to one of them."""
+    print(f"### {title}\n\nRatios to `{base}`. A run may take {HALF} s.\n")
+    head("library", "options", "circuits that ended", "delay", "lower/equal/higher", "in common", "delay", "time", "greatest s")
+    room.limit = HALF
+    for library in libraries:
+        figures = {}
+        for circuit, network in circuits.items():
+            f = figures[circuit] = {}
+            for words in tried:
+                run, size = room.mapped(library, network, "map", *words.split())
+                if size:
+                    f[words], f[words + " s"] = size[0], run.seconds
+            tell(title, library.name, circuit)
+        among = common(figures, tried)
+        for words in tried:
+            delay, number, order = ratio(figures, words, base)
+            row(library.name, f"`{words}`", number, delay, order, len(among), ratio(figures, words, base, 3, among)[0],
+                ratio(figures, words + " s", base + " s", 2)[0],
+                said(max((f[words + " s"] for f in figures.values() if f.get(words)), default=None), 2))
+    room.limit = LIMIT
+    print()
+
+
+def certificates(room, libraries, circuits):
+    print("### Certificates\n")
+    head("library", "circuits that got `yes`", "`check` to `map -c`, time", "greatest ratio", "greatest s of `check`",
+         "bytes of certificate to netlist")
+    for library in libraries:
+        ratios, seconds, sizes, accepted = [], [], [], 0
+        for circuit, network in circuits.items():
+            run = room.lwmap(["map", "-c", library.path, network], "mapped.blif")
+            if not run.ok():
+                continue
+            accepted += room.lwmap(["check", library.path, network, run.out], "answer").ok()
+            made = statistics.median(room.timed([room.program, "map", "-c", library.path, network]))
+            seconds.append(statistics.median(room.timed([room.program, "check", library.path, network, run.out])))
+            ratios.append(seconds[-1] / made)
+            with open(run.out, encoding="latin-1") as text:
+                lines = text.readlines()
+            marks = sum(len(line) for line in lines if line.startswith("#@"))
+            sizes.append(marks / max(sum(map(len, lines)) - marks, 1))
+            tell("certificates", library.name, circuit)
+        row(library.name, f"{accepted} of {len(circuits)}", said(mean(ratios), 2), said(max(ratios, default=None), 2),
+            said(max(seconds, default=None), 2), said(mean(sizes), 1))
+    print()
+
+
+# Size
+
+SIZES = [("multiplier of 32 bits", "gen -N 32 -m"), ("multiplier of 64 bits", "gen -N 64 -m"), ("multiplier of 128 bits", "gen -N 128 -m"),
+         ("adder of 256 bits", "gen -N 256 -a"), ("adder of 4,096 bits", "gen -N 4096 -a"), ("sorter of 64", "gen -N 64 -s"),
+         ("sorter of 256", "gen -N 256 -s")]
+
+
+def sizes(room, library):
+    """Circuits that ABC generates, so that they are the same for everybody."""
+    room.limit = 6 * LIMIT
+    print(f"### Size, with {library.name}\n\nCircuits of ABC's `gen`, as AIGs. One run each, of at most {room.limit} s.\n")
+    head("circuit", "AND nodes", "ABC `map`: s", "MB", "`lwmap`: s", "MB", "delay to ABC", "area to ABC")
+    for name, script in SIZES:
+        raw, network = room.path("raw.blif"), room.path("size.blif")
+        room.abc(f"{script} {raw}; read_blif {raw}; strash; write_blif {network}", "size.blif")
+        with open(network, encoding="latin-1") as text:
+            nodes = sum(line.startswith(".names") for line in text)
+        theirs, a = room.mapped_by_abc(library, network, SCRIPTS["map"])
+        ours, b = room.mapped(library, network, "map")
+        row(name, f"{nodes:,}", said(theirs.seconds, 2) if a else f"over {room.limit}", f"{theirs.memory:.0f}",
+            said(ours.seconds, 2) if b else f"over {room.limit}", f"{ours.memory:.0f}",
+            said(b[0] / a[0]) if a and b else "-", said(b[1] / a[1], 2) if a and b else "-")
+        tell("size", name)
+    room.limit = LIMIT
+    print()
+
+
+# Loads
+
+STEPS = ["raw", "buffered", "sized"]
+LOADS = "topo; stime; buffer; topo; stime; upsize; dnsize; stime"
+
+
+def stime(room, liberty, netlist):
+    """Area and delay as ABC's 'stime' prints them after each step."""
+    run = room.once([ABC, "-s", "-q", f"read_lib -w {liberty}; read_blif {netlist}; {LOADS}"])
+    with open(run.out, encoding="latin-1") as text:
+        return re.findall(r"Area = *([0-9.]+).*Delay = *([0-9.]+) ps", text.read())
+
+
+def script_to(path, *words):
+    with open(path, "w", encoding="latin-1") as out:
+        subprocess.run(words, stdout=out, stderr=subprocess.DEVNULL, check=False)
+
+
+def loads_circuit(room, library, liberty, network, script):
+    """The figures of both mappers, as given or after the commands of a script that ends in 'map'."""
+    f, front = {}, room.path("front.blif")
+    _, theirs = room.mapped_by_abc(library, network, script, f"{UNMAP}; write_blif {front}")
+    run, ours = room.mapped(library, network if script == SCRIPTS["map"] else front, "map")
+    if not theirs or not ours:
+        return f
+    for who, size, path, cells in (("lwmap", ours, run.out, library.path), ("abc", theirs, room.path("abc.blif"), library.peers)):
+        f[who + " own"], f[who + " own area"] = size
+        script_to(room.path("nowires"), sys.executable, os.path.join(ROOT, "tools", "nowires.py"), cells, path)
+        for step, (area, delay) in zip(STEPS, stime(room, liberty, room.path("nowires"))):
+            f[f"{who} {step}"], f[f"{who} {step} area"] = float(delay), float(area)
+    return f
+
+
+def loads(room, circuits):
+    """With a library in Liberty, whose loads and slews ABC's 'stime' counts. Pads and buffers for clocks are left out."""
+    liberty = os.environ.get("LIBERTY", "/usr/share/qflow/tech/osu035/osu035_stdcells.lib")
+    print("### Real loads\n")
+    if not os.path.exists(liberty):
+        print(f"Not measured: there is no {os.path.basename(liberty)}.\n")
+        return
+    with open(liberty, encoding="latin-1") as text, open(room.path("given.lib"), "w", encoding="latin-1") as out:
+        out.write(without([], text.read())[0])
+    script_to(room.path("liberty.genlib"), "sh", os.path.join(ROOT, "tools", "liberty.sh"), liberty)
+    library = Library(room, "liberty", room.path("liberty.genlib"))
+    head(f"{os.path.basename(liberty)}, {len(circuits)} circuits", "figure", "circuits", "`lwmap` to ABC's `map`", "lower/equal/higher",
+         "area")
+    for kind, name in (("as given", "map"), ("after three rounds", "three rounds")):
+        figures = {}
+        for circuit, network in circuits.items():
+            figures[circuit] = loads_circuit(room, library, room.path("given.lib"), network, SCRIPTS[name])
+            tell("loads", kind, circuit)
+        for step in ["own", *STEPS]:
+            delay, number, order = ratio(figures, "lwmap " + step, "abc " + step)
+            row(kind, {"own": "block delays"}.get(step, f"`stime`, {step}"), number, delay, order,
+                ratio(figures, f"lwmap {step} area", f"abc {step} area", 2)[0])
+    print()
+
+
+def texts():
+    """What the scripts for texts and limits print; gives it by script."""
+    printed = {}
+    for name, environment in (("layers", {}), ("blif", {}), ("verilog", {"RUNS": "1"}), ("sim", {})):
+        print(f"### `bench/{name}.sh`\n", flush=True)
+        run = subprocess.run(["sh", os.path.join(HERE, name + ".sh")], capture_output=True, text=True, env={**os.environ, **environment},
+                             check=False)
+        printed[name] = run.stdout
+        print(run.stdout or f"failed: {run.stderr[:200]}\n")
+        tell(name)
+    return printed

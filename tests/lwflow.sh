@@ -1,0 +1,172 @@
+#!/bin/sh
+# Runs lwflow on a few designs, one of each kind, and on what it has to refuse, and looks at its statuses, its results and its
+# words. It takes a minute or two; tests/flows.sh has the many designs.
+#
+#   sh tests/lwflow.sh
+#
+# It needs Python, Yosys and ABC, and says 'skipped' where they are not there; so it does for what needs Icarus Verilog or
+# Debian's qflow-tech-osu035. The program is the one that release/program.sh finds. The last line is 'N passed, N failed'.
+set -u
+export LC_ALL=C
+root=$(dirname -- "$(dirname -- "$(readlink -f -- "$0")")")
+cd -- "$root" || exit 1
+for tool in python3 yosys berkeley-abc; do
+    command -v "$tool" >/dev/null || { echo "skipped: $tool is not on this machine, so lwflow was not tried" && exit 0; }
+done
+LWMAP_PROGRAM=$(sh release/program.sh) || exit 1
+export LWMAP_PROGRAM
+room=$(mktemp -d) || exit 1
+trap 'rm -rf "$room"' EXIT
+trap 'exit 1' HUP INT TERM
+passed=0 && failed=0
+library=bench/libs/mcnc.genlib
+
+verdict() { # WHAT STATUS
+    if [ "$2" -eq 0 ]; then passed=$((passed + 1)); else
+        failed=$((failed + 1)) && echo "FAILED: $1" && sed 's/^/    /' "$room/out" "$room/err"
+    fi
+}
+
+# A run whose status and words have to be these: a text that its output or its errors hold.
+run() { # WHAT STATUS TEXT WORD..
+    what=$1 && wanted=$2 && text=$3 && shift 3
+    rm -rf "$room/made"
+    python3 lwflow -o "$room/made" "$@" >"$room/out" 2>"$room/err" </dev/null
+    status=$?
+    [ "$status" -eq "$wanted" ] && grep -qe "$text" "$room/out" "$room/err"
+    verdict "$what: status $status, wanted $wanted with '$text'" $?
+}
+
+# What a run left: these files and no others.
+left() { # WHAT FILE..
+    what=$1 && shift
+    # shellcheck disable=SC2012
+    [ "$(ls -A "$room/made" 2>/dev/null | tr '\n' ' ')" = "$*${*:+ }" ]
+    verdict "$what: the folder" $?
+}
+
+all='cells.v log.txt mapped.blif mapped.v report.json'
+run "a design without registers" 0 'every step was shown' -q --effort fast -l $library examples/verilog/adder.v
+# shellcheck disable=SC2086
+left "a design without registers" $all
+[ ! -s "$room/err" ]
+verdict "-q is silent" $?
+run "a design with registers" 0 '20 registers by name' --jobs 2 -l $library examples/verilog/uart.v
+# shellcheck disable=SC2086
+left "a design with registers" $all
+grep -q 'best so far' "$room/err"
+verdict "progress on standard error" $?
+if command -v iverilog >/dev/null; then
+    grep -q '^shown: simulation' "$room/out"
+    verdict "simulated beside Icarus Verilog" $?
+else
+    echo "skipped: iverilog is not on this machine, so nothing was simulated"
+fi
+python3 tools/equal.py "$room/made" examples/verilog/uart.v >"$room/out" 2>"$room/err"
+verdict "the comparison alone" $?
+sed -i 's/\(data\[7\]  *<= \)[^;]*;/\1line;/' "$room/made/mapped.v"
+python3 tools/equal.py "$room/made" examples/verilog/uart.v >"$room/out" 2>"$room/err"
+[ $? -eq 4 ]
+verdict "the comparison of a netlist with a fault" $?
+run "the best effort, as JSON" 0 '"status": 0' -q --json --effort best -l $library bench/circuits/rca8_y.blif
+python3 -c 'import json, sys; found = json.load(sys.stdin)
+sys.exit(not (found["kept"]["delay"] <= found["abc"]["delay"] <= found["abc_as_given"]["delay"] and all(step["verdict"] == "equal" for step in found["steps"])))' <"$room/out"
+verdict "the kept netlist is no later than ABC's" $?
+./lwmap check $library bench/circuits/rca8_y.blif "$room/made/mapped.blif" >"$room/out" 2>&1
+[ $? -ne 2 ]
+verdict "mapped.blif is a mapped netlist" $?
+
+# What is refused leaves nothing.
+run "three-state drivers" 1 'three-state driver' -q -l $library tests/flows/three.v
+left "three-state drivers"
+run "a set before a reset" 1 'set that comes before its reset' -q -l $library tests/flows/sets.v
+left "a set before a reset"
+run "no such file" 1 'cannot read' -q -l $library "$room/none.v"
+run "no such module" 1 'there is no module nope; the files have full_adder, adder' -q -t nope -l $library examples/verilog/adder.v
+run "no such word" 2 'usage' --foo -l $library examples/verilog/adder.v
+run "no library" 2 'required' examples/verilog/adder.v
+run "help" 0 'status  0' --help
+run "version" 0 '^lwflow [0-9]' --version
+: >"$room/empty.blif"
+run "an empty design" 1 'is empty' -q -l $library "$room/empty.blif"
+printf 'GATE inv 1 O=!a;\n PIN * INV 1 999 1 0 1 0\nGATE nd 2 O=~(a*b);\n PIN * INV 1 999 1 0 1 0\n' >"$room/tilde.genlib"
+run "a tilde in a library" 1 'a complement is written !' -q -l "$room/tilde.genlib" bench/circuits/rca8_y.blif
+run "what is no library" 1 'README.md: GATE expected' -q -l README.md bench/circuits/rca8_y.blif
+mkdir "$room/here" && cp examples/verilog/adder.v "$room/here/mapped.v"
+python3 lwflow -q -o "$room/here" -l $library "$room/here/mapped.v" >"$room/out" 2>"$room/err"
+[ $? -eq 1 ] && grep -q 'would be overwritten' "$room/err" && cmp -s examples/verilog/adder.v "$room/here/mapped.v"
+verdict "it does not write where it reads" $?
+
+# Networks.
+printf '.model top\n.inputs a b c\n.clock k\n.outputs f q\n.subckt xor2 x=a y=b z=t\n.subckt xor2 x=t y=c z=f\n.latch t q re k 1\n.end\n.model xor2\n.inputs x y\n.outputs z\n.names x y z\n10 1\n01 1\n.end\n' >"$room/sub.blif"
+run "models in models, with a clock" 0 'models in models by Yosys' -q -l $library "$room/sub.blif"
+./lwmap map $library bench/circuits/rca8_y.blif >"$room/gates.blif"
+run "a mapped netlist" 0 '.gate as the function of its cell' -q --effort fast -l $library "$room/gates.blif"
+berkeley-abc -q "read_blif bench/circuits/rca8_y.blif; strash; write_aiger $room/x.aig" >/dev/null 2>&1
+run "AIGER" 0 'every step was shown' -q --effort fast -l $library "$room/x.aig"
+python3 lwflow -q -o "$room/made" --effort fast -l $library - <bench/circuits/rca8_y.blif >"$room/out" 2>"$room/err"
+verdict "standard input" $?
+run "an area within 110% of the least delay" 0 'every step was shown' -q --area 110% -l $library bench/circuits/rca8_y.blif
+
+# Liberty.
+osu=/usr/share/qflow/tech/osu035/osu035_stdcells.lib
+if [ -r "$osu" ]; then
+    run "Liberty, judged by loads" 0 'netlist to sized netlist' -q --effort fast -l "$osu" examples/verilog/alu.v
+    grep -q 'sized delay' "$room/out" && grep -q 'pads and buffers for clocks): CLKBUF1' "$room/out"
+    verdict "Liberty: what was left out" $?
+else
+    echo "skipped: there is no $osu"
+fi
+printf 'library(a) { cell(inv) { area : 1; pin(a) { direction : input; } pin(y) { direction : output; function : "a'"'"'"; } } }\n' >"$room/bare.lib"
+run "Liberty without delay tables" 1 'no delay tables' -q -l "$room/bare.lib" bench/circuits/rca8_y.blif
+
+# A missing tool, an end from outside, a step that takes too long.
+mkdir "$room/few" && ln -s "$(python3 -c 'import sys; print(sys.executable)')" "$room/few/python3" && for tool in sh dirname readlink awk find sort sha256sum grep sed cat head tr cut xargs; do
+    ln -s "$(command -v $tool)" "$room/few/$tool"
+done
+PATH=$room/few LWMAP_PROGRAM=$LWMAP_PROGRAM python3 lwflow -q -o "$room/made" -l $library examples/verilog/adder.v >"$room/out" 2>"$room/err"
+[ $? -eq 1 ] && grep -q 'no yosys and no berkeley-abc; apt-get install yosys berkeley-abc' "$room/err"
+verdict "missing tools are named with their packages" $?
+rm -rf "$room/made"
+python3 lwflow -o "$room/made" --effort best -l $library bench/circuits/mul16_y.blif >"$room/out" 2>"$room/err" &
+child=$!
+turn=0
+until grep -q 'front ends' "$room/err" || [ $turn -eq 600 ]; do sleep 0.1 && turn=$((turn + 1)); done
+kill -TERM $child
+wait $child
+[ $? -eq 130 ] && grep -q 'interrupted; nothing was written' "$room/err" && [ ! -e "$room/made" ]
+verdict "an end from outside" $?
+run "a step without an answer" 3 'NOT DECIDED' -q --limit 1 --effort fast --area each -l $library tests/flows/parallel.v
+
+# The recipes of the pages: a netlist as a network again, a clock of SIS, and a certificate for a netlist of ABC.
+python3 bench/timing.py -u $library "$room/gates.blif" >"$room/plain.blif" && ./lwmap map $library "$room/plain.blif" >"$room/again.blif" &&
+    [ "$(python3 bench/timing.py -s $library "$room/again.blif")" = "$(python3 bench/timing.py -s $library "$room/gates.blif")" ]
+verdict "a netlist as a network, mapped again" $?
+printf '.model k\n.inputs d\n.outputs q\n.clock c\n.latch d q re c 0\n.end\n' | sed 's/^\.clock/.inputs/' >"$room/clock.blif"
+./lwmap map $library "$room/clock.blif" >"$room/out" 2>"$room/err"
+verdict "a clock as an input" $?
+certified() { # LIB CIRCUIT
+    python3 bench/timing.py -f "$1" >"$room/flat.genlib"
+    (cd "$room" && berkeley-abc -s -q "read_genlib flat.genlib; read_blif $root/$2; strash; map; write_blif theirs.blif" >/dev/null 2>&1)
+    python3 bench/timing.py -u "$1" "$room/theirs.blif" >"$room/network.blif"
+    awk '$1 == ".names" { nodes = nodes " " $NF } $1 == ".outputs" { outputs = outputs substr($0, 9); next } $1 == ".end" { next }
+        { print } END { print ".outputs" outputs nodes "\n.end" }' "$room/network.blif" >"$room/all.blif"
+    ./lwmap map -c "$1" "$room/all.blif" | grep '^#@' >"$room/certificate"
+    sed '/^\.end/d' "$room/theirs.blif" | cat - "$room/certificate" >"$room/claimed.blif"
+    ./lwmap check "$1" "$room/network.blif" "$room/claimed.blif" >"$room/out" 2>"$room/err"
+}
+certified examples/small/small.genlib examples/small/shared.blif && grep -q '^yes' "$room/out"
+verdict "a certificate for a netlist of ABC" $?
+! certified $library bench/circuits/rca8_y.blif && grep -q 'its label is' "$room/err"
+verdict "a netlist of ABC that can be made faster" $?
+
+# In Yosys.
+yosys -q -l "$room/log" -p "read_verilog examples/verilog/five.v; synth -flatten -noabc -top five; abc -exe $root/tools/yosys-lwmap -genlib $root/$library; opt_clean; write_verilog -noattr $room/five.v" >"$room/out" 2>"$room/err"
+[ $? -eq 0 ] && grep -q 'ABC: lwmap: delay .*each shown' "$room/log"
+verdict "in ABC's place inside Yosys" $?
+yosys -q -l "$room/log" -p "read_verilog examples/verilog/five.v; synth -flatten -noabc -top five; abc -exe $root/tools/yosys-lwmap -genlib $root/README.md" >"$room/out" 2>"$room/err"
+[ $? -ne 0 ] && grep -q 'ABC: lwmap: no netlist: .*GATE expected' "$room/log"
+verdict "in Yosys with what is no library" $?
+
+echo "$passed passed, $failed failed"
+[ "$failed" -eq 0 ] && [ "$passed" -gt 0 ]

@@ -1,0 +1,1 @@
+"""Scripts; their common parts are in lib/."""

@@ -1,0 +1,58 @@
+"""ABC: scripts in a folder, whether two networks are the same, and netlists under a library of Liberty."""
+import os
+import re
+
+from . import runs
+
+TOOL = "berkeley-abc"
+
+
+def call(commands, room, log, limit):
+    """Runs commands of ABC in a folder; paths in them are of that folder and have no blanks."""
+    return runs.run([TOOL, "-s", "-q", commands], os.path.join(room, log), cwd=room, limit=limit)
+
+
+def whole(path):
+    """Whether a file of BLIF was written to its end."""
+    try:
+        with open(path, "rb") as file:
+            file.seek(max(0, os.path.getsize(path) - 32))
+            return file.read().rstrip().endswith(b".end")
+    except OSError:
+        return False
+
+
+def said(path):
+    with open(path, encoding="utf-8", errors="replace") as file:
+        return file.read()
+
+
+def cec(one, other, room, log, limit):
+    """Whether two networks in a folder compute the same: 'equal', 'different' or 'undecided', and why."""
+    path = os.path.join(room, log)
+    if os.path.exists(path):
+        os.remove(path)
+    ended = call(f"cec {one} {other}", room, log, limit)
+    text = said(path)
+    if "NOT EQUIVALENT" in text:
+        failed = re.search(r"Verification failed for (.*)", text)
+        return "different", failed[1].strip() if failed else "cec found a difference"
+    if "are equivalent" in text:
+        return "equal", ""
+    if ended.late:
+        return "undecided", f"cec came to no end in {limit:g} s"
+    return "undecided", "cec: " + (runs.tail(path) or f"ended with {ended.status}")
+
+
+def sized(netlist, library, result, room, log, limit, buffers=True):
+    """Buffers (where the library has cells for it) and sizes a netlist of .gate lines under a library that ABC has read as .scl. Gives delay in picoseconds and area,
+    or None; the netlist goes to the file result."""
+    path = os.path.join(room, log)
+    if os.path.exists(path):
+        os.remove(path)
+    sizing = ("buffer; topo; " if buffers else "") + "upsize; dnsize; topo; stime"
+    call(f"read_scl {library}; read_blif {netlist}; topo; {sizing}; write_blif {result}", room, log, limit)
+    found = re.findall(r"Area =\s*([0-9.]+).*?Delay =\s*([0-9.]+) ps", re.sub(r"\x1b\[[0-9;]*m", "", said(path)))
+    if not found or not whole(os.path.join(room, result)):
+        return None
+    return float(found[-1][1]), float(found[-1][0])

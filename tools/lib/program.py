@@ -1,0 +1,17 @@
+"""The program that release/program.sh finds."""
+import os
+import subprocess
+from functools import lru_cache
+
+from .script import Fault
+
+ROOT = os.path.dirname(os.path.dirname(os.path.dirname(os.path.realpath(__file__))))
+
+
+@lru_cache(None)
+def path():
+    """The path of lwmap; a Fault says why there is none."""
+    found = subprocess.run(["sh", ROOT + "/release/program.sh"], stdout=subprocess.PIPE, stderr=subprocess.PIPE)
+    if found.returncode:
+        raise Fault(os.fsdecode(found.stderr).strip().removeprefix("lwmap: "))
+    return os.fsdecode(found.stdout).rstrip("\n")

@@ -1,0 +1,84 @@
+"""Whether a netlist computes what its design does: each step from the design's network to the netlist."""
+import os
+from collections import namedtuple
+
+from . import abc, program, registers, runs, search, timing
+from .script import Fault
+
+Step = namedtuple("Step", "what verdict why")
+
+
+def same(room, top, what, files, limit):
+    """A step: whether two netlists of single bits, files of Yosys's JSON in the room, have the same registers and the same logic."""
+    folder = os.path.join(room, "compare." + ".".join(files))
+    os.makedirs(folder, exist_ok=True)
+    try:
+        number, free = registers.compare(top, *(os.path.join(room, file) for file in files), folder)
+    except Fault as fault:
+        return Step(what, "different" if str(fault).startswith("difference") else "undecided", str(fault))
+    how = (f", {number} registers by name" if number else "") + (", an x of the Verilog being anything" if free else "")
+    return Step(what + how, *abc.cec("given.blif", "made.blif", folder, "cec.log", limit))
+
+
+class Prover:
+    """Confirms the steps of a work, each once."""
+
+    def __init__(self, work):
+        self.work, self.known = work, {}
+
+    def cec(self, one, other):
+        if (one, other) not in self.known:
+            log = f"cec.{len(self.known)}.log"
+            self.known[one, other] = None
+            work = self.work
+            self.known[one, other] = abc.cec(one, other, work.room, log, work.proof)
+        return self.known[one, other]
+
+    def steps(self, netlist):
+        """The steps behind a netlist, from the design on."""
+        last = netlist.network
+        chain = []
+        while last.parent is not None:
+            chain.append(last)
+            last = last.parent
+        links = [(one.parent, one) for one in reversed(chain) if one.how == "abc"]
+        if not netlist.ours():
+            links.append((netlist.network, search.plain_of(self.work, netlist, "plain.last.blif")))
+        found = self.work.each(lambda link: self.link(*link), links)
+        if netlist.ours():
+            found.append(self.checked(netlist))
+        return found
+
+    def link(self, one, other):
+        what = f"{one.said} to {other.said}" if one.said != other.said else other.said
+        verdict, why = self.cec(one.file, other.file)
+        if verdict == "undecided" and one.file != "cut.blif" and self.cec("cut.blif", other.file)[0] == "equal":
+            verdict, why = "equal", ""
+        return Step(what + ", by cec", verdict, why)
+
+    def checked(self, netlist):
+        """The netlist that lwmap wrote: equivalent by theorem, and lwmap check looks at its certificate."""
+        work = self.work
+        if not netlist.width:
+            return Step("front to netlist, by the theorem of lwmap trade", "equal", "")
+        given, width = work.restored(netlist.network.file), str(netlist.width)
+        made, checked = "certified.blif", "lwmap check"
+        command = [program.path(), "map", "-w", width, "-c", work.library.file, given]
+        ended = runs.run(command, work.path("certify.log"), cwd=work.room, limit=work.search * 2, out=work.path(made))
+        if ended.status:
+            return Step("front to netlist, by the theorem of lwmap map", "equal", "no certificate: " + runs.tail(ended.log))
+        netlist.certified = made
+        command = [program.path(), "check", "-w", width, work.library.file, given, made]
+        ended = runs.run(command, work.path("check.log"), cwd=work.room, limit=work.proof, out=work.path("check.out"))
+        answer = runs.tail(work.path("check.out"))
+        if answer.startswith("yes"):
+            return Step(f"front to netlist, by theorem and {checked}", "equal", "")
+        why = answer or runs.tail(ended.log) or f"over {work.proof:.0f} s"
+        return Step(f"front to netlist, by theorem; {checked}", "different" if answer.startswith("no") else "undecided", why)
+
+    def sizing(self, netlist):
+        """The step from the mapper's netlist to the sized one."""
+        work = self.work
+        plain = search.plain_of(work, netlist, "plain.mapped.blif").file
+        work.write("plain.sized.blif", timing.unmap(work.library.sized_cells(), work.path(netlist.sized[2])))
+        return Step("netlist to sized netlist, by cec", *self.cec(plain, "plain.sized.blif"))

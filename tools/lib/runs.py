@@ -1,0 +1,108 @@
+"""Runs of other programs: which are there, how long one may take, and what it took."""
+import os
+import resource
+import shutil
+import signal
+import subprocess
+import threading
+import time
+from collections import namedtuple
+
+from .script import Fault
+
+PACKAGES = {"yosys": "yosys", "berkeley-abc": "berkeley-abc", "iverilog": "iverilog", "vvp": "iverilog"}
+Ended = namedtuple("Ended", "status seconds late log")
+taken = {}
+lock = threading.Lock()
+stopped = threading.Event()
+
+
+def has(tool):
+    """Whether a tool is there."""
+    return shutil.which(tool) is not None
+
+
+def need(*tools):
+    """A Fault names each tool that is missing, with Debian's name of its package."""
+    missing = [tool for tool in tools if not has(tool)]
+    if missing:
+        packages = " ".join(dict.fromkeys(PACKAGES[tool] for tool in missing))
+        raise Fault(f"there is no {' and no '.join(missing)}; apt-get install {packages}")
+
+
+def run(command, log, cwd=None, limit=None, out=None, feed=None):
+    """Runs a command, for at most so many seconds of processor time (and, should it wait for something, some thirty times as
+    long by the clock: a busy machine changes no result). What it says goes to the file log, what it prints to the file out, or
+    to log too. Gives its status, its seconds, and whether it was ended."""
+    if stopped.is_set():
+        return Ended(1, 0, True, log)
+    with open(log, "ab") as said, open(out or os.devnull, "wb") as printed, open(feed or os.devnull, "rb") as given:
+        process = subprocess.Popen(command, cwd=cwd, stdin=given, stdout=printed if out else said, stderr=said)
+        late = guard(process, limit)
+        _, code, usage = os.wait4(process.pid, 0)
+    process.returncode = os.waitstatus_to_exitcode(code)
+    seconds = usage.ru_utime + usage.ru_stime
+    over = late.stop() or limit is not None and process.returncode == -signal.SIGXCPU
+    with lock:
+        name = os.path.basename(command[0])
+        taken[name] = taken.get(name, 0) + seconds
+    return Ended(process.returncode, seconds, over, log)
+
+
+class Guard:
+    """Ends a process that takes too long by the clock."""
+
+    def __init__(self, process, seconds):
+        self.over = False
+        self.process = process
+        self.timer = threading.Timer(seconds, self.end) if seconds else None
+        if self.timer:
+            self.timer.daemon = True
+            self.timer.start()
+
+    def end(self):
+        self.over = True
+        try:
+            os.kill(self.process.pid, signal.SIGKILL)
+        except ProcessLookupError:
+            pass
+
+    def stop(self):
+        """Whether the process was ended."""
+        if self.timer:
+            self.timer.cancel()
+        return self.over
+
+
+def guard(process, limit):
+    """Bounds the processor time of a process that has just begun, and its time by the clock."""
+    if limit is None:
+        return Guard(process, None)
+    whole = max(1, int(limit + 0.999))
+    try:
+        resource.prlimit(process.pid, resource.RLIMIT_CPU, (whole, whole + 1))
+    except (ProcessLookupError, OSError):
+        pass
+    return Guard(process, 30 * limit + 60)
+
+
+def tail(path, count=1):
+    """The last lines of a log that are not blank."""
+    with open(path, encoding="utf-8", errors="replace") as file:
+        lines = [line.strip() for line in file if line.strip()]
+    return " ".join(lines[-count:])
+
+
+class Clock:
+    """Seconds since the beginning, by the clock and of all processes."""
+
+    def __init__(self):
+        self.began = time.monotonic()
+
+    def wall(self):
+        return time.monotonic() - self.began
+
+    def spent(self):
+        own = time.process_time()
+        with lock:
+            return own + sum(taken.values())

@@ -1,0 +1,62 @@
+"""What plot.py and and3.py draw with: shapes of SVG, in colours that read on light and on dark grounds."""
+from xml.sax.saxutils import escape
+
+STYLE = """<style>
+  text { font: 13px sans-serif; fill: #24292f; }
+  .ground { fill: #ffffff; }
+  .title { font-size: 15px; font-weight: bold; }
+  .small { font-size: 11px; fill: #57606a; }
+  .rule { stroke: #d0d7de; stroke-width: 1; }
+  .axis { stroke: #57606a; stroke-width: 1.5; }
+  .link { stroke: #57606a; stroke-width: 1.3; fill: none; }
+  .box { fill: #f6f8fa; stroke: #57606a; stroke-width: 1.2; }
+  .chosen { stroke: #b54708; stroke-width: 2.6; }
+  .shade { fill: #fdead7; stroke: none; }
+  .a { fill: #0969da; stroke: #0969da; } .b { fill: #b54708; stroke: #b54708; } .c { fill: #116329; stroke: #116329; }
+  .hollow { fill: none; stroke-width: 1.6; }
+  @media (prefers-color-scheme: dark) {
+    text { fill: #e6edf3; }
+    .ground { fill: #0d1117; }
+    .small { fill: #9198a1; }
+    .rule { stroke: #30363d; }
+    .axis, .link { stroke: #9198a1; }
+    .box { fill: #161b22; stroke: #9198a1; }
+    .chosen { stroke: #f0883e; }
+    .shade { fill: #3b2614; }
+    .a { fill: #58a6ff; stroke: #58a6ff; } .b { fill: #f0883e; stroke: #f0883e; } .c { fill: #56d364; stroke: #56d364; }
+    .hollow { fill: none; }
+  }
+</style>
+"""
+
+
+def number(value):
+    return f"{value:.1f}".rstrip("0").rstrip(".")
+
+
+def text(x, y, said, kind="", anchor="start"):
+    return f'<text x="{number(x)}" y="{number(y)}" class="{kind}" text-anchor="{anchor}">{escape(said)}</text>\n'
+
+
+def line(x1, y1, x2, y2, kind):
+    return f'<line x1="{number(x1)}" y1="{number(y1)}" x2="{number(x2)}" y2="{number(y2)}" class="{kind}"/>\n'
+
+
+def box(x, y, width, height, kind):
+    return f'<rect x="{number(x)}" y="{number(y)}" width="{number(width)}" height="{number(height)}" rx="4" class="{kind}"/>\n'
+
+
+def sign(shape, x, y, kind):
+    """A circle, a square or a triangle, so that colours are not all that tells them apart."""
+    if shape == 0:
+        return f'<circle cx="{number(x)}" cy="{number(y)}" r="4" class="{kind}"/>\n'
+    if shape == 1:
+        return f'<rect x="{number(x - 3.6)}" y="{number(y - 3.6)}" width="7.2" height="7.2" class="{kind}"/>\n'
+    points = f"{number(x)},{number(y - 4.6)} {number(x - 4.4)},{number(y + 3.6)} {number(x + 4.4)},{number(y + 3.6)}"
+    return f'<polygon points="{points}" class="{kind}"/>\n'
+
+
+def picture(width, height, name, parts):
+    size = f'width="{width}" height="{height}"'
+    head = f'<svg xmlns="http://www.w3.org/2000/svg" viewBox="0 0 {width} {height}" {size} role="img">\n'
+    return f'{head}<title>{escape(name)}</title>\n{STYLE}<rect {size} class="ground"/>\n{"".join(parts)}</svg>\n'
