@@ -130,7 +130,8 @@ verdict "missing tools are named with their packages" $?
 rm -rf "$room/made"
 python3 lwflow -o "$room/made" --effort best -l $library bench/circuits/mul16_y.blif >"$room/out" 2>"$room/err" &
 child=$!
-sleep 1.5
+turn=0
+until grep -q 'front ends' "$room/err" || [ $turn -eq 600 ]; do sleep 0.1 && turn=$((turn + 1)); done
 kill -TERM $child
 wait $child
 [ $? -eq 130 ] && grep -q 'interrupted; nothing was written' "$room/err" && [ ! -e "$room/made" ]

@@ -200,7 +200,9 @@ def interrupted(*_):
 def main(words):
     chosen = options.parse(words)
     signal.signal(signal.SIGTERM, interrupted)
-    room = tempfile.mkdtemp(prefix="lwflow.")
+    # (Yosys and ABC take no paths with blanks)
+    place = tempfile.gettempdir()
+    room = tempfile.mkdtemp(prefix="lwflow.", dir="/tmp" if len(place.split()) != 1 else place)
     try:
         program_or_status()
         return perform(chosen, room)

@@ -31,7 +31,8 @@ status  0  a netlist, and every step from the design to it was shown
 what --area means today
   max    of the netlists of least delay the one of least area (the default)
   each   our netlist of least delay, in which each output comes as early as it can behind its front end
-  N%     the least area among netlists within N percent of the least delay, with 'lwmap trade' at that time where it ends
+  N%     the least area among netlists within N percent (from 100 on) of the least delay; 'lwmap trade' at that time is one of
+         them, where loads do not judge, the network has up to 5000 nodes, and it comes to an end
   T      the same within a delay of T, in the library's unit
 
 example: ./lwflow -l bench/libs/mcnc.genlib examples/verilog/uart.v

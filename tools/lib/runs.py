@@ -31,8 +31,9 @@ def need(*tools):
 
 
 def run(command, log, cwd=None, limit=None, out=None, feed=None):
-    """Runs a command, for at most so many seconds of processor time (and four times as long by the clock). What it says goes
-    to the file log, what it prints to the file out, or to log too. Gives its status, its seconds, and whether it was ended."""
+    """Runs a command, for at most so many seconds of processor time (and, should it wait for something, some thirty times as
+    long by the clock: a busy machine changes no result). What it says goes to the file log, what it prints to the file out, or
+    to log too. Gives its status, its seconds, and whether it was ended."""
     if stopped.is_set():
         return Ended(1, 0, True, log)
     with open(log, "ab") as said, open(out or os.devnull, "wb") as printed, open(feed or os.devnull, "rb") as given:
@@ -82,7 +83,7 @@ def guard(process, limit):
         resource.prlimit(process.pid, resource.RLIMIT_CPU, (whole, whole + 1))
     except (ProcessLookupError, OSError):
         pass
-    return Guard(process, 4 * limit + 2)
+    return Guard(process, 30 * limit + 60)
 
 
 def tail(path, count=1):
