@@ -7,7 +7,6 @@ import sys
 import tempfile
 
 from . import blif, genlib, library, networks, options, program, proof, report, runs, search, simulate, timing, verilog
-from .proof import Step
 from .script import Fault
 
 SHOWN, FAILED, UNDECIDED, DIFFERENT, NO_PROGRAM, INTERRUPTED = 0, 1, 3, 4, 69, 130
