@@ -260,6 +260,7 @@ def search(work):
     keep_theirs(work, netlists + others)
     if not work.netlists:
         why = "; ".join(dict.fromkeys(work.lost))
+        why += "; --no-loads sizes nothing" if "sizing" in why else ""
         raise Fault("no netlist: " + why + ("; tools/yosys-lwmap in Yosys maps a large design module by module" if "signals" in why else ""))
     loop(work)
     return work.netlists
