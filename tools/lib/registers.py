@@ -320,7 +320,8 @@ def plan(given, made, refused=()):
     ins = {f"in:{name}": ([bit], [made.ports[name][1]]) for name, bit in given.side("input")}
     outs = [(f"out:{name}", ([bit], ["1"]), ([made.ports[name][1]], ["1"])) for name, bit in given.side("output")]
     ties, pairs = [], partners(given, made)
-    settled = steady(given, [register for register, partner in pairs if partner is None and tie_of(register) == "x" and register.start == "x"], refused)
+    alone = [register for register, partner in pairs if partner is None]
+    settled = steady(given, [register for register in alone if tie_of(register) == "x" and register.start == "x"], refused)
     for register, partner in pairs:
         name = register.name()
         if partner is not None:
