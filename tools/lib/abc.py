@@ -45,8 +45,8 @@ def cec(one, other, room, log, limit):
 
 
 def sized(netlist, library, result, room, log, limit, buffers=True):
-    """Buffers (where the library has cells for it) and sizes a netlist of .gate lines under a library that ABC has read as .scl. Gives delay in picoseconds and area,
-    or None; the netlist goes to the file result."""
+    """Buffers (where the library has cells for it) and sizes a netlist of .gate lines under a library that ABC has read as
+    .scl. Gives delay in picoseconds and area, or None; the netlist goes to the file result."""
     path = os.path.join(room, log)
     if os.path.exists(path):
         os.remove(path)

@@ -7,7 +7,6 @@ import sys
 import tempfile
 
 from . import blif, genlib, library, networks, options, program, proof, report, runs, search, simulate, timing, verilog
-from .proof import Step
 from .script import Fault
 
 SHOWN, FAILED, UNDECIDED, DIFFERENT, NO_PROGRAM, INTERRUPTED = 0, 1, 3, 4, 69, 130
@@ -194,12 +193,14 @@ def perform(chosen, room):
 
 
 def interrupted(*_):
+    runs.stop()
     raise KeyboardInterrupt
 
 
 def main(words):
     chosen = options.parse(words)
-    signal.signal(signal.SIGTERM, interrupted)
+    for number in (signal.SIGTERM, signal.SIGINT, signal.SIGHUP):
+        signal.signal(number, interrupted)
     # (Yosys and ABC take no paths with blanks)
     place = tempfile.gettempdir()
     room = tempfile.mkdtemp(prefix="lwflow.", dir="/tmp" if len(place.split()) != 1 else place)
@@ -213,7 +214,6 @@ def main(words):
         print(f"lwflow: {fault.filename or 'standard output'}: {fault.strerror}", file=sys.stderr)
         return FAILED
     except KeyboardInterrupt:
-        runs.stopped.set()
         print("lwflow: interrupted; nothing was written", file=sys.stderr)
         return INTERRUPTED
     finally:

@@ -42,6 +42,8 @@ class Library:
         self.notes += [f"library: {line}" for line in said]
         shutil.copyfile(self.given, self.path("given.lib"))
         abc.call("read_lib -w given.lib; write_scl lib.scl", self.room, "scl.log", limit)
+        if not os.path.exists(self.path("lib.scl")):
+            self.notes.append("library: ABC does not keep it for sizing, so the delays of its cells judge")
 
     def look(self):
         """Refuses what would be read as something else, and what lwmap does not take."""

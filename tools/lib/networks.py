@@ -57,7 +57,8 @@ class Network:
         abc.call(f"read given{ending}; write_blif read.blif", self.room, "read_abc.log", self.limit)
         if not abc.whole(self.path("read.blif")):
             raise Fault(f"{self.given}: ABC does not read it: {runs.tail(self.path('read_abc.log')) or 'no reason is given'}")
-        self.steps.append(Step("file to network, as ABC reads it, by cec", *abc.cec("given" + ending, "read.blif", self.room, "read_cec.log", self.limit)))
+        verdict = abc.cec("given" + ending, "read.blif", self.room, "read_cec.log", self.limit)
+        self.steps.append(Step("file to network, as ABC reads it, by cec", *verdict))
         self.notes.append("read by ABC")
         self.renamed = True
 

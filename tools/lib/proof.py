@@ -1,5 +1,7 @@
 """Whether a netlist computes what its design does: each step from the design's network to the netlist."""
+import json
 import os
+import re
 from collections import namedtuple
 
 from . import abc, program, registers, runs, search, timing
@@ -9,15 +11,26 @@ Step = namedtuple("Step", "what verdict why")
 
 
 def same(room, top, what, files, limit):
-    """A step: whether two netlists of single bits, files of Yosys's JSON in the room, have the same registers and the same logic."""
+    """A step: whether two netlists of single bits, files of Yosys's JSON in the room, have the same registers and the same logic.
+    A register that was taken for a value that it keeps, and does not, is taken otherwise then; settled.json says
+    which ones were taken so."""
     folder = os.path.join(room, "compare." + ".".join(files))
     os.makedirs(folder, exist_ok=True)
-    try:
-        number, free = registers.compare(top, *(os.path.join(room, file) for file in files), folder)
-    except Fault as fault:
-        return Step(what, "different" if str(fault).startswith("difference") else "undecided", str(fault))
+    refused = set()
+    for _ in range(12):
+        try:
+            number, free, settled = registers.compare(top, *(os.path.join(room, file) for file in files), folder, refused)
+        except Fault as fault:
+            return Step(what, "different" if str(fault).startswith("difference") else "undecided", str(fault))
+        verdict, why = abc.cec("given.blif", "made.blif", folder, "cec.log", limit)
+        wrong = {(name, settled[name]) for name in re.findall(r"\bA?D:(\S+)", why) if name in settled}
+        if verdict != "different" or not wrong:
+            break
+        refused |= wrong
+    with open(os.path.join(folder, "settled.json"), "w", encoding="utf-8") as out:
+        json.dump(settled, out)
     how = (f", {number} registers by name" if number else "") + (", an x of the Verilog being anything" if free else "")
-    return Step(what + how, *abc.cec("given.blif", "made.blif", folder, "cec.log", limit))
+    return Step(what + how, verdict, why)
 
 
 class Prover:

@@ -217,7 +217,7 @@ class Values:
     """Random values of the nets of a module, many at a time, under registers that keep a value. Of each net two numbers tell where
     it can be 0 and where it can be 1; both where it is x."""
 
-    ONES = (1 << 256) - 1
+    ONES = (1 << 1024) - 1
 
     def __init__(self, module):
         self.drivers = {out: (ins, rows) for ins, out, rows in module.logic}
@@ -227,9 +227,15 @@ class Values:
                 self.readers.setdefault(bit, []).append(out)
         sources = [bit for _, bit in module.side("input")] + [register.q for register in module.registers]
         self.random = random.Random(1)
-        self.sources = {bit: self.exactly(self.random.getrandbits(256)) for bit in sources}
+        self.sources = {bit: self.exactly(self.drawn()) for bit in sources}
         self.known = {}
         self.keep({})
+
+    def drawn(self):
+        """A fourth of the values as often 1 as 0, a fourth seldom 1, a fourth more seldom, and a fourth seldom 0: codes with
+        one bit that is 1 come then too."""
+        bits = lambda: self.random.getrandbits(256)  # noqa: E731
+        return bits() | (bits() & bits() & bits()) << 256 | (bits() & bits() & bits() & bits()) << 512 | (bits() | bits() | bits()) << 768
 
     def exactly(self, value):
         return value ^ self.ONES, value
@@ -277,9 +283,10 @@ class Values:
         return tuple(found)
 
 
-def steady(module, registers):
+def steady(module, registers, refused=()):
     """Those registers of no known first value that read one value again and again once they have it, or may where they read an
-    x, by trial with random values: the value of each. That it is so is for cec to decide."""
+    x, by trial with random values: the value of each. That it is so is for cec to decide; pairs of a name and a
+    value that it refused are left out."""
     values = Values(module)
     found, left = {}, [one for one in registers if "S" not in one.pins]
     while left:
@@ -289,7 +296,7 @@ def steady(module, registers):
             for sign in ("0", "1") if register.reset == "" else register.reset:
                 known = {register.q: values.exactly(values.ONES if sign == "1" else 0)}
                 data = [register.pins[port] for port in ("D", "AD") if port in register.pins]
-                if all(values.of(net, known, fresh)[int(sign)] == values.ONES for net in data):
+                if (register.name(), sign) not in refused and all(values.of(net, known, fresh)[int(sign)] == values.ONES for net in data):
                     found[register.q], kept[register.q] = sign, known[register.q]
                     break
         if not kept:
@@ -307,13 +314,14 @@ def agree_ports(given, made):
         raise Differ("a port is an inout")
 
 
-def plan(given, made):
+def plan(given, made, refused=()):
     """The inputs of both sides by name, each with its bits; and what is compared, a name with nets and rows for each side."""
     agree_ports(given, made)
     ins = {f"in:{name}": ([bit], [made.ports[name][1]]) for name, bit in given.side("input")}
     outs = [(f"out:{name}", ([bit], ["1"]), ([made.ports[name][1]], ["1"])) for name, bit in given.side("output")]
     ties, pairs = [], partners(given, made)
-    settled = steady(given, [register for register, partner in pairs if partner is None and tie_of(register) == "x" and register.start == "x"])
+    alone = [register for register, partner in pairs if partner is None]
+    settled = steady(given, [register for register in alone if tie_of(register) == "x" and register.start == "x"], refused)
     for register, partner in pairs:
         name = register.name()
         if partner is not None:
@@ -328,15 +336,15 @@ def plan(given, made):
             continue
         ties.append((register.q, tie))
         outs += [(f"{port}:{name}", ([register.pins[port]], ["1"]), ([tie], ["1"])) for port in ("D", "AD") if port in register.pins]
-    return ins, outs, ties
+    return ins, outs, ties, {register.name(): settled[register.q] for register, _ in pairs if register.q in settled}
 
 
-def compare(top, given_path, made_path, folder):
+def compare(top, given_path, made_path, folder, refused=()):
     """Reads two flat netlists of single-bit cells, as Yosys's write_json writes them, and writes FOLDER/given.blif and
-    FOLDER/made.blif. Gives how many registers there are, and in how many places the first may have an x, which the second may
-    turn into anything."""
+    FOLDER/made.blif. Gives how many registers there are, in how many places the first may have an x, which the second may
+    turn into anything, and which registers were taken for a value that they keep, by trial."""
     given, made = Module(given_path, top), Module(made_path, top)
-    ins, outs, ties = plan(given, made)
+    ins, outs, ties, settled = plan(given, made, refused)
     first = Logic(given, "g", [(name, bit) for name, (bits, _) in ins.items() for bit in bits] + ties_as_nets(ties))
     second = Logic(made, "m", [(name, bit) for name, (_, bits) in ins.items() for bit in bits])
     if second.unknown:
@@ -361,7 +369,7 @@ def compare(top, given_path, made_path, folder):
     for logic, path in ((first, "given.blif"), (second, "made.blif")):
         with open(f"{folder}/{path}", "w", encoding="utf-8") as file:
             file.write("\n".join(header + logic.nodes + [".end", ""]))
-    return len(given.registers), len(wanted)
+    return len(given.registers), len(wanted), settled
 
 
 def ties_as_nets(ties):

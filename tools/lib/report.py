@@ -62,8 +62,9 @@ def text(found):
     parts.append("\n" + won(found, loads))
     parts += [f"{OF_VERDICTS[step['verdict']]}: {step['what']}" + (f" ({step['why']})" if step["why"] else "") + "\n" for step in found["steps"]]
     parts += [f"note: {note}\n" for note in found["notes"]] + [f"left out: {one}\n" for one in found["left_out"]]
-    verdict = {0: "every step was shown", 3: "NOT DECIDED in every step, see above", 4: "DIFFERENT, see above; no netlist was written"}
-    parts.append(f"{found['folder']}: {verdict[found['status']]}; {found['processor_seconds']:.1f} s of processor time, {found['seconds']:.1f} s in all\n")
+    verdict = {0: "every step was shown", 3: "NOT EVERY STEP WAS DECIDED, see above", 4: "DIFFERENT, see above; no netlist was written"}
+    parts.append(f"{found['folder']}: {verdict[found['status']]}; {found['processor_seconds']:.1f} s of processor time, "
+                 f"{found['seconds']:.1f} s in all\n")
     return "".join(parts)
 
 

@@ -12,7 +12,7 @@ from .script import Fault
 
 PACKAGES = {"yosys": "yosys", "berkeley-abc": "berkeley-abc", "iverilog": "iverilog", "vvp": "iverilog"}
 Ended = namedtuple("Ended", "status seconds late log")
-taken = {}
+taken, live = {}, set()
 lock = threading.Lock()
 stopped = threading.Event()
 
@@ -38,8 +38,10 @@ def run(command, log, cwd=None, limit=None, out=None, feed=None):
         return Ended(1, 0, True, log)
     with open(log, "ab") as said, open(out or os.devnull, "wb") as printed, open(feed or os.devnull, "rb") as given:
         process = subprocess.Popen(command, cwd=cwd, stdin=given, stdout=printed if out else said, stderr=said)
+        live.add(process)
         late = guard(process, limit)
         _, code, usage = os.wait4(process.pid, 0)
+        live.discard(process)
     process.returncode = os.waitstatus_to_exitcode(code)
     seconds = usage.ru_utime + usage.ru_stime
     over = late.stop() or limit is not None and process.returncode == -signal.SIGXCPU
@@ -47,6 +49,20 @@ def run(command, log, cwd=None, limit=None, out=None, feed=None):
         name = os.path.basename(command[0])
         taken[name] = taken.get(name, 0) + seconds
     return Ended(process.returncode, seconds, over, log)
+
+
+def kill(process):
+    try:
+        os.kill(process.pid, signal.SIGKILL)
+    except ProcessLookupError:
+        pass
+
+
+def stop():
+    """Ends all that runs, and lets nothing begin any more."""
+    stopped.set()
+    for process in list(live):
+        kill(process)
 
 
 class Guard:
@@ -62,10 +78,7 @@ class Guard:
 
     def end(self):
         self.over = True
-        try:
-            os.kill(self.process.pid, signal.SIGKILL)
-        except ProcessLookupError:
-            pass
+        kill(self.process)
 
     def stop(self):
         """Whether the process was ended."""

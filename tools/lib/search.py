@@ -142,7 +142,7 @@ def cheap_fronts(work, base):
 
 
 def rounds(work, base):
-    """The same behind rounds of restructuring."""
+    """The same behind rounds of restructuring. Of several each is a step of its own, which cec decides more easily."""
     count = work.effort.rounds
     ended = abc.call(rounds_script(count), work.room, "rounds.log", work.search)
     made, netlists, before = [], [], base
@@ -150,7 +150,8 @@ def rounds(work, base):
         if not all(abc.whole(work.path(f"{part}{k}.blif")) for part in ("s", "abc.round", "round")):
             work.lose(f"round {k}", ended, work.search)
             break
-        before = Network(f"s{k}.blif", f"{k} round{'s' * (k > 1)}, nodes of two inputs", before)
+        if count > 1:
+            before = Network(f"s{k}.blif", f"{k} round{'s' * (k > 1)}, nodes of two inputs", before)
         one = Network(f"round{k}.blif", f"behind {k} round{'s' * (k > 1)}", before)
         made.append(one)
         netlists.append((f"abc.round{k}.blif", before, one.said))
@@ -259,6 +260,7 @@ def search(work):
     keep_theirs(work, netlists + others)
     if not work.netlists:
         why = "; ".join(dict.fromkeys(work.lost))
+        why += "; --no-loads sizes nothing" if "sizing" in why else ""
         raise Fault("no netlist: " + why + ("; tools/yosys-lwmap in Yosys maps a large design module by module" if "signals" in why else ""))
     loop(work)
     return work.netlists
@@ -270,7 +272,7 @@ def loop(work):
     before = clock.spent()
     for turn in range(1, work.effort.loop + 1):
         fresh = [one for one in work.netlists if one not in used and (turn % 2 == 0 or one.ours())]
-        if not fresh or idle == 3 or clock.spent() - before > work.search:
+        if not fresh or idle == 3 or clock.spent() - before > work.search / 2:
             return
         best, seed = min(one.rank() for one in work.netlists), min(fresh, key=Netlist.rank)
         used.add(seed)

@@ -8,6 +8,7 @@ Both sides begin with equal registers: known first values as they are, all other
 them. Inputs change one at a time where an edge may hang on them, so that no order of events is a matter of chance. A bit counts
 where both sides know it.
 """
+import json
 import os
 import re
 
@@ -45,11 +46,13 @@ class Bench:
     def first_values(self):
         """For each register of the design its names and the value that it begins with, or None."""
         pairs = registers.partners(self.given, self.made)
-        alone = [one for one, partner in pairs if partner is None]
-        settled = registers.steady(self.given, [one for one in alone if registers.tie_of(one) == "x" and one.start == "x"])
-        found = []
+        settled, found = {}, []
+        for files in ("given.json.fine.json", "given.json.made.json"):
+            path = self.design.path(f"compare.{files}/settled.json")
+            if os.path.exists(path):
+                settled.update(json.loads(yosys.read(path)))
         for one, partner in pairs:
-            value = partner.start if partner else settled.get(one.q, registers.tie_of(one))
+            value = partner.start if partner else settled.get(one.name(), registers.tie_of(one))
             value = "0" if value == "x" and partner else value
             found.append((one.names, value))
         return found

@@ -44,9 +44,7 @@ def constant(value):
 def parse_mapped(it, lib):
     inputs, outputs, latches, gates, wires, own, default, last = [], [], [], {}, {}, {}, 0, None
     for w in it:
-        if w[0] == ".model":
-            pass
-        elif w[0] == ".inputs":
+        if w[0] == ".inputs":
             inputs += w[1:]
         elif w[0] == ".outputs":
             outputs += [x for x in w[1:] if x not in outputs]

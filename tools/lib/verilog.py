@@ -37,7 +37,8 @@ class Verilog:
     def given(self, passes=""):
         """The design as Yosys reads it, without any of its optimising passes, as given.json."""
         arst = "proc_clean; proc_rmdead; proc_prune; proc_init; proc_arst"
-        return self.yosys(f"{yosys.reading(self.options)}; {arst}; write_rtlil {self.path('arst.il')}; proc; write_rtlil {self.path('proc.il')}; flatten; design -save plain; tribuf; "
+        return self.yosys(f"{yosys.reading(self.options)}; {arst}; write_rtlil {self.path('arst.il')}; proc; "
+                          f"write_rtlil {self.path('proc.il')}; flatten; design -save plain; tribuf; "
                           f"tee -q -o {self.path('tristate.txt')} select -list t:$tribuf; design -load plain; {passes} "
                           f"memory -nordff -nomap; opt_clean; memory_map; techmap; {yosys.FINE} {self.path('given.json')}", "given.log")
 
