@@ -136,7 +136,7 @@ kill -TERM $child
 wait $child
 [ $? -eq 130 ] && grep -q 'interrupted; nothing was written' "$room/err" && [ ! -e "$room/made" ]
 verdict "an end from outside" $?
-run "a step without an answer" 3 'NOT DECIDED' -q --limit 1 --effort fast --area each -l $library tests/flows/parallel.v
+run "a step without an answer" 3 'NOT DECIDED' -q --effort fast --area each -l $library tests/flows/parallel.v
 
 # The recipes of the pages: a netlist as a network again, a clock of SIS, and a certificate for a netlist of ABC.
 python3 bench/timing.py -u $library "$room/gates.blif" >"$room/plain.blif" && ./lwmap map $library "$room/plain.blif" >"$room/again.blif" &&

@@ -152,19 +152,25 @@ class Flow:
 
     def place(self, files):
         """Moves results into the folder, each whole, at the end."""
-        os.makedirs(self.options.output, exist_ok=True)
-        fresh = []
-        for name in files:
-            with tempfile.NamedTemporaryFile(dir=self.options.output, prefix=".lwflow.", delete=False) as file:
-                fresh.append((file.name, os.path.join(self.options.output, name)))
-                with open(self.path(name), "rb") as made:
-                    shutil.copyfileobj(made, file)
-            os.chmod(file.name, 0o644)
+        folder, fresh = self.options.output, []
+        os.makedirs(folder, exist_ok=True)
+        try:
+            for name in files:
+                with tempfile.NamedTemporaryFile(dir=folder, prefix=".lwflow.", delete=False) as file:
+                    fresh.append((file.name, os.path.join(folder, name)))
+                    with open(self.path(name), "rb") as made:
+                        shutil.copyfileobj(made, file)
+                os.chmod(file.name, 0o644)
+            for made, wanted in fresh:
+                os.replace(made, wanted)
+        except BaseException:
+            for made, _ in fresh:
+                if os.path.exists(made):
+                    os.remove(made)
+            raise
         for name in RESULTS:
-            if name not in files and os.path.exists(os.path.join(self.options.output, name)):
-                os.remove(os.path.join(self.options.output, name))
-        for made, wanted in fresh:
-            os.replace(made, wanted)
+            if name not in files and os.path.exists(os.path.join(folder, name)):
+                os.remove(os.path.join(folder, name))
 
 
 def ancestors(network):
