@@ -62,6 +62,8 @@ def text(found):
     parts.append("\n" + won(found, loads))
     parts += [f"{OF_VERDICTS[step['verdict']]}: {step['what']}" + (f" ({step['why']})" if step["why"] else "") + "\n" for step in found["steps"]]
     parts += [f"note: {note}\n" for note in found["notes"]] + [f"left out: {one}\n" for one in found["left_out"]]
+    if any("came to no end" in step["why"] for step in found["steps"]) or any(": over " in one for one in found["left_out"]):
+        parts.append("note: --limit SECONDS gives a step more time, and --effort fast takes less; --sure keeps what was shown\n")
     verdict = {0: "every step was shown", 3: "NOT EVERY STEP WAS DECIDED, see above", 4: "DIFFERENT, see above; no netlist was written"}
     parts.append(f"{found['folder']}: {verdict[found['status']]}; {found['processor_seconds']:.1f} s of processor time, "
                  f"{found['seconds']:.1f} s in all\n")
