@@ -6,6 +6,7 @@ use Rattle.lw_top.specs.declared.answer.Answer.{Answer}
 use Rattle.lw_top.specs.declared.refusal.Refusal.{Refusal}
 use Rattle.lw_top.specs.declared.refusal.Refusal.TheVariants.{Words, Faulty, Memory}
 use Rattle.lw_top.specs.declared.refusal.Which.{Which}
+use Rattle.lw_files.specs.declared.fault.FileFault.TheVariants as file_fault
 use Rattle.lw_files.specs.Steps.{followed_by}
 use Rattle.lw_top.specs.Steps.{Step}
 use Rattle.lw_top.specs.Words.{Command}
@@ -23,7 +24,7 @@ Turn told command w = IsFileOf command w × ((files : List File) → told ≡ So
 module _ (told : Option (List File)) (before now : ℕ) (command : Command) where
   -- a file's turn came, and it is refused
   reaches : (w : Which) (e : Refusal) → Blames w e → Turn told command w → Reaches told command e
-  reaches w (Faulty v fault) b turn = subst (λ (u : Which). Turn told command u) (sym b) turn
+  reaches w (Faulty v file_fault.Unread) b turn = subst (λ (u : Which). Turn told command u) (sym b) turn
   reaches w other b turn = tt
 
   -- a file is refused

@@ -33,6 +33,8 @@ use Rattle.lw_top.proofs.Headline.{asked-ok}
 use Rattle.lw_top.proofs.InRange.{command_in_range}
 use Rattle.lw_files.proofs.Kept.{cells_kept, AreKept, model_kept, mapped_kept, IsReadBy}
 use Rattle.lw_top.proofs.Sound.{claim_kept}
+use Rattle.lw_top.proofs.FaultStatuses.{fault_is_not_done}
+use Rattle.lw_top.specs.declared.refusal.Refusal.TheVariants.{Faulty}
 use Rattle.lw_net.specs.Ports.{output_port}
 
 same_roots : (width : ℕ) (net : NetworkParts) (g : Graph) (outputs : List NetId) → map (λ (p : PlainPort). root_class width (plain net) g p.net) (map (output_port net) outputs) ≡ map (λ (output : NetId). root_class width (plain net) g output.0) outputs
@@ -93,4 +95,5 @@ module _ (words : List (List ℕ)) (files : Files) (asks : AsksForCheck words) w
 pub done_checked : {O : Type 0} (words : List (List ℕ)) (told : Option (List File)) (before now : ℕ) (taken : O → Option (List ℕ)) (is_finished : O → Bool) (faults : O → ℕ) (old new : O) → AsksForCheck words → (o : Outcome) → Meets told before now taken is_finished faults old new (IsAnswer words) o → (files : List File) → told ≡ Some files → 0 ≡ outcome_status o → IsCheckedMapping words (bytes_of files)
 done_checked words told before now taken is_finished faults old new asks Done m files is e = answer_checked words (bytes_of files) asks m.0 (m.1 files is)
 done_checked words told before now taken is_finished faults old new asks WriteFault m files is e = absurd (omega (arith, e))
+done_checked words told before now taken is_finished faults old new asks (Refused (Faulty w fault)) m files is e = absurd (fault_is_not_done fault e)
 done_checked words told before now taken is_finished faults old new asks (Refused other) m files is e = absurd (omega (arith, e))

@@ -8,7 +8,7 @@ use Rattle.lw_map.specs.Options.{Options}
 use Rattle.lw_map.proofs.Mappings.{mapped_is_mapping}
 use Rattle.lw_map.proofs.Names.{mapped_has_names}
 use Rattle.lw_top.specs.declared.refusal.Refusal.{Refusal}
-use Rattle.lw_top.specs.declared.refusal.Refusal.TheVariants.{NoCover}
+use Rattle.lw_top.specs.declared.refusal.Refusal.TheVariants.{NoCover, Faulty}
 use Rattle.lw_top.specs.declared.outcome.Outcome.{Outcome}
 use Rattle.lw_top.specs.declared.outcome.Outcome.TheVariants.{Done, WriteFault, Refused}
 use Rattle.lw_files.specs.declared.fault.FileFault.{FileFault}
@@ -32,6 +32,7 @@ use Rattle.lw_top.proofs.Steps.{IsLast, last-ok, last-err}
 use Rattle.lw_top.proofs.InRange.{command_in_range}
 use Rattle.lw_files.proofs.Kept.{cells_kept, model_kept}
 use Rattle.lw_top.proofs.Sound.{asked_some}
+use Rattle.lw_top.proofs.FaultStatuses.{fault_is_not_done, fault_names_no_output}
 use Rattle.lw_top.proofs.Asked.{names_read}
 use Rattle.lw_top.proofs.MapWords.{map_asked}
 use Rattle.lw_top.proofs.TradedNames.{traded_named}
@@ -194,6 +195,7 @@ module _ {O : Type 0} (words : List (List ℕ)) (told : Option (List File)) (bef
   done-maps asks Done m files is e = (m.0, answer-mapped words (bytes_of files) asks m.0 (m.1 files is), m.2)
   done-maps asks WriteFault m files is e = absurd (omega (arith, e))
   done-maps asks (Refused (NoCover name)) m files is e = absurd (omega (arith, e))
+  done-maps asks (Refused (Faulty w fault)) m files is e = absurd (fault_is_not_done fault e)
   done-maps asks (Refused other) m files is e = absurd (omega (arith, e))
 
   -- a run that is done wrote a text of tables
@@ -201,6 +203,7 @@ module _ {O : Type 0} (words : List (List ℕ)) (told : Option (List File)) (bef
   done-tables asks law Done m files is e = (m.0, law (bytes_of files) m.0 asks (m.1 files is), m.2)
   done-tables asks law WriteFault m files is e = absurd (omega (arith, e))
   done-tables asks law (Refused (NoCover name)) m files is e = absurd (omega (arith, e))
+  done-tables asks law (Refused (Faulty w fault)) m files is e = absurd (fault_is_not_done fault e)
   done-tables asks law (Refused other) m files is e = absurd (omega (arith, e))
 
   -- a run that finds no cover names an output without one
@@ -208,6 +211,7 @@ module _ {O : Type 0} (words : List (List ℕ)) (told : Option (List File)) (bef
   named-lacks asks Done m line files is e = absurd (omega (arith, e))
   named-lacks asks WriteFault m line files is e = absurd (omega (arith, e))
   named-lacks asks (Refused (NoCover name)) m line files is e = (name, answer-lacks words (bytes_of files) asks name (m.0 files is), line)
+  named-lacks asks (Refused (Faulty w fault)) m line files is e = absurd (fault_names_no_output fault e)
   named-lacks asks (Refused other) m line files is e = absurd (omega (arith, e))
 
   -- a run that is done wrote the text of a netlist of least area
@@ -215,10 +219,12 @@ module _ {O : Type 0} (words : List (List ℕ)) (told : Option (List File)) (bef
   done-trades asks Done m files is e = (m.0, answer-traded words (bytes_of files) asks m.0 (m.1 files is), m.2)
   done-trades asks WriteFault m files is e = absurd (omega (arith, e))
   done-trades asks (Refused (NoCover name)) m files is e = absurd (omega (arith, e))
+  done-trades asks (Refused (Faulty w fault)) m files is e = absurd (fault_is_not_done fault e)
   done-trades asks (Refused other) m files is e = absurd (omega (arith, e))
 
   pub named-untraded : AsksForTrade words → (o : Outcome) → Met o → said (outcome_line (command_of words) o) → (files : List File) → told ≡ Some files → 6 ≡ outcome_status o → (name : List ℕ) × LacksTradedOutput words (bytes_of files) name × said (refusal_line (command_of words) (NoCover name))
   named-untraded asks Done m line files is e = absurd (omega (arith, e))
   named-untraded asks WriteFault m line files is e = absurd (omega (arith, e))
   named-untraded asks (Refused (NoCover name)) m line files is e = (name, answer-untraded words (bytes_of files) asks name (m.0 files is), line)
+  named-untraded asks (Refused (Faulty w fault)) m line files is e = absurd (fault_names_no_output fault e)
   named-untraded asks (Refused other) m line files is e = absurd (omega (arith, e))

@@ -9,6 +9,7 @@ pub mod Serving
 pub mod Whole
 pub mod Asked
 pub mod MapWords
+pub mod FaultStatuses
 pub mod Headline
 pub mod Sound
 pub mod Numerals
