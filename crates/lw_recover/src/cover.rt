@@ -7,8 +7,7 @@
 // above leave.
 use crate::attain::Attain;
 use crate::matches::{Gate, Gates, Link, Matches, NONE};
-use crate::space::{LATE, Space};
-use crate::table::Table;
+use lw_kinds::{LATE, Space, Table};
 use lw_pool::ClassId;
 use std::alloc::{AllocError, Global};
 use std::cmp::Reverse;

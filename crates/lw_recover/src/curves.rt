@@ -3,7 +3,7 @@
 // A point is a match with each pin at a point of its own curve, so all of a point's cone arrives by
 // its time. Pins may stand anywhere in the order: time falls from a gate to its pins, which is what
 // keeps drawn covers free of cycles.
-use crate::table::Table;
+use lw_kinds::Table;
 use lw_pool::ClassId;
 use std::alloc::{AllocError, Global};
 

@@ -1,7 +1,6 @@
 //! A cover made smaller: gates that no output needs as early as they are get smaller matches.
 //!
-//! What is fixed, the graph with labels and the patterns of cells joined by their trees, is a
-//! `Space`. A `Cover` has a match for each class in use, with uses and times that are exact between
+//! A `Cover` has a match for each class in use, with uses and times that are exact between
 //! moves. `Moves` visits gates one after another, tries other matches with all that they alone need,
 //! and puts the smallest that is in time. `Curves` hold points of time and area, from which whole
 //! covers are drawn. `recover` says which covers to begin with, and in which order.
@@ -12,20 +11,14 @@
 #![tactic(auto)]
 
 mod attain;
-mod binding;
 mod chance;
 mod cover;
 mod curves;
 mod drawing;
-mod kinds;
 mod matches;
 mod moves;
 mod recovering;
-mod shapes;
-mod space;
-mod standing;
 mod stock;
-mod table;
 mod times;
 mod trial;
 
@@ -34,4 +27,4 @@ pub use cover::Root;
 pub use drawing::Nodes;
 pub use matches::{Gate, Gates};
 pub use recovering::{Effort, recover};
-pub use space::Label;
+pub use lw_kinds::Label;

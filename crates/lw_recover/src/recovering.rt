@@ -5,11 +5,10 @@ use crate::curves::Curves;
 use crate::drawing::Nodes;
 use crate::matches::{Gates, NONE};
 use crate::moves::{Limits, Moves, Want};
-use crate::space::{Label, Space};
 use crate::stock::Stock;
-use crate::table::Table;
 use lw_genlib::Library;
 use lw_graph::Graph;
+use lw_kinds::{Label, Space, Table};
 use lw_pattern::Patterns;
 use std::alloc::{AllocError, Global};
 

@@ -2,7 +2,7 @@
 use crate::attain::Attain;
 use crate::cover::Cover;
 use crate::matches::NONE;
-use crate::table::Table;
+use lw_kinds::Table;
 use lw_pool::ClassId;
 use std::alloc::AllocError;
 use std::cmp::Reverse;

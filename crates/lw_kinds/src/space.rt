@@ -10,11 +10,11 @@ use lw_pool::{ClassId, PatId};
 use std::alloc::{AllocError, Global};
 
 /// The time of what never arrives, and of what nobody waits for.
-pub(crate) const LATE: u64 = u64::MAX;
+pub const LATE: u64 = u64::MAX;
 
 /// The cell of one pin that inverts, and is the smallest of these.
 #[derive(Clone, Copy)]
-pub(crate) struct Inverter {
+pub struct Inverter {
     pub pat: PatId,
     pub area: u64,
     pub delay: u64,
@@ -22,7 +22,7 @@ pub(crate) struct Inverter {
 
 /// What is fixed while covers change.
 #[derive(Drop)]
-pub(crate) struct Space<'a> {
+pub struct Space<'a> {
     pub graph: &'a Graph,
     pub lib: &'a Library,
     pub pats: &'a Patterns,
@@ -69,7 +69,7 @@ fn least_other(kinds: &[Kind]) -> u64 {
 
 impl<'a> Space<'a> {
     /// The space of a graph whose classes have these labels.
-    pub(crate) fn new(
+    pub fn new(
         alloc: Global,
         graph: &'a Graph,
         lib: &'a Library,
@@ -109,24 +109,24 @@ impl<'a> Space<'a> {
 
     /// Whether a class is an input's.
     #[inline]
-    pub(crate) fn is_leaf(&self, class: ClassId) -> bool {
+    pub fn is_leaf(&self, class: ClassId) -> bool {
         self.leaves.get(class.0)
     }
 
     /// The label of a class.
     #[inline]
-    pub(crate) fn label(&self, class: ClassId) -> u64 {
+    pub fn label(&self, class: ClassId) -> u64 {
         self.labels.get(class.0)
     }
 
     /// How many times 32 kinds there are, rounded up: what a wide library costs more.
-    pub(crate) fn breadth(&self) -> u32 {
+    pub fn breadth(&self) -> u32 {
         (self.kinds.len().saturating_add(31) / 32).clamp(1, 64) as u32
     }
 
     /// The pairs of a class.
     #[inline]
-    pub(crate) fn pairs(&self, class: ClassId) -> &[Pair] {
+    pub fn pairs(&self, class: ClassId) -> &[Pair] {
         if class.0 < self.graph.classes() {
             self.graph.nands(class)
         } else {
