@@ -92,6 +92,18 @@ fn nodes_of(
     Ok(Nodes { classes, fanins, ends })
 }
 
+// The networks whose own gates may be a cover.
+fn networks_of(
+    alloc: Global,
+    net: &Network,
+    forms: &Forms,
+    graph: &Graph,
+) -> Result<Vec<Nodes>, AllocError> {
+    let mut networks = Vec::new(alloc);
+    networks.push(nodes_of(alloc, net, forms, graph)?)?;
+    Ok(networks)
+}
+
 impl<'a> Problem<'a> {
     fn new(
         alloc: Global,
@@ -103,8 +115,7 @@ impl<'a> Problem<'a> {
         let listed = forms(alloc, net, task.options.width)?;
         let graph = build(alloc, &listed, task.options.mode)?;
         let ports = ports_of(alloc, net, &listed, &graph)?;
-        let mut networks = Vec::new(alloc);
-        networks.push(nodes_of(alloc, net, &listed, &graph)?)?;
+        let networks = networks_of(alloc, net, &listed, &graph)?;
         drop(listed);
         let pats = patterns(alloc, lib)?;
         Ok(Problem { alloc, task, lib, model, graph, pats, ports, networks })
@@ -158,7 +169,8 @@ impl<'a> Problem<'a> {
     }
 
     fn mapped(&mut self) -> Result<Mapped, Refusal> {
-        let cost = DelayCost::new(self.lib, &self.model.starts);
+        let model = self.model;
+        let cost = DelayCost::new(self.lib, &model.starts);
         let found = relabel_with_bounds(self.alloc, &self.graph, &self.pats, &cost)?;
         let first = self.first(&found, &cost)?;
         let marks = found.labels.marks();
@@ -170,7 +182,10 @@ impl<'a> Problem<'a> {
         };
         let refused = built.is_none() && self.task.effort.is_some();
         let (netlist, classes) = match built {
-            Some(built) => (built.netlist, built.classes),
+            Some(built) => {
+                drop(first);
+                (built.netlist, built.classes)
+            }
             None => (first.netlist, first.classes),
         };
         let certificate = if self.task.certified {

@@ -18,7 +18,7 @@ struct Answer {
     mapped: Mapped,
 }
 
-fn answer<F: Shelf>(alloc: Global, task: &Task, shelf: &mut F) -> Result<Answer, Refusal> {
+fn make_answer<F: Shelf>(alloc: Global, task: &Task, shelf: &mut F) -> Result<Answer, Refusal> {
     let library = match read_library(alloc, shelf, task.library) {
         Ok(library) => library,
         Err(fault) => return Err(Refusal::File(Which::Library, fault)),
@@ -54,7 +54,7 @@ fn serve<F: Shelf, O: Sink, E: Sink>(
     out: &mut O,
     err: &mut E,
 ) -> u8 {
-    match answer(alloc, task, shelf) {
+    match make_answer(alloc, task, shelf) {
         Ok(answer) => match write_answer(&answer, out) {
             Ok(()) => 0,
             Err(_) => 7,

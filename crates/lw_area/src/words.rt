@@ -111,7 +111,7 @@ fn deadline_of(word: &str) -> Option<Deadline> {
     }
 }
 
-fn wrong(word: &str, why: Wrong) -> WrongWord<'_> {
+fn refuse(word: &str, why: Wrong) -> WrongWord<'_> {
     WrongWord { word, why }
 }
 
@@ -121,17 +121,17 @@ impl Settings {
         match option {
             "-w" => match width_of(value) {
                 Some(width) => self.width = width,
-                None => return Err(wrong(value, Wrong::Width)),
+                None => return Err(refuse(value, Wrong::Width)),
             },
             "-e" => match effort_of(value) {
                 Some(effort) => self.effort = effort,
-                None => return Err(wrong(value, Wrong::Effort)),
+                None => return Err(refuse(value, Wrong::Effort)),
             },
             "-t" => match deadline_of(value) {
                 Some(deadline) => self.deadline = deadline,
-                None => return Err(wrong(value, Wrong::Deadline)),
+                None => return Err(refuse(value, Wrong::Deadline)),
             },
-            _ => return Err(wrong(option, Wrong::Unknown)),
+            _ => return Err(refuse(option, Wrong::Unknown)),
         }
         Ok(())
     }
@@ -151,7 +151,7 @@ impl Settings {
                 self.set(option.as_str(), value.as_str())?;
                 Ok(rest)
             }
-            [option] => Err(wrong(option.as_str(), Wrong::Missing)),
+            [option] => Err(refuse(option.as_str(), Wrong::Missing)),
             [] => Ok(words),
         }
     }
@@ -163,7 +163,7 @@ fn task_of<'a>(settings: Settings, files: &'a [String]) -> Result<Task<'a>, Wron
         _ => false,
     };
     if settings.certified && !is_each {
-        return Err(wrong("-c", Wrong::Certified));
+        return Err(refuse("-c", Wrong::Certified));
     }
     match files {
         [library, network] => Ok(Task {
@@ -174,8 +174,8 @@ fn task_of<'a>(settings: Settings, files: &'a [String]) -> Result<Task<'a>, Wron
             library: library.as_str(),
             network: network.as_str(),
         }),
-        [_, _, more, ..] => Err(wrong(more.as_str(), Wrong::TooMany)),
-        _ => Err(wrong("", Wrong::Missing)),
+        [_, _, more, ..] => Err(refuse(more.as_str(), Wrong::TooMany)),
+        _ => Err(refuse("", Wrong::Missing)),
     }
 }
 

@@ -2,8 +2,8 @@
 //!
 //! Each pattern is turned so that the larger side of a NAND comes first (`turning`); patterns with
 //! one tree are one kind, with the cells that have it and the ways to give its leaves to their pins.
-//! A `Binding` says where the leaves and NANDs of a kind stand on a walk, and a table which shapes
-//! stand at which classes at all. A `Space` has all of this with the labels of the classes.
+//! A `Walk` goes over the matches of a kind at a class, where a table says which shapes stand at which
+//! classes at all. A `Space` has all of this with the labels of the classes.
 #![tactic(auto)]
 
 mod binding;
@@ -14,9 +14,10 @@ mod space;
 mod standing;
 mod table;
 mod turning;
+mod walking;
 
-pub use binding::{Binding, Entered, FREE};
-pub use kinds::{Kind, MOST_LEAVES, MOST_NANDS, Nand, Side, Use, Way, What};
+pub use kinds::{Kind, MOST_LEAVES, Nand, Side, Use, Way, What};
 pub use space::{Inverter, LATE, Label, Space};
 pub use standing::Standing;
 pub use table::Table;
+pub use walking::{Low, Walk, Walker};

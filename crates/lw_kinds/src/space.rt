@@ -1,12 +1,12 @@
 // What covers are made in: the graph with its labels, and the kinds of its cells.
-use crate::kinds::{Kind, What, kinds_of};
+use crate::kinds::{Kind, Nand, What, kinds_of};
 use crate::shapes::Shapes;
 use crate::standing::Standing;
 use crate::table::Table;
-use lw_genlib::Library;
+use lw_genlib::{Cell, Library};
 use lw_graph::{Graph, Pair};
 use lw_pattern::Patterns;
-use lw_pool::{ClassId, PatId};
+use lw_pool::{CellId, ClassId, PatId};
 use std::alloc::{AllocError, Global};
 
 /// The time of what never arrives, and of what nobody waits for.
@@ -122,6 +122,25 @@ impl<'a> Space<'a> {
     /// How many times 32 kinds there are, rounded up: what a wide library costs more.
     pub fn breadth(&self) -> u32 {
         (self.kinds.len().saturating_add(31) / 32).clamp(1, 64) as u32
+    }
+
+    /// A NAND of a kind.
+    #[inline]
+    pub fn nand_at(&self, number: usize, place: usize) -> Option<Nand> {
+        self.kinds.get(number)?.nands.get(place).copied()
+    }
+
+    /// The cell of a pattern.
+    #[inline]
+    pub fn cell_of(&self, pat: PatId) -> Option<(CellId, &Cell)> {
+        if pat.0 >= self.pats.len() {
+            return None;
+        }
+        let id = self.pats.get(pat).cell;
+        if id.0 >= self.lib.len() {
+            return None;
+        }
+        Some((id, self.lib.cell(id)))
     }
 
     /// The pairs of a class.

@@ -64,7 +64,7 @@ fn classes_of(alloc: Global, gates: &[Gate]) -> Result<Classes, AllocError> {
 }
 
 /// The netlist of gates whose classes have these nets. None where a root is not there.
-pub(crate) fn built(
+pub(crate) fn build_netlist(
     alloc: Global,
     graph: &Graph,
     pats: &Patterns,

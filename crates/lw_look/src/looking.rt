@@ -1,5 +1,5 @@
 // The look itself.
-use crate::building::{Built, built};
+use crate::building::{Built, build_netlist};
 use crate::placing::nets_of;
 use lw_extract::Ports;
 use lw_fixed::{Micro, Micros};
@@ -51,7 +51,7 @@ impl Look<'_> {
         let Some(nets) = nets_of(alloc, self.graph, self.pats, gates)? else {
             return Ok(None);
         };
-        let found = built(alloc, self.graph, self.pats, self.ports, &nets, gates)?;
+        let found = build_netlist(alloc, self.graph, self.pats, self.ports, &nets, gates)?;
         drop(nets);
         let Some(found) = found else {
             return Ok(None);

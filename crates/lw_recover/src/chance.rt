@@ -57,13 +57,13 @@ fn log_2(x: u64) -> u64 {
     if x == 0 {
         return 0;
     }
-    let zeros = x.leading_zeros();
+    let zeros = x.leading_zeros().min(63);
     let top = x << zeros;
     let place = (top >> 55 & 255) as usize;
     let part = top >> 39 & 65_535;
     let (low, high) = (LOGS[place] as u64, LOGS[place + 1] as u64);
     let whole = (63 - zeros as u64) * 65_536;
-    whole + low + (high.saturating_sub(low) * part) / 65_536
+    whole + low + high.saturating_sub(low).saturating_mul(part) / 65_536
 }
 
 // A time or an area as a signed number.
@@ -87,9 +87,9 @@ impl Chance {
         // The natural logarithm of 5 in parts of 2^32, for each pass.
         let part = 6_912_482_958 / passes.saturating_sub(1).max(1);
         let part = part.min(0xffff_ffff);
-        let square = (part * part) >> 33;
-        let cube = ((part * part) >> 32) * part / 6 >> 32;
-        self.factor = (0x1_0000_0000 - part + square).saturating_sub(cube);
+        let square = part.saturating_mul(part) >> 32;
+        let cube = square.saturating_mul(part) >> 32;
+        self.factor = (0x1_0000_0000 - part).saturating_add(square / 2).saturating_sub(cube / 6);
     }
 
     /// Lets the heat fall by one pass.
@@ -127,8 +127,8 @@ impl Chance {
     fn noise(&mut self) -> i64 {
         let x = self.random() >> 11 | 1;
         let below = (53 * 65_536u64).saturating_sub(log_2(x));
-        let below = (below * LN_2 / 65_536).max(1);
-        (log_2(below) as i64 - 16 * 65_536) * LN_2 as i64 / 65_536
+        let below = (below.saturating_mul(LN_2) / 65_536).max(1);
+        (signed(log_2(below)) - 16 * 65_536).saturating_mul(LN_2 as i64) / 65_536
     }
 
     /// What a match with this area and arrival counts as, by chance: the least is taken.

@@ -112,8 +112,7 @@ impl<'a, A: Attain + Drop> Cover<'a, A> {
         let Some(found) = self.attain.attain(class) else {
             return Ok(NONE);
         };
-        let (lib, pats) = (self.space.lib, self.space.pats);
-        let number = self.matches.put_attained(lib, pats, &found)?;
+        let number = self.matches.put(self.space, found.pat, &found.pins)?;
         self.fast.set(class.0, number);
         Ok(number)
     }
@@ -129,7 +128,7 @@ impl<'a, A: Attain + Drop> Cover<'a, A> {
         };
         let mut pins = [ClassId(0); 16];
         pins[0] = class.flip();
-        let number = self.matches.put(self.space.lib, self.space.pats, inverter.pat, &pins)?;
+        let number = self.matches.put(self.space, inverter.pat, &pins)?;
         self.inverted.set(class.0, number);
         Ok(number)
     }

@@ -3,11 +3,10 @@
 // A point is a match with each pin at a point of its own curve, so all of a point's cone arrives by
 // its time. Pins may stand anywhere in the order: time falls from a gate to its pins, which is what
 // keeps drawn covers free of cycles.
+use crate::matches::NONE;
 use lw_kinds::Table;
 use lw_pool::ClassId;
 use std::alloc::{AllocError, Global};
-
-use crate::matches::NONE;
 
 /// A time, what the cover by then takes where each class shares what it takes with its uses, and
 /// the match.
@@ -186,14 +185,17 @@ impl Front {
     /// lower by a part. Flows are shared by so many uses, in parts of 256.
     pub(crate) fn thin(&mut self, uses: u32) -> Result<(), AllocError> {
         self.points.sort_by_key(|point| point.time)?;
-        let (mut kept, count) = (0, self.points.len());
+        let (mut kept, mut last) = (0usize, u64::MAX);
+        let count = self.points.len();
         for k in 0..count {
             let old = self.points[k];
             let flow = old.flow.saturating_mul(256) / u64::from(uses.max(1));
-            let is_low = kept == 0 || flow < thinner(self.points[kept - 1].flow);
-            if k + 1 == count || is_low && kept + 1 < MOST_POINTS {
+            let is_low = kept == 0 || flow < thinner(last);
+            let is_kept = k + 1 == count || is_low && kept < MOST_POINTS - 1;
+            if is_kept && kept < self.points.len() {
                 self.points[kept] = Point { flow, ..old };
-                kept += 1;
+                last = flow;
+                kept = kept.saturating_add(1);
             }
         }
         self.points.truncate(kept);

@@ -21,6 +21,7 @@ mod recovering;
 mod stock;
 mod times;
 mod trial;
+mod visits;
 
 pub use attain::{Attain, Attained};
 pub use cover::Root;

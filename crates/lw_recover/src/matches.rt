@@ -1,7 +1,5 @@
 // Matches that were put, with the classes of their pins.
-use crate::attain::Attained;
-use lw_genlib::Library;
-use lw_pattern::Patterns;
+use lw_kinds::Space;
 use lw_pool::{CellId, ClassId, PatId};
 use std::alloc::{AllocError, Global};
 
@@ -102,13 +100,14 @@ impl Matches {
     /// Appends a match of a pattern of a cell with its pins at these classes.
     pub(crate) fn put(
         &mut self,
-        lib: &Library,
-        pats: &Patterns,
+        space: &Space,
         pat: PatId,
         pins: &[ClassId; 16],
     ) -> Result<u32, AllocError> {
-        let cell = pats.get(pat).cell;
-        let (area, delays) = (lib.cell(cell).area().0, lib.cell(cell).delays());
+        let Some((cell, of)) = space.cell_of(pat) else {
+            return Ok(NONE);
+        };
+        let (area, delays) = (of.area().0, of.delays());
         let first = self.legs.len().min(NONE as usize) as u32;
         for (class, delay) in pins.iter().zip(delays) {
             self.legs.push(Leg { class: *class, delay: delay.0 })?;
@@ -116,17 +115,7 @@ impl Matches {
         }
         let end = self.legs.len().min(NONE as usize) as u32;
         self.list.push(Put { pat, cell, area, first, end })?;
-        Ok((self.list.len() - 1).min(NONE as usize) as u32)
-    }
-
-    /// Appends a match that attains a label.
-    pub(crate) fn put_attained(
-        &mut self,
-        lib: &Library,
-        pats: &Patterns,
-        found: &Attained,
-    ) -> Result<u32, AllocError> {
-        self.put(lib, pats, found.pat, &found.pins)
+        Ok(self.list.len().saturating_sub(1).min(NONE as usize) as u32)
     }
 
     /// The gate that a match is at a class.

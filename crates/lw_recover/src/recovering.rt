@@ -32,8 +32,10 @@ const STOCK_STEPS: u32 = 20;
 const ROUNDS: u32 = 2;
 const PASSES: u32 = 2;
 
-/// Passes by chance.
-const HEATS: u64 = 400;
+/// Passes by chance, at most and at least; between these as many as make so many steps together.
+const MOST_HEATS: u64 = 400;
+const LEAST_HEATS: u64 = 20;
+const HEAT_STEPS: u64 = 300_000_000;
 
 /// Passes go on while they bring one part of so many.
 const PART: u64 = 500;
@@ -179,23 +181,40 @@ impl<'a, A: Attain + Drop> Recovery<'a, A> {
         Ok(adopted)
     }
 
+    // How many passes by chance there are, where one makes so many steps.
+    fn heats(&self, steps: u64) -> u64 {
+        let breadth = u64::from(self.moves.cover.space.breadth().max(1));
+        let most = (HEAT_STEPS / steps.max(1)).min(MOST_HEATS / breadth);
+        most.max(LEAST_HEATS)
+    }
+
+    // A pass by chance. Whether the cover is one afterwards.
+    fn heat(&mut self, pass: u64, curves: Option<&Curves>) -> Result<bool, AllocError> {
+        self.moves.chance.begin(pass);
+        self.moves.pass(pass % 2 == 1, Want::Heat, curves)?;
+        if pass % 20 == 19 {
+            self.keep()?;
+        }
+        Ok(self.moves.sound || self.take_best()?)
+    }
+
     // Passes by chance from the best, cooling; then passes that only gain.
     fn anneal(&mut self, curves: Option<&Curves>) -> Result<(), AllocError> {
         let space = self.moves.cover.space;
         let unit = space.inverter.map_or(space.least_other, |inverter| inverter.area);
-        let passes = HEATS / u64::from(space.breadth());
         if !self.take_best()? {
             return Ok(());
         }
+        self.moves.chance.warm(unit, 1);
+        let before = self.moves.spent;
+        if !self.heat(0, curves)? {
+            return Ok(());
+        }
+        let passes = self.heats(self.moves.spent.saturating_sub(before));
         self.moves.chance.warm(unit, passes);
-        for pass in 0..passes {
-            self.moves.chance.begin(pass);
-            self.moves.pass(pass % 2 == 1, Want::Heat, curves)?;
+        for pass in 1..passes {
             self.moves.chance.cool();
-            if pass % 20 == 19 {
-                self.keep()?;
-            }
-            if !self.moves.sound && !self.take_best()? {
+            if !self.heat(pass, curves)? {
                 return Ok(());
             }
         }

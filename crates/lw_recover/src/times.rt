@@ -198,7 +198,9 @@ impl<'a, A: Attain + Drop> Cover<'a, A> {
         self.sel.set(gate.0, number);
         self.add(gate)?;
         for k in 0..self.fresh.len() {
-            let class = self.fresh[k];
+            let Some(class) = self.fresh.get(k).copied() else {
+                break;
+            };
             let time = self.through(self.sel.get(class.0));
             self.arr.set(class.0, time);
             self.touch_pins(class)?;

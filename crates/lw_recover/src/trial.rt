@@ -172,6 +172,7 @@ impl<'a, A: Attain + Drop> Moves<'a, A> {
     }
 
     /// Tries to bring a class into the cover: what that adds, and when it arrives.
+    #[cycle(taking)]
     pub(crate) fn take(
         &mut self,
         class: ClassId,
@@ -219,6 +220,7 @@ impl<'a, A: Attain + Drop> Moves<'a, A> {
     }
 
     // By a match: the last one that the class had, the curve's by this time, the fastest.
+    #[cycle(taking)]
     fn take_linked(
         &mut self,
         class: ClassId,
@@ -257,6 +259,7 @@ impl<'a, A: Attain + Drop> Moves<'a, A> {
     }
 
     // Tries to bring all pins of a match into the cover.
+    #[cycle(taking)]
     fn take_pins(
         &mut self,
         number: u32,
