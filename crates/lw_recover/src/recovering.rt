@@ -32,6 +32,9 @@ const STOCK_STEPS: u32 = 20;
 const ROUNDS: u32 = 2;
 const PASSES: u32 = 2;
 
+/// Passes over the first cover.
+const FIRST_PASSES: u32 = 4;
+
 /// Passes by chance, at most and at least; between these as many as make so many steps together.
 const MOST_HEATS: u64 = 400;
 const LEAST_HEATS: u64 = 20;
@@ -61,8 +64,7 @@ impl<'a, A: Attain + Drop> Recovery<'a, A> {
     fn new(moves: Moves<'a, A>) -> Result<Self, AllocError> {
         let cover = &moves.cover;
         let area = cover.area()?;
-        let mut sel = Table::new(cover.alloc, cover.sel.len() as usize, 0)?;
-        sel.copy(&cover.sel);
+        let sel = cover.copy_sel()?;
         let mut horizon = 0;
         for root in &cover.roots {
             horizon = root.time.max(horizon);
@@ -221,10 +223,12 @@ impl<'a, A: Attain + Drop> Recovery<'a, A> {
         self.passes(4, curves)
     }
 
-    // Curves and rounds, from the present cover and from the networks' own gates; then chance.
+    // Curves and rounds, from the present cover and from the networks' own gates; passes alone, from
+    // the same cover; then chance.
     fn curves(&mut self, effort: Effort, networks: &[Nodes]) -> Result<(), AllocError> {
         let uses = self.uses()?;
         let cover = &mut self.moves.cover;
+        let start = cover.copy_sel()?;
         let mut owns = Vec::new(cover.alloc);
         let (stock, first) = cover.stock(&uses, STOCK_STEPS, self.horizon)?;
         if effort == Effort::Chance {
@@ -239,6 +243,10 @@ impl<'a, A: Attain + Drop> Recovery<'a, A> {
                 last = self.rounds(&sources, &first)?;
             }
         }
+        if self.adopt(&start)? {
+            self.passes(FIRST_PASSES, None)?;
+        }
+        drop(start);
         if effort == Effort::Chance {
             self.anneal(last.as_ref())?;
         }
@@ -280,7 +288,7 @@ pub fn recover<A: Attain + Drop>(
     }
     let mut recovery = Recovery::new(Moves::new(cover, LIMITS)?)?;
     match effort {
-        Effort::Passes => recovery.passes(4, None)?,
+        Effort::Passes => recovery.passes(FIRST_PASSES, None)?,
         _ => recovery.curves(effort, networks)?,
     }
     if !recovery.take_best()? {

@@ -219,6 +219,13 @@ impl<'a, A: Attain + Drop> Cover<'a, A> {
         Ok(true)
     }
 
+    /// The match of each class, as a table.
+    pub(crate) fn copy_sel(&self) -> Result<Table<u32>, AllocError> {
+        let mut sel = Table::new(self.alloc, self.sel.len() as usize, NONE)?;
+        sel.copy(&self.sel);
+        Ok(sel)
+    }
+
     /// How often each class is used, as a table.
     pub(crate) fn copy_refs(&self) -> Result<Table<u32>, AllocError> {
         let mut refs = Table::new(self.alloc, self.refs.len() as usize, 0)?;
