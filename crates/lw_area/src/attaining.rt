@@ -21,7 +21,10 @@ impl<C: Cost> Attain for Attaining<'_, C> {
             return None;
         }
         let mark = self.marks[class.0 as usize]?;
-        let bound = Mark { cost: mark.cost, height: mark.height.saturating_add(1) };
+        let bound = Mark {
+            cost: mark.cost,
+            height: mark.height.saturating_add(1),
+        };
         let (graph, pats, marks) = (self.graph, self.pats, self.marks);
         let best = least_before(
             graph,
@@ -37,6 +40,9 @@ impl<C: Cost> Attain for Attaining<'_, C> {
         for (pin, found) in pins.iter_mut().zip(best.found.pins.as_slice()) {
             *pin = *found;
         }
-        Some(Attained { pat: best.found.pat, pins })
+        Some(Attained {
+            pat: best.found.pat,
+            pins,
+        })
     }
 }

@@ -41,7 +41,10 @@ pub(crate) fn roots_by(
     let time = common(deadline, greatest);
     let mut all = Vec::with_capacity(alloc, roots.len())?;
     for class in roots {
-        all.push(Root { class: *class, time: label_of(marks, *class).max(time) })?;
+        all.push(Root {
+            class: *class,
+            time: label_of(marks, *class).max(time),
+        })?;
     }
     Ok(all)
 }
@@ -62,7 +65,10 @@ pub(crate) fn labels_of(
 ) -> Result<Vec<Option<Label>>, AllocError> {
     let mut labels = Vec::with_capacity(alloc, marks.len())?;
     for mark in marks {
-        labels.push(mark.map(|mark| Label { time: mark.cost, height: mark.height }))?;
+        labels.push(mark.map(|mark| Label {
+            time: mark.cost,
+            height: mark.height,
+        }))?;
     }
     Ok(labels)
 }

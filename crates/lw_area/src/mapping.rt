@@ -89,7 +89,11 @@ fn nodes_of(
         }
         ends.push(fanins.len())?;
     }
-    Ok(Nodes { classes, fanins, ends })
+    Ok(Nodes {
+        classes,
+        fanins,
+        ends,
+    })
 }
 
 // The networks whose own gates may be a cover.
@@ -118,7 +122,16 @@ impl<'a> Problem<'a> {
         let networks = networks_of(alloc, net, &listed, &graph)?;
         drop(listed);
         let pats = patterns(alloc, lib)?;
-        Ok(Problem { alloc, task, lib, model, graph, pats, ports, networks })
+        Ok(Problem {
+            alloc,
+            task,
+            lib,
+            model,
+            graph,
+            pats,
+            ports,
+            networks,
+        })
     }
 
     fn first(&self, found: &BoundedLabels, cost: &DelayCost) -> Result<Cover, Refusal> {
@@ -148,9 +161,18 @@ impl<'a> Problem<'a> {
         let times = times_of(self.alloc, roots)?;
         let (graph, pats, bounds) = (&self.graph, &self.pats, &found.bounds);
         let tops = Tops::new(pats, cost, bounds);
-        let attain = Attaining { graph, pats, bounds, marks, cost, tops };
+        let attain = Attaining {
+            graph,
+            pats,
+            bounds,
+            marks,
+            cost,
+            tops,
+        };
         let networks = &self.networks;
-        let gates = recover(self.alloc, graph, self.lib, pats, &labels, attain, roots, networks, effort)?;
+        let gates = recover(
+            self.alloc, graph, self.lib, pats, &labels, attain, roots, networks, effort,
+        )?;
         drop(labels);
         let Some(gates) = gates else {
             return Ok(None);
@@ -174,7 +196,12 @@ impl<'a> Problem<'a> {
         let found = relabel_with_bounds(self.alloc, &self.graph, &self.pats, &cost)?;
         let first = self.first(&found, &cost)?;
         let marks = found.labels.marks();
-        let roots = roots_by(self.alloc, self.task.deadline, marks, self.ports.roots.as_slice())?;
+        let roots = roots_by(
+            self.alloc,
+            self.task.deadline,
+            marks,
+            self.ports.roots.as_slice(),
+        )?;
         let area = area_of(self.lib, &first.netlist);
         let built = match self.task.effort {
             Some(effort) => self.smaller(&found, &cost, &roots, effort, area)?,
@@ -193,7 +220,11 @@ impl<'a> Problem<'a> {
         } else {
             None
         };
-        Ok(Mapped { netlist, certificate, refused })
+        Ok(Mapped {
+            netlist,
+            certificate,
+            refused,
+        })
     }
 }
 
@@ -209,4 +240,3 @@ pub(crate) fn map_model(
     drop(problem);
     mapped
 }
-

@@ -31,7 +31,11 @@ fn make_answer<F: Shelf>(alloc: Global, task: &Task, shelf: &mut F) -> Result<An
         }
     };
     match map_model(alloc, task, &library, &model) {
-        Ok(mapped) => Ok(Answer { library, model, mapped }),
+        Ok(mapped) => Ok(Answer {
+            library,
+            model,
+            mapped,
+        }),
         Err(refusal) => {
             drop(library);
             drop(model);
@@ -43,7 +47,14 @@ fn make_answer<F: Shelf>(alloc: Global, task: &Task, shelf: &mut F) -> Result<An
 fn write_answer<O: Sink>(answer: &Answer, out: &mut O) -> Result<(), Failed> {
     let (mapped, model) = (&answer.mapped, &answer.model);
     let certificate = mapped.certificate.as_ref();
-    write(&mapped.netlist, &answer.library, &model.frame, &model.starts, certificate, out)?;
+    write(
+        &mapped.netlist,
+        &answer.library,
+        &model.frame,
+        &model.starts,
+        certificate,
+        out,
+    )?;
     out.finish()
 }
 

@@ -72,7 +72,12 @@ pub(crate) fn tell<E: Sink>(task: &Task, refusal: &Refusal, err: &mut E) -> Resu
         Refusal::File(Which::Network, fault) => put_fault(&mut out, task.network.as_bytes(), fault),
         Refusal::Forms => out.put(b"limit: more than 2097152 forms"),
         Refusal::Splits => out.put(b"limit: more than 16777216 splits"),
-        Refusal::NoCover(name) => put_three(&mut out, b"no cover for output ", name.as_bytes(), b""),
+        Refusal::NoCover(name) => put_three(
+            &mut out,
+            b"no cover for output ",
+            name.as_bytes(),
+            b"",
+        ),
         Refusal::Memory => out.put(b"out of memory"),
     }
     out.put(b"\n");

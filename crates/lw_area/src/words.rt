@@ -85,7 +85,11 @@ fn effort_of(word: &str) -> Option<Option<Effort>> {
 fn percent_of(word: &str) -> Option<u32> {
     match word.as_bytes() {
         [a, b, c, b'%'] if are_digits(&[*a, *b, *c]) && *a != b'0' => {
-            let (a, b, c) = (u32::from(*a - b'0'), u32::from(*b - b'0'), u32::from(*c - b'0'));
+            let (a, b, c) = (
+                u32::from(*a - b'0'),
+                u32::from(*b - b'0'),
+                u32::from(*c - b'0'),
+            );
             Some(a * 100 + b * 10 + c)
         }
         _ => None,
@@ -167,7 +171,10 @@ fn task_of<'a>(settings: Settings, files: &'a [String]) -> Result<Task<'a>, Wron
     }
     match files {
         [library, network] => Ok(Task {
-            options: Options { width: settings.width, mode: settings.mode },
+            options: Options {
+                width: settings.width,
+                mode: settings.mode,
+            },
             certified: settings.certified,
             effort: settings.effort,
             deadline: settings.deadline,

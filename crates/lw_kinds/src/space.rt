@@ -50,7 +50,11 @@ fn inverter_of(kinds: &[Kind]) -> Option<Inverter> {
         if kind.nands.is_empty() && kind.leaves == 1 && kind.root.inverted {
             if let (What::Leaf(_), Some(of)) = (kind.root.what, kind.uses.first()) {
                 let way = of.ways.first()?;
-                return Some(Inverter { pat: way.pat, area: of.area, delay: way.delays[0] });
+                return Some(Inverter {
+                    pat: way.pat,
+                    area: of.area,
+                    delay: way.delays[0],
+                });
             }
         }
     }
@@ -77,7 +81,10 @@ impl<'a> Space<'a> {
         given: &[Option<Label>],
     ) -> Result<Space<'a>, AllocError> {
         let classes = graph.classes() as usize;
-        let (mut labels, mut heights) = (Table::new(alloc, classes, LATE)?, Table::new(alloc, classes, 0)?);
+        let (mut labels, mut heights) = (
+            Table::new(alloc, classes, LATE)?,
+            Table::new(alloc, classes, 0)?,
+        );
         for (number, label) in given.iter().enumerate() {
             if let Some(label) = label {
                 labels.set(number.min(classes) as u32, label.time);

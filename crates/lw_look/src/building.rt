@@ -33,7 +33,11 @@ fn gates_of(
             }
         }
         let (cell, out) = (pats.get(gate.pat).cell, NetId(inputs + place as u32));
-        all.push(NetGate { cell, pins: Nets::from_vec(pins), out })?;
+        all.push(NetGate {
+            cell,
+            pins: Nets::from_vec(pins),
+            out,
+        })?;
     }
     Ok(NetGates::from_vec(all))
 }

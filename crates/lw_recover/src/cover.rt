@@ -167,7 +167,9 @@ impl<'a, A: Attain + Drop> Cover<'a, A> {
     /// How many steps a walk over all gates has at most.
     pub(crate) fn most_steps(&self) -> u64 {
         let roots = self.roots.len() as u64;
-        (self.space.graph.classes() as u64).saturating_mul(40).saturating_add(roots)
+        (self.space.graph.classes() as u64)
+            .saturating_mul(40)
+            .saturating_add(roots)
     }
 
     // What is next on a walk: false where it has met a cycle or a class without match.
@@ -192,8 +194,14 @@ impl<'a, A: Attain + Drop> Cover<'a, A> {
         let of = self.matches.get(chosen);
         let place = of.first.saturating_add(at.pin);
         if place < of.end {
-            stack.push(Step { class: at.class, pin: at.pin.saturating_add(1) })?;
-            stack.push(Step { class: self.matches.leg(place).class, pin: 0 })?;
+            stack.push(Step {
+                class: at.class,
+                pin: at.pin.saturating_add(1),
+            })?;
+            stack.push(Step {
+                class: self.matches.leg(place).class,
+                pin: 0,
+            })?;
         } else {
             seen.set(number, Seen::Done);
             all.push(at.class)?;
@@ -209,7 +217,10 @@ impl<'a, A: Attain + Drop> Cover<'a, A> {
         let mut all = Vec::new(self.alloc);
         let mut stack = Vec::new(self.alloc);
         for root in self.roots.iter().rev() {
-            stack.push(Step { class: root.class, pin: 0 })?;
+            stack.push(Step {
+                class: root.class,
+                pin: 0,
+            })?;
         }
         for _ in 0..self.most_steps() {
             let Some(at) = stack.pop() else {
@@ -241,7 +252,9 @@ impl<'a, A: Attain + Drop> Cover<'a, A> {
 
     /// Whether each root is there by its deadline.
     pub(crate) fn is_in_time(&self) -> bool {
-        self.roots.iter().all(|root| self.arr.get(root.class.0) <= root.time)
+        self.roots
+            .iter()
+            .all(|root| self.arr.get(root.class.0) <= root.time)
     }
 
     // Links the pins of a gate to the classes that they are at.
@@ -256,9 +269,22 @@ impl<'a, A: Attain + Drop> Cover<'a, A> {
     pub(crate) fn link(&mut self, place: u32, gate: ClassId) -> u32 {
         let number = self.matches.leg(place).class.0;
         let next = self.uses.get(number);
-        self.matches.set_link(place, Link { gate, next, before: NONE });
+        self.matches.set_link(
+            place,
+            Link {
+                gate,
+                next,
+                before: NONE,
+            },
+        );
         let after = self.matches.link(next);
-        self.matches.set_link(next, Link { before: place, ..after });
+        self.matches.set_link(
+            next,
+            Link {
+                before: place,
+                ..after
+            },
+        );
         self.uses.set(number, place);
         let count = self.refs.get(number).saturating_add(1);
         self.refs.set(number, count);
@@ -270,12 +296,24 @@ impl<'a, A: Attain + Drop> Cover<'a, A> {
         let number = self.matches.leg(place).class.0;
         let link = self.matches.link(place);
         let after = self.matches.link(link.next);
-        self.matches.set_link(link.next, Link { before: link.before, ..after });
+        self.matches.set_link(
+            link.next,
+            Link {
+                before: link.before,
+                ..after
+            },
+        );
         if link.before == NONE {
             self.uses.set(number, link.next);
         } else {
             let before = self.matches.link(link.before);
-            self.matches.set_link(link.before, Link { next: link.next, ..before });
+            self.matches.set_link(
+                link.before,
+                Link {
+                    next: link.next,
+                    ..before
+                },
+            );
         }
         let count = self.refs.get(number).saturating_sub(1);
         self.refs.set(number, count);
@@ -292,7 +330,8 @@ impl<'a, A: Attain + Drop> Cover<'a, A> {
         self.uses.fill(NONE);
         for root in 0..self.roots.len() {
             let number = self.roots[root].class.0;
-            self.refs.set(number, self.refs.get(number).saturating_add(1));
+            self.refs
+                .set(number, self.refs.get(number).saturating_add(1));
         }
         for gate in &gates {
             self.link_pins(*gate);

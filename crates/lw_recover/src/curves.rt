@@ -56,7 +56,10 @@ impl Curves {
     /// The points of a class.
     #[inline]
     pub(crate) fn of(&self, class: ClassId) -> &[Point] {
-        let (start, end) = (self.starts.get(class.0) as usize, self.ends.get(class.0) as usize);
+        let (start, end) = (
+            self.starts.get(class.0) as usize,
+            self.ends.get(class.0) as usize,
+        );
         if start <= end && end <= self.points.len() {
             &self.points[start..end]
         } else {
@@ -81,13 +84,21 @@ impl Curves {
             self.points.push(*point)?;
         }
         self.starts.set(class.0, start);
-        self.ends.set(class.0, self.points.len().min(NONE as usize) as u32);
+        self.ends
+            .set(class.0, self.points.len().min(NONE as usize) as u32);
         Ok(())
     }
 
     /// Gives a class the one point of an input that starts then.
     pub(crate) fn put_leaf(&mut self, class: ClassId, time: u64) -> Result<(), AllocError> {
-        self.put(class, &[Point { time, flow: 0, number: NONE }])
+        self.put(
+            class,
+            &[Point {
+                time,
+                flow: 0,
+                number: NONE,
+            }],
+        )
     }
 }
 
@@ -114,7 +125,11 @@ impl<'p> Ladder<'p> {
     /// The ladder of a match that takes so much and has no pin yet, up to a time.
     pub(crate) fn new(area: u64, horizon: u64) -> Ladder<'p> {
         Ladder {
-            rungs: [Rung { of: &[], place: 0, delay: 0 }; 16],
+            rungs: [Rung {
+                of: &[],
+                place: 0,
+                delay: 0,
+            }; 16],
             count: 0,
             area,
             before: horizon.saturating_add(1),
@@ -125,7 +140,11 @@ impl<'p> Ladder<'p> {
     /// Adds a pin with these points.
     pub(crate) fn push(&mut self, of: &'p [Point], delay: u64) {
         if self.count < 16 {
-            self.rungs[self.count] = Rung { of, place: of.len(), delay };
+            self.rungs[self.count] = Rung {
+                of,
+                place: of.len(),
+                delay,
+            };
             self.count += 1;
         }
     }
@@ -173,10 +192,15 @@ pub(crate) struct Front {
 impl Front {
     /// Adds a point, unless one is as early and as small.
     pub(crate) fn add(&mut self, new: Point) -> Result<(), AllocError> {
-        if self.points.iter().any(|old| old.time <= new.time && old.flow <= new.flow) {
+        if self
+            .points
+            .iter()
+            .any(|old| old.time <= new.time && old.flow <= new.flow)
+        {
             return Ok(());
         }
-        self.points.retain(|old| old.time < new.time || old.flow < new.flow);
+        self.points
+            .retain(|old| old.time < new.time || old.flow < new.flow);
         self.points.push(new)?;
         Ok(())
     }

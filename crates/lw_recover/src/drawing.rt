@@ -79,7 +79,9 @@ impl<'a, A: Attain + Drop> Cover<'a, A> {
             let leaf = self.space.graph.leaf(input);
             curves.put_leaf(leaf, self.space.label(leaf))?;
         }
-        let mut front = Front { points: Vec::new(self.alloc) };
+        let mut front = Front {
+            points: Vec::new(self.alloc),
+        };
         for class in &stock.order {
             if self.space.is_leaf(*class) {
                 continue;
@@ -137,15 +139,17 @@ impl<'a, A: Attain + Drop> Cover<'a, A> {
         if time < drawing.req.get(class.0) {
             drawing.req.set(class.0, time);
             let height = self.space.heights.get(class.0);
-            drawing.wait.push((self.space.label(class), height, class.0, time))?;
+            drawing
+                .wait
+                .push((self.space.label(class), height, class.0, time))?;
         }
         Ok(())
     }
 
     /// The matches of the cover that the curves give, from the roots down. A class is drawn again
-    /// where its required time falls; it falls from a gate to its pins, so what is drawn last has no
-    /// cycle. A class that is drawn often gets its fastest match, and those alone fall in the order:
-    /// so drawing ends.
+    /// where its required time falls; it falls from a gate to its pins, so what is drawn last has
+    /// no cycle. A class that is drawn often gets its fastest match, and those alone fall in the
+    /// order: so drawing ends.
     pub(crate) fn draw(&mut self, curves: &Curves) -> Result<Table<u32>, AllocError> {
         let mut drawing = Drawing::new(self.alloc, self.space.graph.classes() as usize)?;
         for root in &self.roots {
@@ -179,7 +183,12 @@ impl<'a, A: Attain + Drop> Cover<'a, A> {
         only: &[ClassId],
         curves: &Curves,
     ) -> Result<u32, AllocError> {
-        let within = Within { curves, only: Some(only), horizon: LATE - 1, steps: 500 };
+        let within = Within {
+            curves,
+            only: Some(only),
+            horizon: LATE - 1,
+            steps: 500,
+        };
         let drafts = self.drafts(class, within, u32::MAX)?;
         let mut least = None;
         for draft in &drafts {
@@ -235,8 +244,8 @@ impl<'a, A: Attain + Drop> Cover<'a, A> {
     }
 
     /// The gates that a network has already: for the class of each node, its first, the least match
-    /// whose pins are the classes of the node's fan-ins, or their complements by inverters. All that
-    /// a match needs was set before it: no cycle.
+    /// whose pins are the classes of the node's fan-ins, or their complements by inverters. All
+    /// that a match needs was set before it: no cycle.
     pub(crate) fn own(&mut self, nodes: &Nodes) -> Result<Table<u32>, AllocError> {
         let classes = self.space.graph.classes() as usize;
         let mut sel = Table::new(self.alloc, classes, NONE)?;

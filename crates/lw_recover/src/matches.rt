@@ -55,9 +55,24 @@ pub struct Gates {
     pub items: Vec<Gate>,
 }
 
-const NOTHING: Put = Put { pat: PatId(0), cell: CellId(0), area: 0, first: 0, end: 0 };
-const NOWHERE: Leg = Leg { class: ClassId(NONE), delay: 0 };
-const UNUSED: Link = Link { gate: ClassId(NONE), next: NONE, before: NONE };
+const NOTHING: Put = Put {
+    pat: PatId(0),
+    cell: CellId(0),
+    area: 0,
+    first: 0,
+    end: 0,
+};
+
+const NOWHERE: Leg = Leg {
+    class: ClassId(NONE),
+    delay: 0,
+};
+
+const UNUSED: Link = Link {
+    gate: ClassId(NONE),
+    next: NONE,
+    before: NONE,
+};
 
 impl Matches {
     pub(crate) fn new(alloc: Global) -> Matches {
@@ -72,21 +87,33 @@ impl Matches {
     #[inline]
     pub(crate) fn get(&self, number: u32) -> Put {
         let place = number as usize;
-        if place < self.list.len() { self.list[place] } else { NOTHING }
+        if place < self.list.len() {
+            self.list[place]
+        } else {
+            NOTHING
+        }
     }
 
     /// The pin at a place.
     #[inline]
     pub(crate) fn leg(&self, place: u32) -> Leg {
         let place = place as usize;
-        if place < self.legs.len() { self.legs[place] } else { NOWHERE }
+        if place < self.legs.len() {
+            self.legs[place]
+        } else {
+            NOWHERE
+        }
     }
 
     /// The link of the pin at a place.
     #[inline]
     pub(crate) fn link(&self, place: u32) -> Link {
         let place = place as usize;
-        if place < self.links.len() { self.links[place] } else { UNUSED }
+        if place < self.links.len() {
+            self.links[place]
+        } else {
+            UNUSED
+        }
     }
 
     #[inline]
@@ -110,18 +137,32 @@ impl Matches {
         let (area, delays) = (of.area().0, of.delays());
         let first = self.legs.len().min(NONE as usize) as u32;
         for (class, delay) in pins.iter().zip(delays) {
-            self.legs.push(Leg { class: *class, delay: delay.0 })?;
+            self.legs.push(Leg {
+                class: *class,
+                delay: delay.0,
+            })?;
             self.links.push(UNUSED)?;
         }
         let end = self.legs.len().min(NONE as usize) as u32;
-        self.list.push(Put { pat, cell, area, first, end })?;
+        self.list.push(Put {
+            pat,
+            cell,
+            area,
+            first,
+            end,
+        })?;
         Ok(self.list.len().saturating_sub(1).min(NONE as usize) as u32)
     }
 
     /// The gate that a match is at a class.
     pub(crate) fn gate(&self, class: ClassId, number: u32) -> Gate {
         let of = self.get(number);
-        let mut gate = Gate { class, pat: of.pat, pins: [ClassId(0); 16], count: 0 };
+        let mut gate = Gate {
+            class,
+            pat: of.pat,
+            pins: [ClassId(0); 16],
+            count: 0,
+        };
         for place in of.first..of.end {
             if gate.count < 16 {
                 gate.pins[gate.count] = self.leg(place).class;

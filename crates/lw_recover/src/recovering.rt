@@ -23,13 +23,19 @@ pub enum Effort {
     Chance,
 }
 
-const LIMITS: Limits = Limits { steps: 200, tries: 32, depth: 16, asked: 200 };
+const LIMITS: Limits = Limits {
+    steps: 200,
+    tries: 32,
+    depth: 16,
+    asked: 200,
+};
 
 /// Steps of the walk for one kind by which matches are put in stock.
 const STOCK_STEPS: u32 = 20;
 
 /// Rounds of draws from each start, and passes after each draw.
 const ROUNDS: u32 = 2;
+
 const PASSES: u32 = 2;
 
 /// Passes over the first cover.
@@ -37,7 +43,9 @@ const FIRST_PASSES: u32 = 4;
 
 /// Passes by chance, at most and at least; between these as many as make so many steps together.
 const MOST_HEATS: u64 = 400;
+
 const LEAST_HEATS: u64 = 20;
+
 const HEAT_STEPS: u64 = 300_000_000;
 
 /// Passes go on while they bring one part of so many.
@@ -69,7 +77,11 @@ impl<'a, A: Attain + Drop> Recovery<'a, A> {
         for root in &cover.roots {
             horizon = root.time.max(horizon);
         }
-        Ok(Recovery { moves, best: Kept { area, sel }, horizon })
+        Ok(Recovery {
+            moves,
+            best: Kept { area, sel },
+            horizon,
+        })
     }
 
     // Keeps the present cover, if it is the least so far and in time.
@@ -203,7 +215,9 @@ impl<'a, A: Attain + Drop> Recovery<'a, A> {
     // Passes by chance from the best, cooling; then passes that only gain.
     fn anneal(&mut self, curves: Option<&Curves>) -> Result<(), AllocError> {
         let space = self.moves.cover.space;
-        let unit = space.inverter.map_or(space.least_other, |inverter| inverter.area);
+        let unit = space
+            .inverter
+            .map_or(space.least_other, |inverter| inverter.area);
         if !self.take_best()? {
             return Ok(());
         }
@@ -223,8 +237,8 @@ impl<'a, A: Attain + Drop> Recovery<'a, A> {
         self.passes(4, curves)
     }
 
-    // Curves and rounds, from the present cover and from the networks' own gates; passes alone, from
-    // the same cover; then chance.
+    // Curves and rounds, from the present cover and from the networks' own gates; passes alone,
+    // from the same cover; then chance.
     fn curves(&mut self, effort: Effort, networks: &[Nodes]) -> Result<(), AllocError> {
         let uses = self.uses()?;
         let cover = &mut self.moves.cover;
@@ -268,8 +282,8 @@ fn chosen_in(owns: &[Table<u32>], place: usize, number: u32) -> u32 {
     NONE
 }
 
-/// A smaller cover of the roots, each by its time, which is no earlier than its label. None where no
-/// cover was found. The networks are what the graph was made of.
+/// A smaller cover of the roots, each by its time, which is no earlier than its label. None where
+/// no cover was found. The networks are what the graph was made of.
 pub fn recover<A: Attain + Drop>(
     alloc: Global,
     graph: &Graph,

@@ -49,7 +49,8 @@ impl<'a, A: Attain + Drop> Cover<'a, A> {
             for place in of.first..of.end {
                 let leg = self.matches.leg(place);
                 let left = time.saturating_sub(leg.delay);
-                self.req.set(leg.class.0, left.min(self.req.get(leg.class.0)));
+                self.req
+                    .set(leg.class.0, left.min(self.req.get(leg.class.0)));
             }
         }
     }
@@ -78,7 +79,8 @@ impl<'a, A: Attain + Drop> Cover<'a, A> {
     // The contrary. Gates that come into use are noted, pins first.
     fn add(&mut self, top: ClassId) -> Result<(), AllocError> {
         self.stack.clear();
-        self.stack.push((top, self.matches.get(self.sel.get(top.0)).first))?;
+        self.stack
+            .push((top, self.matches.get(self.sel.get(top.0)).first))?;
         for _ in 0..self.most_steps() {
             let Some((gate, place)) = self.stack.pop() else {
                 break;
@@ -92,7 +94,8 @@ impl<'a, A: Attain + Drop> Cover<'a, A> {
             self.stack.push((gate, place.saturating_add(1)))?;
             let class = self.matches.leg(place).class;
             if self.link(place, gate) == 1 && !self.space.is_leaf(class) {
-                self.stack.push((class, self.matches.get(self.sel.get(class.0)).first))?;
+                self.stack
+                    .push((class, self.matches.get(self.sel.get(class.0)).first))?;
             }
         }
         Ok(())
@@ -118,7 +121,8 @@ impl<'a, A: Attain + Drop> Cover<'a, A> {
                     break;
                 }
                 let link = self.matches.link(place);
-                self.rising.push(Reverse((self.arr.get(link.gate.0), link.gate.0)))?;
+                self.rising
+                    .push(Reverse((self.arr.get(link.gate.0), link.gate.0)))?;
                 place = link.next;
             }
         }
@@ -134,7 +138,10 @@ impl<'a, A: Attain + Drop> Cover<'a, A> {
                 break;
             }
             let link = self.matches.link(place);
-            let left = self.req.get(link.gate.0).saturating_sub(self.matches.leg(place).delay);
+            let left = self
+                .req
+                .get(link.gate.0)
+                .saturating_sub(self.matches.leg(place).delay);
             time = time.min(left);
             place = link.next;
         }

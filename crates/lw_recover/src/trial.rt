@@ -116,12 +116,22 @@ impl<'a, A: Attain + Drop> Moves<'a, A> {
             return Some(false);
         }
         let mark = self.marks.get(class.0);
-        if mark.round == self.round { Some(mark.above) } else { None }
+        if mark.round == self.round {
+            Some(mark.above)
+        } else {
+            None
+        }
     }
 
     // Begins the walk below a class.
     fn go_below(&mut self, class: ClassId) -> Result<(), AllocError> {
-        self.marks.set(class.0, Mark { round: self.round, above: false });
+        self.marks.set(
+            class.0,
+            Mark {
+                round: self.round,
+                above: false,
+            },
+        );
         let of = self.cover.matches.get(self.cover.sel.get(class.0));
         self.cover.stack.push((class, of.first))?;
         Ok(())
@@ -131,7 +141,13 @@ impl<'a, A: Attain + Drop> Moves<'a, A> {
     fn mark_way(&mut self) {
         for k in 0..self.cover.stack.len() {
             let (class, _) = self.cover.stack[k];
-            self.marks.set(class.0, Mark { round: self.round, above: true });
+            self.marks.set(
+                class.0,
+                Mark {
+                    round: self.round,
+                    above: true,
+                },
+            );
         }
     }
 
@@ -216,7 +232,14 @@ impl<'a, A: Attain + Drop> Moves<'a, A> {
         }
         let number = self.cover.inverted(class)?;
         self.use_more(under)?;
-        Ok(Some(self.linked(class, number, Taken { area: inverter.area, time })?))
+        Ok(Some(self.linked(
+            class,
+            number,
+            Taken {
+                area: inverter.area,
+                time,
+            },
+        )?))
     }
 
     // By a match: the last one that the class had, the curve's by this time, the fastest.
@@ -267,7 +290,10 @@ impl<'a, A: Attain + Drop> Moves<'a, A> {
         curves: Option<&Curves>,
     ) -> Result<Option<Taken>, AllocError> {
         let of = self.cover.matches.get(number);
-        let mut all = Taken { area: of.area, time: 0 };
+        let mut all = Taken {
+            area: of.area,
+            time: 0,
+        };
         for place in of.first..of.end {
             let leg = self.cover.matches.leg(place);
             if leg.delay > terms.time || all.area > terms.budget || terms.depth == 0 {
@@ -284,6 +310,10 @@ impl<'a, A: Attain + Drop> Moves<'a, A> {
             all.area = all.area.saturating_add(taken.area);
             all.time = all.time.max(taken.time.saturating_add(leg.delay));
         }
-        Ok(if all.area <= terms.budget { Some(all) } else { None })
+        Ok(if all.area <= terms.budget {
+            Some(all)
+        } else {
+            None
+        })
     }
 }

@@ -51,7 +51,8 @@ impl<'a, A: Attain + Drop> Moves<'a, A> {
         let Some(kind) = space.kinds.get(found.kind) else {
             return Ok(None);
         };
-        let (Some(by), Some(way)) = (kind.uses.get(found.by), kind.way_at(found.by, found.way)) else {
+        let (Some(by), Some(way)) = (kind.uses.get(found.by), kind.way_at(found.by, found.way))
+        else {
             return Ok(None);
         };
         let inside = self.inside(found, kind.leaves);
@@ -113,7 +114,9 @@ impl<'a, A: Attain + Drop> Moves<'a, A> {
                 break;
             }
             walk.over(self, number, class, steps)?;
-            self.spent = self.spent.saturating_add(u64::from(steps.saturating_sub(walk.steps)));
+            self.spent = self
+                .spent
+                .saturating_add(u64::from(steps.saturating_sub(walk.steps)));
         }
         Ok(())
     }
@@ -165,8 +168,16 @@ impl<'a, A: Attain + Drop> Moves<'a, A> {
         let gate = self.cover.matches.gate(class, old);
         let again = again_in(&gate.pins, gate.count);
         self.budget = match self.want {
-            Want::Area => Budget { area: freed, time: self.now, again },
-            Want::Heat => Budget { area: freed.saturating_add(self.chance.room()), time: LATE, again },
+            Want::Area => Budget {
+                area: freed,
+                time: self.now,
+                again,
+            },
+            Want::Heat => Budget {
+                area: freed.saturating_add(self.chance.room()),
+                time: LATE,
+                again,
+            },
         };
         self.best = None;
         self.score = i64::MAX;
