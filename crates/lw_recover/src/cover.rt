@@ -6,7 +6,7 @@
 // of a pin's `arr` and its delay, and `req` the least of the class's deadline and of what the gates
 // above leave.
 use crate::attain::Attain;
-use crate::matches::{Gate, Gates, Link, Matches, NONE};
+use crate::matches::{Gate, Gates, Link, Matches, NONE, Put};
 use lw_kinds::{LATE, Space, Table};
 use lw_pool::ClassId;
 use std::alloc::{AllocError, Global};
@@ -85,7 +85,7 @@ impl<'a, A: Attain + Drop> Cover<'a, A> {
             alloc,
             space,
             attain,
-            matches: Matches::new(alloc),
+            matches: Matches::new(alloc, space)?,
             refs: Table::new(alloc, classes, 0)?,
             sel: Table::new(alloc, classes, NONE)?,
             fast: Table::new(alloc, classes, NONE)?,
@@ -112,7 +112,7 @@ impl<'a, A: Attain + Drop> Cover<'a, A> {
         let Some(found) = self.attain.attain(class) else {
             return Ok(NONE);
         };
-        let number = self.matches.put(self.space, found.pat, &found.pins)?;
+        let number = self.matches.put(found.pat, &found.pins)?;
         self.fast.set(class.0, number);
         Ok(number)
     }
@@ -128,7 +128,7 @@ impl<'a, A: Attain + Drop> Cover<'a, A> {
         };
         let mut pins = [ClassId(0); 16];
         pins[0] = class.flip();
-        let number = self.matches.put(self.space, inverter.pat, &pins)?;
+        let number = self.matches.put(inverter.pat, &pins)?;
         self.inverted.set(class.0, number);
         Ok(number)
     }
@@ -258,21 +258,26 @@ impl<'a, A: Attain + Drop> Cover<'a, A> {
     }
 
     // Links the pins of a gate to the classes that they are at.
-    fn link_pins(&mut self, gate: ClassId) {
-        let of = self.matches.get(self.sel.get(gate.0));
+    fn link_pins(&mut self, gate: ClassId) -> Result<(), AllocError> {
+        let number = self.sel.get(gate.0);
+        self.matches.open_links(number)?;
+        let of = self.matches.get(number);
         for place in of.first..of.end {
-            self.link(place, gate);
+            self.link(of, place, gate);
         }
+        Ok(())
     }
 
-    /// Counts the use of a class by the pin of a gate at this place: how often it is used now.
-    pub(crate) fn link(&mut self, place: u32, gate: ClassId) -> u32 {
+    /// Counts the use of a class by the pin at this place, which is one of a gate with this match:
+    /// how often it is used now.
+    pub(crate) fn link(&mut self, of: Put, place: u32, gate: ClassId) -> u32 {
         let number = self.matches.leg(place).class.0;
-        let next = self.uses.get(number);
+        let (own, next) = (of.link_at(place), self.uses.get(number));
         self.matches.set_link(
-            place,
+            own,
             Link {
                 gate,
+                place,
                 next,
                 before: NONE,
             },
@@ -281,20 +286,20 @@ impl<'a, A: Attain + Drop> Cover<'a, A> {
         self.matches.set_link(
             next,
             Link {
-                before: place,
+                before: own,
                 ..after
             },
         );
-        self.uses.set(number, place);
+        self.uses.set(number, own);
         let count = self.refs.get(number).saturating_add(1);
         self.refs.set(number, count);
         count
     }
 
     /// The contrary.
-    pub(crate) fn unlink(&mut self, place: u32) -> u32 {
+    pub(crate) fn unlink(&mut self, of: Put, place: u32) -> u32 {
         let number = self.matches.leg(place).class.0;
-        let link = self.matches.link(place);
+        let link = self.matches.link(of.link_at(place));
         let after = self.matches.link(link.next);
         self.matches.set_link(
             link.next,
@@ -334,7 +339,7 @@ impl<'a, A: Attain + Drop> Cover<'a, A> {
                 .set(number, self.refs.get(number).saturating_add(1));
         }
         for gate in &gates {
-            self.link_pins(*gate);
+            self.link_pins(*gate)?;
         }
         self.time(&gates);
         Ok(true)

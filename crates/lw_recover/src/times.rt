@@ -68,7 +68,7 @@ impl<'a, A: Attain + Drop> Cover<'a, A> {
             for place in of.first..of.end {
                 let class = self.matches.leg(place).class;
                 self.touched.push(class)?;
-                if self.unlink(place) == 0 && !self.space.is_leaf(class) {
+                if self.unlink(of, place) == 0 && !self.space.is_leaf(class) {
                     self.stack.push((class, 0))?;
                 }
             }
@@ -76,16 +76,24 @@ impl<'a, A: Attain + Drop> Cover<'a, A> {
         Ok(())
     }
 
+    // Has the pins of a gate wait.
+    fn open(&mut self, gate: ClassId) -> Result<(), AllocError> {
+        let number = self.sel.get(gate.0);
+        self.matches.open_links(number)?;
+        self.stack.push((gate, self.matches.get(number).first))?;
+        Ok(())
+    }
+
     // The contrary. Gates that come into use are noted, pins first.
     fn add(&mut self, top: ClassId) -> Result<(), AllocError> {
         self.stack.clear();
-        self.stack
-            .push((top, self.matches.get(self.sel.get(top.0)).first))?;
+        self.open(top)?;
         for _ in 0..self.most_steps() {
             let Some((gate, place)) = self.stack.pop() else {
                 break;
             };
-            if place >= self.matches.get(self.sel.get(gate.0)).end {
+            let of = self.matches.get(self.sel.get(gate.0));
+            if place >= of.end {
                 if gate != top {
                     self.fresh.push(gate)?;
                 }
@@ -93,9 +101,8 @@ impl<'a, A: Attain + Drop> Cover<'a, A> {
             }
             self.stack.push((gate, place.saturating_add(1)))?;
             let class = self.matches.leg(place).class;
-            if self.link(place, gate) == 1 && !self.space.is_leaf(class) {
-                self.stack
-                    .push((class, self.matches.get(self.sel.get(class.0)).first))?;
+            if self.link(of, place, gate) == 1 && !self.space.is_leaf(class) {
+                self.open(class)?;
             }
         }
         Ok(())
@@ -115,15 +122,15 @@ impl<'a, A: Attain + Drop> Cover<'a, A> {
                 continue;
             }
             self.arr.set(number, time);
-            let mut place = self.uses.get(number);
+            let mut use_at = self.uses.get(number);
             for _ in 0..self.refs.get(number) {
-                if place == NONE {
+                if use_at == NONE {
                     break;
                 }
-                let link = self.matches.link(place);
+                let link = self.matches.link(use_at);
                 self.rising
                     .push(Reverse((self.arr.get(link.gate.0), link.gate.0)))?;
-                place = link.next;
+                use_at = link.next;
             }
         }
         Ok(false)
@@ -132,18 +139,15 @@ impl<'a, A: Attain + Drop> Cover<'a, A> {
     // By when a class has to arrive, by its deadline and its uses.
     fn needed_by(&self, number: u32) -> u64 {
         let mut time = self.deadline.get(number);
-        let mut place = self.uses.get(number);
+        let mut use_at = self.uses.get(number);
         for _ in 0..self.refs.get(number) {
-            if place == NONE {
+            if use_at == NONE {
                 break;
             }
-            let link = self.matches.link(place);
-            let left = self
-                .req
-                .get(link.gate.0)
-                .saturating_sub(self.matches.leg(place).delay);
-            time = time.min(left);
-            place = link.next;
+            let link = self.matches.link(use_at);
+            let delay = self.matches.leg(link.place).delay;
+            time = time.min(self.req.get(link.gate.0).saturating_sub(delay));
+            use_at = link.next;
         }
         time
     }

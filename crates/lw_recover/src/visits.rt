@@ -147,7 +147,7 @@ impl<'a, A: Attain + Drop> Moves<'a, A> {
         if self.want == Want::Heat && self.is_present(pat, &pins) {
             return Ok(());
         }
-        let number = self.cover.matches.put(self.cover.space, pat, &pins)?;
+        let number = self.cover.matches.put(pat, &pins)?;
         if number == NONE {
             return Ok(());
         }
