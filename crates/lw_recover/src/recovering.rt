@@ -46,7 +46,7 @@ const MOST_HEATS: u64 = 400;
 
 const LEAST_HEATS: u64 = 20;
 
-const HEAT_STEPS: u64 = 300_000_000;
+const HEAT_STEPS: u64 = 100_000_000;
 
 /// Passes go on while they bring one part of so many.
 const PART: u64 = 500;
