@@ -1,0 +1,95 @@
+// What a walk from the roots down goes by, and what it asks for.
+ghost use Rattle.std.specs.Prelude.{◌≡◌, ◌<◌, IfOk, IfSome, length};
+ghost use Rattle.lw_backtrace.specs.SecondLook.{IsDemand, IsPinWant, root_want};
+
+use crate::trail::Node;
+use lw_choices::Stand;
+use lw_curves::Curves;
+use lw_fixed::Micro;
+use lw_genlib::Library;
+use lw_pool::{CellId, ClassId};
+use std::alloc::AllocError;
+
+/// What a walk goes by: the curves, the input of each class, how many inputs there are, the
+/// library, and the roots with their times.
+#[derive(Drop)]
+pub(crate) struct Plan<'a> {
+    pub curves: &'a Curves,
+    pub inputs: &'a [Option<u32>],
+    pub count: u32,
+    pub lib: &'a Library,
+    pub roots: &'a [ClassId],
+    pub times: &'a [Micro],
+}
+
+/// What a pin or a root uses: a class by a time, with a delay, by an exact gate or a shared one.
+#[derive(Clone, Copy)]
+pub(crate) struct Want {
+    pub class: ClassId,
+    pub delay: u64,
+    pub time: u64,
+    pub exact: bool,
+}
+
+/// A cell, and what its pins use: their classes by a time, each with a delay.
+#[derive(Drop)]
+pub(crate) struct Demand<'a> {
+    pub cell: CellId,
+    pub pins: &'a [ClassId],
+    pub delays: &'a [Micro],
+    pub time: u64,
+    pub exact: bool,
+}
+
+/// What a root uses.
+pub(crate) fn root_want(root: ClassId, time: Micro, exact: bool) -> Want
+    ensures { result ≡ root_want root time exact }
+{
+    Want {
+        class: root,
+        delay: 0,
+        time: time.0,
+        exact,
+    }
+}
+
+/// What a pin uses.
+pub(crate) fn pin_want(demand: &Demand, pin: usize) -> Want
+    requires pin { pin < length demand.now.pins.now }
+    requires delay { pin < length demand.now.delays.now }
+    ensures { IsPinWant demand.now pin result }
+{
+    Want {
+        class: demand.pins[pin],
+        delay: demand.delays[pin].0,
+        time: demand.time,
+        exact: demand.exact,
+    }
+}
+
+/// The cell of a node, and what its pins use.
+pub(crate) fn demand_of<'a>(plan: &Plan<'a>, node: Node) -> Option<Demand<'a>>
+    ensures { IfSome result (IsDemand plan.now node) }
+{
+    let point = *plan.curves.get(node.class)?.get(node.place as usize)?;
+    let Some(Stand::Gate(gate)) = plan.curves.stand(node.class, node.place) else {
+        return None;
+    };
+    if gate.cell.0 >= plan.lib.len() {
+        return None;
+    }
+    Some(Demand {
+        cell: gate.cell,
+        pins: gate.pins.as_slice(),
+        delays: plan.lib.cell(gate.cell).delays(),
+        time: point.time.0,
+        exact: node.exact,
+    })
+}
+
+/// A number as one of 32 bits. There is no memory for more.
+pub(crate) fn to_u32(number: usize) -> Result<u32, AllocError>
+    ensures { IfOk result (λ n. n ≡ number) }
+{
+    u32::try_from(number).ok().ok_or(AllocError)
+}
