@@ -4,7 +4,7 @@ use Rattle.std.proofs.lemmas.List.{length-set}
 use Rattle.std.proofs.lemmas.Option.{same_Some, slice_get_within}
 use Rattle.lw_pool.specs.declared.id.ClassId.{ClassId}
 use Rattle.lw_pool.specs.Numbers.{numbers}
-use Rattle.lw_choices.specs.Chains.{HasNone, IsLast, AreChains}
+use Rattle.lw_choices.specs.Chains.{number_count, HasNone, IsLast, AreChains}
 use Rattle.lw_choices.proofs.Lists.{length_push, get_last, get_push, push_cases, set_cases}
 
 pub numbers_push : (classes : List ClassId) (c : ClassId) → numbers (classes ++ c ∷ []) ≡ numbers classes ++ c.0 ∷ []
@@ -38,7 +38,7 @@ last_more : (cs : List ℕ) (x c : ℕ) (o : Option ℕ) → x ≢ c → IsLast 
 last_more cs x c None ne none = none_more cs x c 0 ne none
 last_more cs x c (Some i) ne (lt, at, none) = (omega arith, get_push cs x i c at, none_more cs x c (i + 1) ne none)
 
-module _ (cs : List ℕ) (befores heads : List (Option ℕ)) (class : ℕ) (before : Option ℕ) (lt : class < length heads) (room : length cs + 1 < 4294967296) (at : slice_get heads class ≡ Some before) (are : AreChains cs befores heads) where
+module _ (cs : List ℕ) (befores heads : List (Option ℕ)) (class : ℕ) (before : Option ℕ) (lt : class < length heads) (room : length cs + 1 < number_count) (at : slice_get heads class ≡ Some before) (are : AreChains cs befores heads) where
   size : ◌≡◌ {A = ℕ} (length (cs ++ class ∷ [])) (length cs + 1)
   size = length_push cs class
 

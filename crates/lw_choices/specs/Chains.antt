@@ -1,5 +1,9 @@
 -- Places of one array that are linked by their classes: each to the last one before it with the same class.
-use Rattle.std.specs.Prelude.{ℕ, ◌+◌, ◌<◌, ◌≡◌, List, [], length, Option, Some, None, slice_get}
+use Rattle.std.specs.Prelude.{ℕ, ◌+◌, ◌^◌, ◌<◌, ◌≡◌, List, [], length, Option, Some, None, slice_get}
+
+-- how many numbers have 32 bits
+abbrev pub number_count : ℕ
+number_count = 2 ^ 32
 
 -- the classes of the places, and how many classes there are
 pub record ChainState : Type 0 where
@@ -32,7 +36,7 @@ IsLast cs c n (Some i) = (i < n) × (slice_get cs i ≡ Some c) × HasNone cs c 
 
 -- what the links keep: the classes of the places, the place before each, and the last place of each class
 pub record AreChains (classes : List ℕ) (befores heads : List (Option ℕ)) : Type 0 where
-  pub few : length classes < 4294967296
+  pub few : length classes < number_count
   pub one_each : length befores ≡ length classes
   pub within : (i c : ℕ) → slice_get classes i ≡ Some c → c < length heads
   pub heads_are : (c : ℕ) (o : Option ℕ) → slice_get heads c ≡ Some o → IsLast classes c (length classes) o

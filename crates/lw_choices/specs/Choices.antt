@@ -7,7 +7,6 @@ use Rattle.lw_genlib.specs.Tables.{delays_of_cells}
 use Rattle.lw_choices.specs.Areas.{area_cost}
 use Rattle.lw_choices.specs.Tasks.{Task}
 use Rattle.std.specs.List.{AllByRecursion}
-use Rattle.lw_choices.specs.Choices.Part.{input, gate}
 
 -- an input, or a cell with the classes of its pins
 pub data Part : Type 0 where

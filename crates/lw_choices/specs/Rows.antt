@@ -14,6 +14,7 @@ use Rattle.lw_choices.specs.declared.choices.Stand.{Stand}
 use Rattle.lw_choices.specs.declared.choices.Stand.TheVariants.{Input, Gate}
 use Rattle.lw_choices.specs.Choices.{Part, Choice, AreListedChoices, MayStand, IsPartFor}
 use Rattle.lw_choices.specs.Choices.Part.{input, gate}
+use Rattle.lw_choices.specs.Chains.{number_count}
 use Rattle.lw_choices.specs.Tasks.{Task, task}
 use Rattle.lw_pool.specs.Numbers.{numbers}
 
@@ -34,12 +35,12 @@ pub record IsRowFor (cells : List CellParts) (classes : ℕ) (row : Row) : Type 
 
 -- the pins of each choice are of so many classes, its cell is of the library, and they can be numbered
 pub record ArePartsFor (cells : List CellParts) (classes : ℕ) (rows : List Row) : Type 0 where
-  pub few : length rows < 4294967296
+  pub few : length rows < number_count
   pub parts : All (λ (r : Row). IsPartFor cells classes (plain_part r.stand)) rows
 
 -- so it is of each with its class, and they can be numbered
 pub record AreRowsFor (cells : List CellParts) (classes : ℕ) (rows : List Row) : Type 0 where
-  pub few : length rows < 4294967296
+  pub few : length rows < number_count
   pub each : All (IsRowFor cells classes) rows
 
 abbrev pub IsAmong : List Choice → ℕ → Part → Type 0
@@ -74,5 +75,5 @@ AreStoredListed lists old new =
 
 -- all that may stand at the classes, by cells of any library that the patterns are of, and they can be numbered
 pub record AreAllChoices (g : Graph) (pats : List Pattern) (rows : List Row) : Type 0 where
-  pub few : length rows < 4294967296
+  pub few : length rows < number_count
   pub choices : (cells : List CellParts) (starts : List Micro) → AreOfCells (area_cost cells).pin_counts pats → AreListedChoices (task g pats cells starts) (plain_rows rows)

@@ -1,10 +1,14 @@
 -- The least area of the covers of a class by a time, and the times at which it falls.
-use Rattle.std.specs.Prelude.{ℕ, ◌<◌, ◌≤◌, ◌≡◌, ◌+◌, List, [], ◌∷◌, length, Some, Contains, slice_get}
+use Rattle.std.specs.Prelude.{ℕ, ◌<◌, ◌≤◌, ◌≡◌, ◌+◌, ◌^◌, List, [], ◌∷◌, length, Some, Contains, slice_get}
 use Rattle.lw_laws.specs.Covers.{Cover, time_of}
 use Rattle.lw_curves.specs.declared.point.Point.{Point}
 use Rattle.lw_curves.specs.declared.point.CurveFault.{CurveFault}
 use Rattle.lw_curves.specs.declared.point.CurveFault.TheVariants.{Limit, Memory}
 use Rattle.lw_choices.specs.Tasks.{Task, timing, IsCoverBy, area_of, IsLeastAreaBy}
+
+-- horizons are below this
+abbrev pub time_limit : ℕ
+time_limit = 2 ^ 63
 
 -- the least area by this time is smaller than by each earlier time
 pub record IsPoint (s : Task) (c : ℕ) (p : Point) : Type 0 where

@@ -4,7 +4,7 @@ ghost use Rattle.lw_cost.specs.Least.{AreOfCells};
 ghost use Rattle.lw_choices.specs.Areas.{area_cost};
 ghost use Rattle.lw_curves.specs.CurveTables.{HaveWays};
 ghost use Rattle.lw_curves.specs.Setups.{AreListedSomewhere, HasNoPoints, HaveFronts, HaveFrontsIn, HaveFrontsOf, IsSetup, IsStopFor, IsStopOf, MayBegin};
-ghost use Rattle.lw_curves.specs.Points.{AreCurves, BoundCovers, IsWhy, most_points, point_count};
+ghost use Rattle.lw_curves.specs.Points.{AreCurves, BoundCovers, IsWhy, most_points, point_count, time_limit};
 ghost use Rattle.lw_choices.specs.Tasks.{task};
 ghost use Rattle.lw_choices.specs.Rows.{AreRowsFor};
 
@@ -35,7 +35,7 @@ pub fn curves(
     horizon: Micro,
 ) -> Result<Curves, CurveFault>
     requires of_cells { AreOfCells (area_cost lib.now).pin_counts pats.now }
-    requires horizon { horizon.0 < 9223372036854775808 }
+    requires horizon { horizon.0 < time_limit }
     ensures curves { IfOk result (λ curves. AreCurves
         (task graph.now pats.now lib.now starts.now) horizon.0 curves.points) }
     ensures bound { IfOk result (λ curves. BoundCovers

@@ -2,6 +2,7 @@
 ghost use Rattle.std.specs.Prelude.{◌≡◌, ◌<◌, ℕ, [], IfOk, MatchResult, Some, length};
 ghost use Rattle.lw_curves.specs.Setups.{IsBegun};
 ghost use Rattle.lw_choices.specs.Tasks.{Task};
+ghost use Rattle.lw_choices.specs.Chains.{number_count};
 ghost use Rattle.lw_choices.specs.Rows.{plain_part};
 ghost use Rattle.lw_curves.specs.Settling.{Gives, IsStarted};
 
@@ -19,7 +20,7 @@ pub(crate) fn started(
     starts: &[Micro],
     horizon: u64,
 ) -> Result<Queue, AllocError>
-    requires { length rows.now < 4294967296 }
+    requires { length rows.now < number_count }
     ensures { IfOk result (IsBegun starts.now rows.now horizon) }
 {
     let mut queue = Queue::new(alloc, horizon, 1)?;
