@@ -1,5 +1,4 @@
 // The points whose gates are shared, where any cover in time will do.
-
 use crate::second_look::is_cut;
 use crate::trail::{NO_GATE, Node, Trail};
 use crate::wants::{Plan, demand_of, to_u32};

@@ -1,5 +1,4 @@
 // What a walk has found so far.
-
 use crate::wants::{Plan, to_u32};
 use lw_pool::{CellId, ClassId, Numbers};
 use std::alloc::{AllocError, Global};

@@ -1,4 +1,4 @@
-// What a walk from the roots down goes by, and what it asks for.
+// What a walk goes by, and what its roots and pins ask for.
 ghost use Rattle.std.specs.Prelude.{◌≡◌, ◌<◌, IfOk, IfSome, length};
 ghost use Rattle.lw_backtrace.specs.SecondLook.{IsDemand, IsPinWant, root_want};
 
@@ -10,38 +10,48 @@ use lw_genlib::Library;
 use lw_pool::{CellId, ClassId};
 use std::alloc::AllocError;
 
-/// What a walk goes by: the curves, the input of each class, how many inputs there are, the
-/// library, and the roots with their times.
+/// What a walk goes by.
 #[derive(Drop)]
 pub(crate) struct Plan<'a> {
     pub curves: &'a Curves,
+    /// The input of each class that has one.
     pub inputs: &'a [Option<u32>],
+    /// How many inputs there are.
     pub count: u32,
     pub lib: &'a Library,
+    /// The class of each output.
     pub roots: &'a [ClassId],
+    /// The time by which each output has to arrive.
     pub times: &'a [Micro],
 }
 
-/// What a pin or a root uses: a class by a time, with a delay, by an exact gate or a shared one.
+/// What a pin or a root asks for: a class by a time.
 #[derive(Clone, Copy)]
 pub(crate) struct Want {
     pub class: ClassId,
+    /// The delay of the pin, or 0 of a root.
     pub delay: u64,
+    /// The time by which the cell of the pin, or the root, arrives.
     pub time: u64,
+    /// Whether the gate has to be exact. Else it may be shared.
     pub exact: bool,
 }
 
-/// A cell, and what its pins use: their classes by a time, each with a delay.
+/// A cell, and what its pins ask for.
 #[derive(Drop)]
 pub(crate) struct Demand<'a> {
     pub cell: CellId,
+    /// The class of each pin.
     pub pins: &'a [ClassId],
+    /// The delay of each pin.
     pub delays: &'a [Micro],
+    /// The time by which the cell arrives.
     pub time: u64,
+    /// Whether the gates of the pins have to be exact.
     pub exact: bool,
 }
 
-/// What a root uses.
+/// What a root asks for.
 pub(crate) fn root_want(root: ClassId, time: Micro, exact: bool) -> Want
     ensures { result ≡ root_want root time exact }
 {
@@ -53,7 +63,7 @@ pub(crate) fn root_want(root: ClassId, time: Micro, exact: bool) -> Want
     }
 }
 
-/// What a pin uses.
+/// What a pin asks for.
 pub(crate) fn pin_want(demand: &Demand, pin: usize) -> Want
     requires pin { pin < length demand.now.pins.now }
     requires delay { pin < length demand.now.delays.now }
@@ -67,7 +77,7 @@ pub(crate) fn pin_want(demand: &Demand, pin: usize) -> Want
     }
 }
 
-/// The cell of a node, and what its pins use.
+/// The cell of a node, and what its pins ask for.
 pub(crate) fn demand_of<'a>(plan: &Plan<'a>, node: Node) -> Option<Demand<'a>>
     ensures { IfSome result (IsDemand plan.now node) }
 {

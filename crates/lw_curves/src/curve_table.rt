@@ -70,7 +70,7 @@ impl Curves {
         Some(points[place].area)
     }
 
-    /// The same, and nothing past the last class.
+    /// The points of a class, by rising time, and nothing past the last class.
     pub fn get(&self, class: ClassId) -> Option<&[Point]>
         ensures { MatchOption result (slice_get self.now.points class.0 ≡ None)
             (λ row. IsRowAt self.now.points class.0 row.now) }

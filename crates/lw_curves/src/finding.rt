@@ -72,7 +72,7 @@ fn settle_fronts(
     settle_all(setup, &mut seen, fronts, &mut coming, queue)
 }
 
-// The same, for so many classes.
+// The points of so many classes up to a horizon.
 fn settle_setup(
     alloc: Global,
     setup: &Setup,

@@ -1,4 +1,4 @@
-// The points that were found so far, and searches among those of a class.
+// The points that were found so far: of each class the best ones by time and area.
 ghost use Rattle.std.specs.Prelude.{◌≡◌, ◌<◌, ◌≤◌, IfOk, IfSome, OnOk, OnErr, Some, length, map};
 ghost use Rattle.lw_curves.specs.Backing.{spot_in};
 ghost use Rattle.lw_curves.specs.Fronts.{AreFoundAt, ArePointsSame, CountsSpots, HasNoSpots, IsLeastSpot, IsLessOr, IsPlaceFor, IsPutTo, IsTried, MayJump, MayPut, MayTry, held_of, spots_of};
@@ -69,7 +69,8 @@ impl Fronts {
         area_by(&self.links, self.points.as_slice(), class, time)
     }
 
-    /// The same, where the point of the class at this time may stand at a place.
+    /// The least area of the points of a class by a time, where the point at this time may stand at
+    /// a place.
     pub(crate) fn area_near(&self, class: ClassId, time: u64, place: u64) -> Option<u64>
         requires { class.0 < length self.now.least }
         ensures { IsLeastSpot self.now.spots class.0 time result }

@@ -1,5 +1,4 @@
 // Points of curves, and why there are no curves.
-
 use lw_fixed::Micro;
 use std::alloc::AllocError;
 

@@ -15,7 +15,9 @@ use std::alloc::{AllocError, Global};
 /// What each group has seen, and what that makes of the choices.
 #[derive(Drop)]
 pub(crate) struct Seen {
+    /// The least area that each group has seen, or `UNSEEN`.
     pub areas: Vec<u128>,
+    /// The tally of each choice.
     pub tallies: Vec<Tally>,
 }
 

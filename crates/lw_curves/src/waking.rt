@@ -1,4 +1,4 @@
-// The choices with a pin in a group, looked at at the time at which the group comes.
+// The groups that come at a time, and which of their choices wait from then on to be priced.
 ghost use Rattle.std.specs.Prelude.{◌≡◌, ◌<◌, ◌≤◌, IsFalse, IsTrue, OnOk, length};
 ghost use Rattle.lw_curves.specs.Setups.{AreGroupsOver, AreTalliedIn, GivesNoMoreIn, IsGroupLookedAtIn, IsLookedAtIn, IsReadyAt, IsReadyFor, IsUnderWay};
 
@@ -10,12 +10,13 @@ use lw_choices::MOST_AREA;
 use lw_queue::Queue;
 use std::alloc::AllocError;
 
-/// What choices are looked at by: the setup, what the groups have seen, and the points that were
-/// found.
+/// What choices are looked at by.
 #[derive(Drop)]
 pub(crate) struct View<'a, 'b, 'c, 'd> {
     pub setup: &'a Setup<'b>,
+    /// What the groups have seen.
     pub seen: &'c Seen,
+    /// The points that were found.
     pub fronts: &'d Fronts,
 }
 

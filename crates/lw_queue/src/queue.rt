@@ -95,7 +95,8 @@ impl Queue {
         }
     }
 
-    /// The same, with the hint that it was pushed with.
+    /// Takes a choice that waits at a time, before which none waits, with the hint that it was
+    /// pushed with.
     pub fn take_hinted_at(&mut self, time: u64) -> Option<(u64, u32)>
         requires within { time ≤ self.old.horizon }
         requires first { (t n : ℕ) → Waits self.old t n → time ≤ t }
