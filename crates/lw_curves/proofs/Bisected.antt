@@ -6,7 +6,6 @@ use Rattle.std.proofs.lemmas.Bool.{cases_lt}
 use Rattle.lw_curves.specs.declared.point.Point.{Point}
 use Rattle.lw_curves.specs.Lasts.{ArePointsRising, IsLastIn, IsLastOf, IsLastPlace}
 use Rattle.lw_choices.proofs.Lists.{got}
-use native.Mathlib.Nat.{eq-or-lt_of_le}
 
 abbrev pub is_by : ℕ → Point → Bool
 is_by by p = nat_le p.time.0 by

@@ -1,6 +1,5 @@
 -- The first time of two queues is in time.
-use Rattle.std.proofs.Common.{ℕ, ◌≤◌, [], Some, inl, inr, arith}
-use native.Mathlib.Nat.{eq-or-lt_of_le}
+use Rattle.std.proofs.Common.{ℕ, ◌≤◌, Some, inl, inr, arith}
 use Rattle.lw_queue.specs.Queues.{IsFirstOf}
 use Rattle.lw_curves.specs.Settling.{Turns, AreInTime}
 

@@ -1,5 +1,5 @@
 -- When groups of pins come, and what waits with them.
-use Rattle.std.specs.Prelude.{ℕ, ◌+◌, ◌≡◌, [], Some, slice_get}
+use Rattle.std.specs.Prelude.{ℕ, ◌+◌, ◌≡◌, Some, slice_get}
 use Rattle.lw_choices.specs.declared.pin_groups.PinGroups.{PinGroups}
 use Rattle.lw_queue.specs.Queues.{Queued}
 use Rattle.lw_curves.specs.Settling.{Turns, turns, IsLetWait}

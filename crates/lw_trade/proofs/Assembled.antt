@@ -248,7 +248,7 @@ module _ (s : Task) (t : Targets) (curves : CurveLists) (c : AreCurvesFor s t cu
             let (h, at) = get_some sites i low in
             let is = made_of_point i h at in
             let cell = (made_gate i).cell in
-            let may = c.ways.choices.each h.point.choice (record { class = is.class; part = Rattle.lw_trade.specs.Choices.Part.gate cell is.pins }) is.chosen in
+            let may = c.ways.choices.each h.point.choice (record { class = is.class; part = Rattle.lw_choices.specs.Choices.Part.gate cell is.pins }) is.chosen in
             let (parts, bt) = get_some s.cells cell (cell_in s.cells cell (length is.pins) may.pins) in
             let a = pins_at s.cells cell (length is.pins) parts bt may.pins in
             let b = pin_count s held in_order h.exact h.point.spot.time (delays_of (timing s).delays cell) is.pins (made_gate i).pins is.nets in

@@ -100,7 +100,7 @@ module _ (s : Task) (horizon : ℕ) (curves : CurveLists) (ways : HaveWays s cur
   less_later : (k l : Held) → IsHeld ways.held k → IsHeld ways.held l → k.spot.class ≡ l.spot.class → k.spot.time < l.spot.time → l.spot.area < k.spot.area
   less_later k l in' also e lt =
       let least = (held_point s horizon curves ways are k in').least in
-      (held_point s horizon curves ways are l also).falls k.spot.time k.spot.area lt (subst (λ c. Rattle.lw_trade.specs.Points.IsLeastAreaBy s c k.spot.time (Some k.spot.area)) e least)
+      (held_point s horizon curves ways are l also).falls k.spot.time k.spot.area lt (subst (λ c. Rattle.lw_choices.specs.Tasks.IsLeastAreaBy s c k.spot.time (Some k.spot.area)) e least)
 
   held_low : (k : Held) → IsHeld ways.held k → k.spot.area ≤ most_area
   held_low k in' =

@@ -1,5 +1,5 @@
 -- From the gates of a walk to a netlist.
-use Rattle.std.specs.Prelude.{ℕ, ◌≡◌, List, [], length}
+use Rattle.std.specs.Prelude.{ℕ, ◌≡◌, List, length}
 use Rattle.lw_backtrace.specs.declared.targets.Targets.{Targets}
 use Rattle.lw_backtrace.specs.declared.trail.Walk.{Walk}
 use Rattle.lw_curves.specs.CurveTables.{CurveLists}
