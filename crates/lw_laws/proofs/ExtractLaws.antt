@@ -11,10 +11,11 @@ use Rattle.lw_laws.specs.Covers.{Timing, Pattern, start_of, latest, delays_of}
 use Rattle.lw_laws.specs.Delays.{delay_cost}
 use Rattle.lw_laws.specs.Netlists.{Gate, Netlist, AreOrdered, AreArrivals, AreNetCosts}
 use Rattle.lw_laws.specs.Mapped.{IsMapped}
+use Rattle.lw_laws.specs.MatchLists.{AreGatesApart, IsMatchNetlist}
+use Rattle.lw_laws.proofs.MatchLists.{class_net_once}
 use Rattle.lw_laws.specs.Extracts.{Match, IsChosen, IsGateBefore, AreGateClasses, IsNetOf, IsExtracted, class_at, AreDistinctLeaves, HaveLeafLabels}
-use Rattle.lw_laws.proofs.Extracts.{slice_get_append, IsChosen_once, extracted_ordered, extracted_mapped, net_cost}
+use Rattle.lw_laws.proofs.Extracts.{IsChosen_once, extracted_ordered, extracted_mapped, net_cost}
 use Rattle.lw_laws.proofs.Delays.{latest-cut}
-use Rattle.lw_laws.proofs.Lists.{slice_get_some}
 
 not_both : (heights : ℕ → ℕ) (c d : ℕ) → IsGateBefore heights c d → IsGateBefore heights d c → ⊥
 not_both heights c d (inl a) (inl b) = omega arith
@@ -83,22 +84,22 @@ module _ (g : Graph) (cost : Cost) (pats : List Pattern) (labels : Labels) (heig
         by_order (inr (inl l)) = absurd (not_itself heights c (classes.sorted i j c c e f l))
         by_order (inr (inr l)) = absurd (not_itself heights c (classes.sorted j i c c f e l))
 
-    pub net_once : AreDistinctLeaves g → (c k l : ℕ) → IsNetOf g gates c k → IsNetOf g gates c l → k ≡ l
-    net_once distinct c k l e f = by_side (slice_get_append g.leaves gates k c e) (slice_get_append g.leaves gates l c f)
-      where
-        in_left : (m : ℕ) → m < length g.leaves → IsNetOf g gates c m → slice_get g.leaves m ≡ Some c
-        in_left m lt h = let (d, at) = slice_get_some g.leaves m lt in let s = left g.leaves m d at in let same : d ≡ c = cc in at ∙ ap Some same
-          where
-            left : (xs : List ℕ) (m d : ℕ) → slice_get xs m ≡ Some d → slice_get (xs ++ gates) m ≡ Some d
-            left [] m d at = cc
-            left (x ∷ xs) zero d at = at
-            left (x ∷ xs) (suc m) d at = left xs m d at
+    -- no class stands twice or is an input's
+    pub gates_apart : AreGatesApart g gates
+    gates_apart = record { once = gate_once; no_leaf = λ j c at. (classes.needed j c at).1 }
 
-        by_side : (k < length g.leaves) ⊎ ((i : ℕ) × (slice_get gates i ≡ Some c) × (k ≡ length g.leaves + i)) → (l < length g.leaves) ⊎ ((i : ℕ) × (slice_get gates i ≡ Some c) × (l ≡ length g.leaves + i)) → k ≡ l
-        by_side (inl p) (inl q) = distinct k l c (in_left k p e) (in_left l q f)
-        by_side (inl p) (inr (j, at, s)) = absurd ((classes.needed j c at).1 (k, in_left k p e))
-        by_side (inr (i, at, s)) (inl q) = absurd ((classes.needed i c at).1 (l, in_left l q f))
-        by_side (inr (i, at, s)) (inr (j, bt, t)) = let same = gate_once i j c at bt in omega arith
+    pub net_once : AreDistinctLeaves g → (c k l : ℕ) → IsNetOf g gates c k → IsNetOf g gates c l → k ≡ l
+    net_once = class_net_once g gates gates_apart
+
+    -- the netlist of the chosen matches is one of matches
+    pub extracted_is_matches : (n : Netlist) → IsExtracted g cost pats labels heights gates n → IsMatchNetlist g cost.pin_counts pats gates n
+    extracted_is_matches n is = record {
+      inputs = is.inputs;
+      one_each = is.one_each;
+      apart = gates_apart;
+      ordered = (ordered_and_mapped n is).0;
+      mapped = (ordered_and_mapped n is).1;
+    }
 
     pins_once : AreDistinctLeaves g → (qs ks ls : List ℕ) → AllZip (λ q net. IsNetOf g gates q net) qs ks → AllZip (λ q net. IsNetOf g gates q net) qs ls → ks ≡ ls
     pins_once distinct [] [] [] a b = refl

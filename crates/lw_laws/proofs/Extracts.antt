@@ -9,7 +9,8 @@ use Rattle.lw_laws.specs.Costs.{Cost}
 use Rattle.lw_laws.specs.Choices.{Labels, HaveLabels}
 use Rattle.lw_laws.specs.Covers.{Pattern}
 use Rattle.lw_laws.specs.Netlists.{Gate, Netlist, IsGate, AreOrdered, AreNetCosts}
-use Rattle.lw_laws.specs.Extracts.{Match, IsListAtMost, IsMatchAtMost, IsChosen, IsGateBefore, net_classes, IsNetOf, IsExtracted, HaveLeafLabels}
+use Rattle.lw_laws.specs.Extracts.{Match, IsListAtMost, IsMatchAtMost, IsMatchBy, IsChosen, IsGateBefore, net_classes, class_at, IsNetOf, IsExtracted, HaveLeafLabels}
+use Rattle.lw_laws.specs.Matches.{IsMatchAt}
 use Rattle.lw_laws.specs.Mapped.{IsMapped}
 use Rattle.lw_laws.proofs.Lists.{slice_get_some}
 
@@ -53,6 +54,35 @@ IsMatchAtMost_both m k (inl h) (inl l) = absurd (omega arith)
 IsMatchAtMost_both m k (inl h) (inr (e, l)) = absurd (omega arith)
 IsMatchAtMost_both m k (inr (e, h)) (inl l) = absurd (omega arith)
 IsMatchAtMost_both m k (inr (e, h)) (inr (f, l)) = (e, IsListAtMost_both m.pins k.pins h l)
+
+-- Gates that are matches over the classes of nets.
+module _ (g : Graph) (gates : List ℕ) (n : Netlist) (inputs : n.inputs ≡ length g.leaves) where
+  pins_of_nets : (qs nets : List ℕ) → AllZip (λ q net. IsNetOf g gates q net) qs nets → map (class_at g gates) nets ≡ qs
+  pins_of_nets [] [] z = refl
+  pins_of_nets [] (net ∷ nets) z = absurd z
+  pins_of_nets (q ∷ qs) [] z = absurd z
+  pins_of_nets (q ∷ qs) (net ∷ nets) (e, z) =
+      ap₂ (λ p ps. p ∷ ps) (index_at (net_classes g gates) net q e) (pins_of_nets qs nets z)
+
+  -- the class of an input's net
+  pub input_class : (i : ℕ) → i < n.inputs → slice_get g.leaves i ≡ Some (class_at g gates i)
+  input_class i in' =
+      let (c, e) = slice_get_some g.leaves i (subst (λ m. i < m) inputs in') in
+      e ∙ ap Some (sym (index_at (net_classes g gates) i c (slice_get_left g.leaves gates i c e)))
+
+  -- the gate of a match is one at the class of its net
+  pub gate_match : (pin_counts : List ℕ) (pats : List Pattern) (j c : ℕ) (m : Match) (p : Pattern) (gt : Gate) → slice_get gates j ≡ Some c → IsMatchBy g pin_counts pats c m p → gt.cell ≡ p.cell → AllZip (λ q net. IsNetOf g gates q net) m.pins gt.pins → IsMatchAt g pin_counts pats (class_at g gates (n.inputs + j)) gt.cell (map (class_at g gates) gt.pins)
+  gate_match pin_counts pats j c m p gt e t cell nets =
+      let s : slice_get (net_classes g gates) (n.inputs + j) ≡ Some c = subst (λ k. slice_get (net_classes g gates) (k + j) ≡ Some c) (sym inputs) (slice_get_right g.leaves gates j c e) in
+      let u = index_at (net_classes g gates) (n.inputs + j) c s in
+      let v = pins_of_nets m.pins gt.pins nets in
+      record {
+        pattern = p;
+        listed = listed_at pats m.pattern p t.listed;
+        cell_is = sym cell;
+        pins = rw (cell, v) t.pins;
+        stands = rw (u, v) t.stands;
+      }
 
 module _ (g : Graph) (cost : Cost) (pats : List Pattern) (labels : Labels) (heights : ℕ → ℕ) where
   -- the chosen match is one
@@ -101,35 +131,13 @@ module _ (g : Graph) (cost : Cost) (pats : List Pattern) (labels : Labels) (heig
         let (c, m, p, e, chosen, cell, nets) = is.chosen j gt at in
         nets_before j c m.pins gt.pins e chosen.supports.lower nets
 
-    abbrev pub class_of_net : ℕ → ℕ
-    class_of_net net = slice_index_or (net_classes g gates) net 0
-
-    pins_of_nets : (qs nets : List ℕ) → AllZip (λ q net. IsNetOf g gates q net) qs nets → map class_of_net nets ≡ qs
-    pins_of_nets [] [] z = refl
-    pins_of_nets [] (net ∷ nets) z = absurd z
-    pins_of_nets (q ∷ qs) [] z = absurd z
-    pins_of_nets (q ∷ qs) (net ∷ nets) (e, z) =
-        ap₂ (λ p ps. p ∷ ps) (index_at (net_classes g gates) net q e) (pins_of_nets qs nets z)
-
     -- each gate is a match of its class with the classes of its pins
-    pub extracted_mapped : IsMapped g cost.pin_counts pats n class_of_net
+    pub extracted_mapped : IsMapped g cost.pin_counts pats n (class_at g gates)
     extracted_mapped = record {
-      inputs = λ i in'.
-          let (c, e) = slice_get_some g.leaves i (subst (λ m. i < m) is.inputs in') in
-          e ∙ ap Some (sym (index_at (net_classes g gates) i c (slice_get_left g.leaves gates i c e)));
+      inputs = input_class g gates n is.inputs;
       gates = λ j gt at.
           let (c, m, p, e, chosen, cell, nets) = is.chosen j gt at in
-          let t = chosen.supports.matches in
-          let s : slice_get (net_classes g gates) (n.inputs + j) ≡ Some c = subst (λ k. slice_get (net_classes g gates) (k + j) ≡ Some c) (sym is.inputs) (slice_get_right g.leaves gates j c e) in
-          let u = index_at (net_classes g gates) (n.inputs + j) c s in
-          let v = pins_of_nets m.pins gt.pins nets in
-          record {
-            pattern = p;
-            listed = listed_at pats m.pattern p t.listed;
-            cell_is = sym cell;
-            pins = rw (cell, v) t.pins;
-            stands = rw (u, v) t.stands;
-          };
+          gate_match g gates n is.inputs cost.pin_counts pats j c m p gt e chosen.supports.matches cell nets;
     }
 
 -- the cost of each net is the label of its class
