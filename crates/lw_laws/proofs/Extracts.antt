@@ -55,6 +55,27 @@ IsMatchAtMost_both m k (inl h) (inr (e, l)) = absurd (omega arith)
 IsMatchAtMost_both m k (inr (e, h)) (inl l) = absurd (omega arith)
 IsMatchAtMost_both m k (inr (e, h)) (inr (f, l)) = (e, IsListAtMost_both m.pins k.pins h l)
 
+-- a class that is lower than that of gate j has its net before that of gate j
+pub lower_before : (heights : ℕ → ℕ) (gates : List ℕ) → ((i j c d : ℕ) → slice_get gates i ≡ Some c → slice_get gates j ≡ Some d → i < j → IsGateBefore heights c d) → (i j c d : ℕ) → slice_get gates i ≡ Some c → slice_get gates j ≡ Some d → heights c < heights d → i < j
+lower_before heights gates sorted i j c d e f lt = by_order (dec_lt i j)
+  where
+    not_after : IsGateBefore heights d c → ⊥
+    not_after (inl h) = omega arith
+    not_after (inr (s, h)) = omega arith
+
+    by_order : Dec (i < j) → i < j
+    by_order (yes l) = l
+    by_order (no out) = by_place (dec_lt j i)
+      where
+        by_place : Dec (j < i) → i < j
+        by_place (yes l) = absurd (not_after (sorted j i d c f e l))
+        by_place (no out') =
+            let s : i ≡ j = omega arith in
+            let t : slice_get gates j ≡ Some c = ap (slice_get gates) (sym s) ∙ e in
+            let u : c ≡ d = cc in
+            let v : heights c ≡ heights d = ap heights u in
+            absurd (omega arith)
+
 -- Gates that are matches over the classes of nets.
 module _ (g : Graph) (gates : List ℕ) (n : Netlist) (inputs : n.inputs ≡ length g.leaves) where
   pins_of_nets : (qs nets : List ℕ) → AllZip (λ q net. IsNetOf g gates q net) qs nets → map (class_at g gates) nets ≡ qs
@@ -90,33 +111,12 @@ module _ (g : Graph) (cost : Cost) (pats : List Pattern) (labels : Labels) (heig
   IsChosen_once c m k p q a b = IsMatchAtMost_both m k (a.first k q b.supports) (b.first m p a.supports)
 
   module _ (gates : List ℕ) (n : Netlist) (sorted : (i j c d : ℕ) → slice_get gates i ≡ Some c → slice_get gates j ≡ Some d → i < j → IsGateBefore heights c d) (is : IsExtracted g cost pats labels heights gates n) where
-    -- a class that is lower than that of gate j has its net before that of gate j
-    lower_before : (i j c d : ℕ) → slice_get gates i ≡ Some c → slice_get gates j ≡ Some d → heights c < heights d → i < j
-    lower_before i j c d e f lt = by_order (dec_lt i j)
-      where
-        not_after : IsGateBefore heights d c → ⊥
-        not_after (inl h) = omega arith
-        not_after (inr (s, h)) = omega arith
-
-        by_order : Dec (i < j) → i < j
-        by_order (yes l) = l
-        by_order (no out) = by_place (dec_lt j i)
-          where
-            by_place : Dec (j < i) → i < j
-            by_place (yes l) = absurd (not_after (sorted j i d c f e l))
-            by_place (no out') =
-                let s : i ≡ j = omega arith in
-                let t : slice_get gates j ≡ Some c = ap (slice_get gates) (sym s) ∙ e in
-                let u : c ≡ d = cc in
-                let v : heights c ≡ heights d = ap heights u in
-                absurd (omega arith)
-
     net_before : (j d q net : ℕ) → slice_get gates j ≡ Some d → heights q < heights d → IsNetOf g gates q net → net < n.inputs + j
     net_before j d q net e lt is_net = by_case (slice_get_append g.leaves gates net q is_net)
       where
         by_case : (net < length g.leaves) ⊎ ((i : ℕ) × (slice_get gates i ≡ Some q) × (net ≡ length g.leaves + i)) → net < n.inputs + j
         by_case (inl in') = let s = is.inputs in omega arith
-        by_case (inr (i, f, s)) = let l = lower_before i j q d f e lt in let t = is.inputs in omega arith
+        by_case (inr (i, f, s)) = let l = lower_before heights gates sorted i j q d f e lt in let t = is.inputs in omega arith
 
     nets_before : (j d : ℕ) (qs nets : List ℕ) → slice_get gates j ≡ Some d → AllByRecursion (λ q. suc (heights q) ≤ heights d) qs → AllZip (λ q net. IsNetOf g gates q net) qs nets → AllByRecursion (λ p. p < n.inputs + j) nets
     nets_before j d [] [] e a z = tt
