@@ -2,7 +2,7 @@
 and dark, on paper and at 400 pixels."""
 from html import escape
 
-from . import pictures, schematic, svg
+from . import fronts, pictures, schematic, svg
 from .pictures import figure, is_ours, judged, shown, unit
 
 LATEST = 24  # outputs in the table of arrivals
@@ -25,7 +25,7 @@ a { color: var(--link); }
 table { border-collapse: collapse; width: 100%; font-size: .92rem; margin: .4rem 0; }
 caption { text-align: left; color: var(--soft); padding-bottom: .2rem; }
 th, td { padding: .18rem .5rem .18rem 0; text-align: left; vertical-align: top; border-bottom: 1px solid var(--rule); }
-th { font-weight: 600; }
+th { font-weight: 600; overflow-wrap: normal; }
 .n { text-align: right; font-variant-numeric: tabular-nums; white-space: nowrap; overflow-wrap: normal; padding-left: .4rem; }
 .wide-cell { width: 34%; min-width: 4rem; padding-left: .4rem; }
 .kept td { background: var(--panel); font-weight: bold; }
@@ -33,6 +33,8 @@ th { font-weight: 600; }
 .scroll { overflow-x: auto; }
 svg { max-width: none; }
 figure { margin: .6rem 0; }
+ul { padding-left: 1.3rem; max-width: 46rem; }
+code { font-family: "Liberation Mono", "DejaVu Sans Mono", monospace; font-size: .92em; }
 .small-page { display: none; }
 @media (max-width: 759px) { .big-page { display: none; } .small-page { display: block; } body { padding: 1rem .7rem 2rem; }
   th, td { padding-right: .25rem; } .n { padding-left: .2rem; } table { font-size: .86rem; } .wide-cell { width: 18%; min-width: 2rem; } }
@@ -131,6 +133,15 @@ def heads_of(loads):
     return ["netlist"] + (["#sized delay, ps", "#sized area"] if loads else []) + ["#delay", "#area", "#gates"]
 
 
+def behind(found):
+    """What the names of the commands before the mappers mean, of those that occur."""
+    meaning = [("as given", "the design without any command of ABC"), ("if4", fronts.FRONTS["if4"]), ("dch+map", f"{fronts.FRONTS['dch+map']}"),
+               ("round", fronts.ROUND), ("loop", "a netlist of this search as a network again")]
+    names = " ".join(one["behind"] for one in found["netlists"])
+    said = [f"<b>{text(name)}</b> is {f'<code>{text(what)}</code>' if ';' in what else text(what)}" for name, what in meaning if name in names]
+    return f'<p class="soft">After the comma stands what ABC did before the mapper: {"; ".join(said)}.</p>'
+
+
 def tries(found):
     loads = found["library"]["loads"]
     kept = next((k for k, one in enumerate(found["netlists"]) if name_of(one) == name_of(found["kept"])), None)
@@ -138,7 +149,7 @@ def tries(found):
     parts = [f'<h2 id="tries">Every try</h2><p>A filled circle is a netlist of lwmap, a square one of ABC\'s map after the same commands. {judge} '
              "Left and low is better.</p><figure>",
              pictures.tries(found, 720).replace("<svg", '<svg class="big-page"', 1), pictures.tries(found, 344).replace("<svg", '<svg class="small-page"', 1), "</figure>",
-             table(heads_of(loads), rows_of_netlists(found["netlists"], loads), "Best first; the kept one is marked", kept)]
+             table(heads_of(loads), rows_of_netlists(found["netlists"], loads), "Best first; the kept one is marked", kept), behind(found)]
     return "".join(parts)
 
 
@@ -155,7 +166,9 @@ def path(found):
         rows.append([str(place + 1), text(step["cell"]) + pin, text(step["net"]), f"+{figure(step['delay'])}", figure(step["arrival"]),
                      svg.bar((step["arrival"] - step["delay"]) / most, step["delay"] / most, "b plain")])
     first = steps[0]
-    start = f"It begins at {text(first['from'])}, which arrives at {figure(first['arrival'] - first['delay'])}. " if first["from"] is not None else ""
+    start = f"It begins at {text(first['from'])}, which arrives at {figure(first['arrival'] - first['delay'])}" if first["from"] is not None else "It begins at a constant"
+    ends = next((pictures.read_by(one) for one in found["arrivals"] if one["arrival"] == steps[-1]["arrival"]), "")
+    start += f", and ends at {text(ends)}. "
     loads = "These are the delays of the cells without loads, in the netlist before sizing. " if found["library"]["loads"] else ""
     return (f'<h2 id="path">Critical path, gate by gate</h2><p>{start}{loads}Each row is a gate, with the pin on the path. Nothing arrives later than {figure(most)}.</p>'
             + table(["#", "cell, pin", "net", "#delay", "#arrival", ""], rows))
@@ -167,7 +180,7 @@ def arrivals(found):
         return ""
     most = latest[0]["arrival"] or 1
     for one in latest[:LATEST]:
-        rows.append([text(one["name"]), "register" if one["register"] else "output", figure(one["arrival"]), svg.bar(0, one["arrival"] / most, "a plain")])
+        rows.append([text(pictures.read_by(one)), "register" if one["register"] else "output", figure(one["arrival"]), svg.bar(0, one["arrival"] / most, "a plain")])
     rest = len(latest) - LATEST
     more = f" The other {rest} arrive by {figure(latest[LATEST]['arrival'])}; report.json has all." if rest > 0 else ""
     parts = [f'<h2 id="arrivals">Arrivals of outputs</h2><p>When each output, and each input of a register, has its value.{more}</p>']
@@ -239,6 +252,6 @@ def notes(found):
 def page(found):
     """The whole page."""
     title = f"{found['design']['top']} with {found['library']['file'].rsplit('/', 1)[-1]}"
-    parts = [head("lwflow: " + title), f"<h1>{text(title)}</h1>\n", answer(found), facts(found), tries(found), path(found), arrivals(found), cells(found), drawing(found),
-             trust(found), notes(found), f'<p class="soft">Written by {text(found["version"])}.</p>\n</body>\n</html>\n']
+    parts = [head("lwflow: " + title), f"<h1>{text(title)}</h1>\n", answer(found), facts(found), tries(found), trust(found), path(found), arrivals(found), cells(found),
+             drawing(found), notes(found), f'<p class="soft">Written by {text(found["version"])}.</p>\n</body>\n</html>\n']
     return "".join(parts)

@@ -24,6 +24,12 @@ def is_ours(one):
     return one["by"].startswith("lwmap")
 
 
+def read_by(one):
+    """What reads a root, in a few words; else the name of its net."""
+    readers = one["read_by"] or [one["net"]]
+    return readers[0] + (f" and {len(readers) - 1} more" if len(readers) > 1 else "")
+
+
 class Scale:
     """Values on an axis from one place to another, with some room at both ends."""
 
@@ -55,7 +61,7 @@ def tries(found, width, title=None):
         parts.append(svg.sign(shape, x(delay), y(area), kind))
     kept = judged(found["kept"])
     parts.append(svg.ring(x(kept[0]), y(kept[1])))
-    parts += labels(named(found), [(x(delay), y(area)) for delay, area in points], x, y, width, top)
+    parts += labels(named(found), [(x(delay), y(area)) for delay, area in points], x, y, (60, top - 14, width - 4, height - 48))
     draw = svg.whole if title else svg.inline
     return draw(width, height, of_tries(found), parts)
 
@@ -66,7 +72,7 @@ def unit(found):
 
 def legend(x, y):
     return [svg.sign(*OURS[:1], x + 4, y, OURS[1]), svg.text(x + 14, y + 4, "lwmap"), svg.sign(ABC[0], x + 84, y, ABC[1]), svg.text(x + 94, y + 4, "ABC's map"),
-            svg.ring(x + 184, y), svg.text(x + 196, y + 4, "kept")]
+            svg.ring(x + 190, y), svg.text(x + 204, y + 4, "kept")]
 
 
 def named(found):
@@ -78,7 +84,7 @@ def named(found):
     return {place: ", ".join(said) for place, said in names.items()}
 
 
-def labels(names, points, x, y, width, top):
+def labels(names, points, x, y, frame):
     """The names beside their signs, each at the side where it covers the fewest."""
     placed, parts = [], []
     for (delay, area), said in names.items():
@@ -89,7 +95,8 @@ def labels(names, points, x, y, width, top):
         def cost(side):
             _, base, _, left = side
             box = (left - 2, base - 12, left + long + 2, base + 4)
-            return (1000 * (box[0] < 60 or box[2] > width - 4 or box[1] < top - 14) + sum(100 for other in placed if meet(box, other)) +
+            outside = box[0] < frame[0] or box[1] < frame[1] or box[2] > frame[2] or box[3] > frame[3]
+            return (1000 * outside + sum(100 for other in placed if meet(box, other)) +
                     sum(1 for (ox, oy) in points if meet(box, (ox - 5, oy - 5, ox + 5, oy + 5))))
 
         best = min(sides, key=cost)

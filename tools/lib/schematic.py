@@ -64,7 +64,7 @@ class Drawing:
             self.columns[level[gate["net"]]].append(Place("gate", gate["net"], fits(gate["cell"], 12), level[gate["net"]]))
         for root in self.netlist["roots"]:
             at = level.get(root["net"], 0) + 1
-            self.columns[at].append(Place("root", root["name"], fits(root["name"]), at))
+            self.columns[at].append(Place("root", root["name"], fits((root["read_by"] or [root["name"]])[0]) + " .." * (len(root["read_by"]) > 1), at))
         self.connect(level, readers)
 
     def connect(self, level, readers):
