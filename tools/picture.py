@@ -27,12 +27,14 @@ KINDS = {"tries": lambda found: pictures.tries(found, 720, f"{found['design']['t
 def main(words):
     if len(words) != 2 or words[0] not in KINDS:
         sys.exit("picture: usage: python3 tools/picture.py tries|netlist|page REPORT")
-    with open(words[1], encoding="utf-8") as file:
-        found = json.load(file)
-    if not isinstance(found, dict) or "netlists" not in found:
-        raise Fault(f"{words[1]} is no report of lwflow")
+    try:
+        with open(words[1], encoding="utf-8") as file:
+            found = json.load(file)
+        found["netlists"], found["path"], found["netlist"]
+    except (ValueError, TypeError, KeyError):
+        raise Fault(f"{words[1]} is no report of lwflow") from None
     sys.stdout.write(KINDS[words[0]](found))
 
 
 if __name__ == "__main__":
-    script.run("picture", main, ValueError)
+    script.run("picture", main)

@@ -104,7 +104,7 @@ def answer(found):
     kept, status = found["kept"], found["status"]
     delay, area = judged(kept)
     parts = [f'<div class="answer{"" if status == 0 else " bad"}">']
-    parts.append(f"<p><b>Kept: {text(name_of(kept))}.</b> Delay <b>{figure(delay)}{unit_of(kept)}</b>, area <b>{figure(area)}</b>, {kept['gates']} gates.</p>")
+    parts.append(f"<p><b>Kept: {text(name_of(kept))}.</b> Delay <b>{figure(delay)}{unit_of(kept)}</b>, area <b>{figure(area)}</b>, {sum(one['count'] for one in found['cells'])} gates.</p>")
     said = []
     if is_ours(kept):
         said += [compared(kept, found[key], name) for key, name in (("abc", "ABC's best netlist of this search"),) if found[key]]
