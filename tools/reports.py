@@ -76,8 +76,8 @@ def means(reports):
     rows = []
     for (library, effort), several in groups.items():
         figures = [mean(ratio(found["kept"], found[to], which) for found in several) for to in ("abc", "abc_as_given") for which in (0, 1)]
-        rows.append([page.text(library), page.text(effort), str(len(several)), *figures])
-    heads = ["library", "effort", "#runs", "#delay to ABC's best", "#area", "#delay to ABC as given", "#area"]
+        rows.append([folds(library), page.text(effort), str(len(several)), *figures])
+    heads = ["@library", "effort", "#runs", "#delay to ABC's best", "#area", "#delay to ABC as given", "#area"]
     return "<h2>Means of the kept netlists</h2><p>Geometric means; below 1 is earlier or smaller than ABC's.</p>" + page.table(heads, rows)
 
 
@@ -113,18 +113,23 @@ def marks(values):
     return [step * turn for turn in range(max(1, int(least / step)), int(most / step) + 2)]
 
 
+def folds(name):
+    """A name that a line may end in, behind its dots and strokes."""
+    return page.text(name).replace(".", ".<wbr>").replace("/", "/<wbr>")
+
+
 def table(rows):
     """Every run, with a link to its report."""
     cells = []
     for one in rows:
-        name = f'<a href="{page.text(one["run"])}/report.html">{page.text(one["run"])}</a>'
+        name = f'<a href="{page.text(one["run"])}/report.html">{folds(one["run"])}</a>'
         if "fault" in one:
-            cells.append([page.text(one["run"]), f'<span class="not">no netlist</span>: {page.text(one["fault"])}', "", "", "", "", ""])
+            cells.append([folds(one["run"]), f'<span class="not">no netlist</span>: {page.text(one["fault"])}'])
             continue
         verdict = "" if one["steps"] == one["shown"] else f' <span class="not">{one["shown"]} of {one["steps"]} steps shown</span>'
         cells.append([name, page.text(one["kept_by"]) + verdict, *(page.text(one.get(key, "-")) for key in
                       ("delay", "area", "abc_delay", "abc_area", "processor_seconds"))])
-    heads = ["run", "kept", "#delay", "#area", "#ABC's best: delay", "#area", "#seconds"]
+    heads = ["@run", "kept", "#delay", "#area", "#ABC's delay", "#ABC's area", "#seconds"]
     return "<h2>Every run</h2>" + page.table(heads, cells, "Seconds are of processor time")
 
 

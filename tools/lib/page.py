@@ -27,6 +27,8 @@ caption { text-align: left; color: var(--soft); padding-bottom: .2rem; }
 th, td { padding: .18rem .5rem .18rem 0; text-align: left; vertical-align: top; border-bottom: 1px solid var(--rule); }
 th { font-weight: 600; overflow-wrap: normal; }
 .n { text-align: right; font-variant-numeric: tabular-nums; white-space: nowrap; overflow-wrap: normal; padding-left: .4rem; }
+th.n { white-space: normal; }
+.name { min-width: 8.5rem; }
 .wide-cell { width: 34%; min-width: 4rem; padding-left: .4rem; }
 .kept td { background: var(--panel); font-weight: bold; }
 .bar { display: block; margin-top: .42rem; }
@@ -37,7 +39,8 @@ ul { padding-left: 1.3rem; max-width: 46rem; }
 code { font-family: "Liberation Mono", "DejaVu Sans Mono", monospace; font-size: .92em; }
 .small-page { display: none; }
 @media (max-width: 759px) { .big-page { display: none; } .small-page { display: block; } body { padding: 1rem .7rem 2rem; }
-  th, td { padding-right: .25rem; } .n { padding-left: .2rem; } table { font-size: .86rem; } .wide-cell { width: 18%; min-width: 2rem; } }
+  th, td { padding-right: .25rem; } .n { padding-left: .2rem; } table { font-size: .86rem; } .wide-cell { width: 18%; min-width: 2rem; }
+  .name { min-width: 5.6rem; } }
 @media screen and (prefers-color-scheme: dark) { :root { --ink: #e6edf3; --soft: #9198a1; --rule: #30363d; --ground: #0d1117; --panel: #161b22;
   --link: #79c0ff; --good: #56d364; --bad: #ff7b72; --late: #f0883e; } }
 @media print { @page { margin: 14mm; } body { font-size: 10.5pt; padding: 0; max-width: none; } .big-page { display: block !important; }
@@ -72,13 +75,16 @@ def head(title):
 
 
 def table(heads, rows, caption="", kept=None):
-    """A table. A head that begins with # is of numbers, one that is empty is of bars; cells are HTML."""
-    kinds = ["n" if head.startswith("#") else "wide-cell" if not head else "" for head in heads]
+    """A table. A head that begins with # is of numbers, with @ of names, and an empty one is of bars; cells are HTML, and the last
+    one of a short row takes the rest of it."""
+    kinds = [{"#": "n", "@": "name", "": "wide-cell"}.get(head[:1], "") for head in heads]
     parts = ['<div class="scroll"><table>', f"<caption>{text(caption)}</caption>" if caption else "", "<thead><tr>"]
-    parts += [f'<th scope="col" class="{kind}">{text(head.lstrip("#"))}</th>' if head else '<td class="wide-cell"></td>' for head, kind in zip(heads, kinds)]
+    parts += [f'<th scope="col" class="{kind}">{text(head.lstrip("#@"))}</th>' if head else '<td class="wide-cell"></td>' for head, kind in zip(heads, kinds)]
     parts.append("</tr></thead><tbody>\n")
     for place, row in enumerate(rows):
-        parts.append(f'<tr{" class=kept" if place == kept else ""}>' + "".join(f'<td class="{kind}">{cell}</td>' for cell, kind in zip(row, kinds)) + "</tr>\n")
+        ends = f' colspan="{len(kinds) - len(row) + 1}"' if len(row) < len(kinds) else ""
+        cells_ = [f'<td class="{kind}"{ends if k == len(row) - 1 else ""}>{cell}</td>' for k, (cell, kind) in enumerate(zip(row, kinds))]
+        parts.append(f'<tr{" class=kept" if place == kept else ""}>{"".join(cells_)}</tr>\n')
     return "".join(parts) + "</tbody></table></div>\n"
 
 
@@ -130,7 +136,7 @@ def rows_of_netlists(netlists, loads):
 
 
 def heads_of(loads):
-    return ["netlist"] + (["#sized delay, ps", "#sized area"] if loads else []) + ["#delay", "#area", "#gates"]
+    return ["@netlist"] + (["#sized delay, ps", "#sized area"] if loads else []) + ["#delay", "#area", "#gates"]
 
 
 def behind(found):
@@ -171,7 +177,7 @@ def path(found):
     start += f", and ends at {text(ends)}. "
     loads = "These are the delays of the cells without loads, in the netlist before sizing. " if found["library"]["loads"] else ""
     return (f'<h2 id="path">Critical path, gate by gate</h2><p>{start}{loads}Each row is a gate, with the pin on the path. Nothing arrives later than {figure(most)}.</p>'
-            + table(["#", "cell, pin", "net", "#delay", "#arrival", ""], rows))
+            + table(["# ", "cell, pin", "net", "#delay", "#arrival", ""], rows))
 
 
 def arrivals(found):
