@@ -27,19 +27,24 @@ esac
 prefix=$1
 list=share/lwmap/INSTALLED
 
-# Takes out what the list names, the folders that it made last, if nothing else is in them.
-take_out() {
-    while read -r kind name; do
-        case $kind in file) rm -f -- "$prefix/$name" ;; esac
-    done <"$prefix/$list"
-    find "$prefix/share/lwmap" -name __pycache__ -prune -exec rm -rf {} + # (what Python leaves beside its modules)
-    grep '^folder ' "$prefix/$list" | sort -r >"$prefix/$list.folders"
-    rm -f -- "$prefix/$list"
-    folders=$(cat "$prefix/$list.folders")
-    rm -f -- "$prefix/$list.folders"
-    printf '%s\n' "$folders" | while read -r _ name; do rmdir -- "$prefix/$name" 2>/dev/null || :; done
+# Lines as the words of a command, in PREFIX.
+with_all() { # COMMAND..
+    (cd -- "$prefix" && tr '\n' '\0' | xargs -0r "$@")
 }
 
+# Takes out what the list names, the folders that it made last, if nothing else is in them.
+take_out() {
+    sed -n 's/^file //p' "$prefix/$list" >"$room/gone"
+    sed -n 's/^folder //p' "$prefix/$list" | sort -r >"$room/emptied"
+    with_all rm -f -- <"$room/gone"
+    find "$prefix/share/lwmap" -name __pycache__ -prune -exec rm -rf {} + # (what Python leaves beside its modules)
+    with_all rmdir --ignore-fail-on-non-empty -- <"$room/emptied"
+}
+
+room=$(mktemp -d)
+stage=
+trap 'rm -rf "$room" "$stage"' EXIT
+trap 'exit 1' HUP INT TERM
 if [ -n "$remove" ]; then
     [ -f "$prefix/$list" ] || fail "$prefix/$list is missing, so nothing is known of an installation in $prefix"
     take_out
@@ -64,15 +69,10 @@ done
 mkdir -p -- "$prefix" 2>/dev/null && [ -w "$prefix" ] || fail "$prefix cannot be written; choose a folder of yours, such as $HOME/.local, or become root"
 prefix=$(readlink -f -- "$prefix")
 stage=$(mktemp -d "$prefix/.lwmap.XXXXXX")
-room=$(mktemp -d)
-trap 'rm -rf "$stage" "$room"' EXIT
-trap 'exit 1' HUP INT TERM
 share=$stage/share/lwmap
 mkdir -p "$stage/bin" "$share/release" "$share/libs" "$stage/share/man/man1" "$stage/share/bash-completion/completions" "$stage/share/doc/lwmap"
-cp -- "$root/lwflow" "$root/CHANGELOG.md" "$share/"
-(cd "$root" && find tools -type f ! -name '*.pyc' ! -name '*.md' ! -path '*/.*') | while read -r file; do
-    mkdir -p "$share/$(dirname "$file")" && cp -- "$root/$file" "$share/$file"
-done
+tar -C "$root" -cf - --exclude='*.pyc' --exclude=__pycache__ --exclude='*.md' tools lwflow | tar -C "$share" -xf -
+cp -- "$root/CHANGELOG.md" "$share/"
 cp -- "$root"/bench/libs/*.genlib "$share/libs/"
 cp -- "$root/release/install.sh" "$share/release/"
 cat >"$share/release/program.sh" <<'PROGRAM'
@@ -97,24 +97,21 @@ find "$stage/bin" "$share" -type f \( -path '*/bin/*' -o -name '*.sh' -o -name l
 find "$stage" -type d -exec chmod 755 {} +
 
 # What stands in the way, then the exchange.
+: >"$stage/$list"
 (cd "$stage" && find . ! -type d | sed 's|^\./||' | sort) >"$room/files"
 (cd "$stage" && find . -mindepth 1 -type d | sed 's|^\./||' | sort) >"$room/folders"
-while read -r file; do
-    if [ -e "$prefix/$file" ] || [ -L "$prefix/$file" ]; then
-        grep -qxF "file $file" "$prefix/$list" 2>/dev/null || fail "$prefix/$file is there already and is not of an installation by this script; nothing was changed"
-    fi
-done <"$room/files"
+sed -n 's/^file //p' "$prefix/$list" 2>/dev/null | sort >"$room/ours" || :
+with_all ls -d -- <"$room/files" 2>/dev/null | sort | comm -23 - "$room/ours" >"$room/others" || :
+[ ! -s "$room/others" ] || fail "$prefix/$(head -n 1 "$room/others") is there already and is not of an installation by this script; nothing was changed"
 if [ -f "$prefix/$list" ]; then take_out; fi
-: >"$room/list"
-while read -r folder; do
-    if [ ! -d "$prefix/$folder" ]; then mkdir -- "$prefix/$folder" && echo "folder $folder" >>"$room/list"; fi
-done <"$room/folders"
-sed 's/^/file /' "$room/files" >>"$room/list"
-cp "$room/list" "$prefix/$list"
-while read -r file; do mv -f -- "$stage/$file" "$prefix/$file"; done <"$room/files"
+{ with_all ls -d -- <"$room/folders" 2>/dev/null || :; } | sort | comm -13 - "$room/folders" >"$room/made"
+with_all mkdir -- <"$room/made"
+{ sed 's/^/folder /' "$room/made" && sed 's/^/file /' "$room/files"; } >"$prefix/$list"
+cp "$prefix/$list" "$stage/$list"
+cp -a "$stage/." "$prefix/" || { take_out && fail "not everything could be written into $prefix, so nothing is installed"; }
 
 # shellcheck disable=SC2086
-echo "install:" $programs "lwflow yosys-lwmap in $prefix/bin; take out with: sh $prefix/share/lwmap/release/install.sh -u $prefix"
+echo "install:" $programs "lwflow yosys-lwmap in $prefix/bin; take out with: sh '$prefix/share/lwmap/release/install.sh' -u '$prefix'"
 case ":$PATH:" in *":$prefix/bin:"*) ;; *) echo "install: $prefix/bin is not in PATH; add it to run the programs by their names" ;; esac
 for tool in python3 yosys berkeley-abc; do
     command -v "$tool" >/dev/null || echo "install: lwflow needs $tool, which is not on this machine; apt-get install $tool"

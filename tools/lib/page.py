@@ -45,7 +45,7 @@ code { font-family: "Liberation Mono", "DejaVu Sans Mono", monospace; font-size:
   --link: #79c0ff; --good: #56d364; --bad: #ff7b72; --late: #f0883e; } }
 @media print { @page { margin: 14mm; } body { font-size: 10.5pt; padding: 0; max-width: none; } .big-page { display: block !important; }
   .small-page { display: none !important; } .scroll { overflow: visible; } .scroll svg, .big-page { max-width: 100%; height: auto; }
-  h2 { break-after: avoid; } tr, figure, .answer { break-inside: avoid; } a { color: inherit; } }
+  h2, h2 + p, caption { break-after: avoid; } tr, figure, .answer { break-inside: avoid; } a { color: inherit; } }
 """
 HEAD = """<!DOCTYPE html>
 <html lang="en">
@@ -227,16 +227,20 @@ REASONS = [
 WORDS = {"equal": ("shown", "shown"), "undecided": ("not", "not decided"), "different": ("not", "DIFFERENT")}
 
 
+def listed(several):
+    """Things in a row, the last one behind an 'and'."""
+    return " and ".join([", ".join(several[:-1])] * (len(several) > 1) + several[-1:])
+
+
 def trust(found):
     steps = found["steps"]
     rows = [[f'<span class="{WORDS[step["verdict"]][0]}">{WORDS[step["verdict"]][1]}</span>', text(step["what"]) + (f' ({text(step["why"])})' if step["why"] else "")]
             for step in steps]
     said = " ".join(step["what"] for step in steps)
     reasons = [f"<li><b>{text(word)}</b>: {text(why)}</li>" for word, why in REASONS if word in said]
-    trusted = "What you trust beside that: ABC's cec" + (", Yosys where it reads and writes Verilog" if found["design"]["kind"] == "Verilog" else "") + (
-        ", and the proof checker of Rattle." if "theorem" in said else ".")
+    trusted = ["ABC's cec"] + ["Yosys where it reads and writes Verilog"] * (found["design"]["kind"] == "Verilog") + ["the proof checker of Rattle"] * ("theorem" in said)
     return ('<h2 id="trust">Why it can be trusted</h2><p>Each step from the design to mapped.v was compared by itself. If every step is shown, mapped.v does what the '
-            "design says.</p>" + table(["result", "step"], rows) + f"<ul>{''.join(reasons)}</ul><p>{trusted}</p>")
+            "design says.</p>" + table(["result", "step"], rows) + f"<ul>{''.join(reasons)}</ul><p>What you trust beside that: {text(listed(trusted))}.</p>")
 
 
 def facts(found):

@@ -90,7 +90,8 @@ def labels(names, points, x, y, frame):
     for (delay, area), said in names.items():
         px, py, long = x(delay), y(area), LETTER * len(said)
         sides = [(px + 12, py + 4, "start", px + 12), (px - 12, py + 4, "end", px - 12 - long), (px, py - 12, "middle", px - long / 2),
-                 (px, py + 22, "middle", px - long / 2), (px + 10, py - 12, "start", px + 10), (px - 10, py + 20, "end", px - 10 - long)]
+                 (px, py + 22, "middle", px - long / 2), (px + 10, py - 12, "start", px + 10), (px - 10, py + 20, "end", px - 10 - long),
+                 (px - 8, py - 12, "end", px - 8 - long), (px + 8, py + 20, "start", px + 8)]
 
         def cost(side):
             _, base, _, left = side
