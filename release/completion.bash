@@ -1,3 +1,4 @@
+# shellcheck shell=bash
 # Completion for bash: commands, options and files of lwmap, and options of lwflow.
 _lwmap() {
     local word=${COMP_WORDS[COMP_CWORD]} before=${COMP_WORDS[COMP_CWORD - 1]}

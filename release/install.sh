@@ -89,7 +89,7 @@ for program in $programs lwflow yosys-lwmap; do
     *) cp -- "$root/release/$program" "$stage/bin/" ;;
     esac
     [ ! -f "$root/release/man/$program.1" ] || cp -- "$root/release/man/$program.1" "$stage/share/man/man1/"
-    [ "$program" = yosys-lwmap ] || cp -- "$root/release/completion.bash" "$stage/share/bash-completion/completions/$program"
+    grep -q "^complete .* $program\$" "$root/release/completion.bash" && cp -- "$root/release/completion.bash" "$stage/share/bash-completion/completions/$program"
 done
 cp -- "$root/LICENSE-MIT" "$root/LICENSE-APACHE" "$root/README.md" "$stage/share/doc/lwmap/"
 find "$stage" -type f -exec chmod 644 {} +

@@ -74,7 +74,7 @@ def chromium(words):
     home = tempfile.mkdtemp()
     try:
         return subprocess.run(["chromium", "--headless", "--no-sandbox", "--disable-gpu", "--hide-scrollbars", f"--user-data-dir={home}", *words],
-                              stdout=subprocess.PIPE, stderr=subprocess.DEVNULL, timeout=120, check=False).stdout.decode("utf-8", "replace")
+                              stdout=subprocess.PIPE, stderr=subprocess.DEVNULL, timeout=600, check=False).stdout.decode("utf-8", "replace")
     finally:
         shutil.rmtree(home, ignore_errors=True)
 

@@ -182,7 +182,7 @@ swept() { # WHAT FOLDER: three runs, one without a netlist
 }
 
 snake() { # WORD..
-    (cd "$room/here" && timeout 300 snakemake -q -s tools/sweep/Snakefile "$@") >"$room/out" 2>&1
+    (cd "$room/here" && timeout 900 snakemake -q -s tools/sweep/Snakefile "$@") >"$room/out" 2>&1
 }
 
 prepare() { # (Snakemake keeps its records in the folder that it is called in)
@@ -212,7 +212,7 @@ sweep() {
 slurm() {
     ! lacks "nothing was tried on Slurm" snakemake python3 berkeley-abc sbatch || return
     prepare && plan "$room/cluster" >"$room/plan.yaml"
-    (cd "$room/here" && timeout 300 sh tests/slurm.sh snakemake -q -s tools/sweep/Snakefile --configfile "$room/plan.yaml" --profile tools/sweep/slurm) >"$room/out" 2>&1
+    (cd "$room/here" && timeout 900 sh tests/slurm.sh snakemake -q -s tools/sweep/Snakefile --configfile "$room/plan.yaml" --profile tools/sweep/slurm) >"$room/out" 2>&1
     status=$?
     if [ $status -eq 77 ]; then tail -n 1 "$room/out" && return; fi
     [ $status -eq 0 ] && [ "$(grep -c 'Submitted job' "$room/out")" -eq 3 ]
