@@ -17,8 +17,9 @@ each netlist under its loads, and the sized delay judges; --no-loads has the del
 """
 MORE = """
 The folder gets mapped.blif (the mapper's netlist, with its certificate where lwmap made it), mapped.v (that netlist, or with
-Liberty the sized one, as Verilog with the design's ports), cells.v (its cells), report.json and log.txt. Files are moved into
-place at the end; what was there before stays where nothing was found.
+Liberty the sized one, as Verilog with the design's ports), cells.v (its cells), report.html and report.json (every try, what was
+shown, the critical path, arrivals and cells) and log.txt. Files are moved into place at the end; what was there before stays
+where nothing was found.
 
 status  0  a netlist, and every step from the design to it was shown
         1  no netlist: standard error says why
