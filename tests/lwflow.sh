@@ -104,6 +104,16 @@ run "models in models, with a clock" 0 'models in models by Yosys' -q -l $librar
 run "a mapped netlist" 0 '.gate as the function of its cell' -q --effort fast -l $library "$room/gates.blif"
 berkeley-abc -q "read_blif bench/circuits/rca8_y.blif; strash; write_aiger $room/x.aig" >/dev/null 2>&1
 run "AIGER" 0 'every step was shown' -q --effort fast -l $library "$room/x.aig"
+printf 'aag 7 2 1 3 4\n2\n4\n6 14 1\n6\n15\n0\n8 2 4\n10 3 5\n12 9 11\n14 12 7\ni0 x\ni1 y\nl0 q\no0 q\no1 y\nc\nno symbol\n' >"$room/x.aag"
+run "AIGER's text format" 0 "shown: file to network, beside Yosys's reading" -q --effort fast -l $library "$room/x.aag"
+grep -q '^\.outputs q y_2 o2$' "$room/made/mapped.blif" && grep -q '^\.latch .* q 1$' "$room/made/mapped.blif"
+verdict "AIGER's text format: names and first values" $?
+sed 's/^14 12 7/14 12 16/' "$room/x.aag" >"$room/y.aag"
+run "AIGER without sense" 1 'y.aag: line 12: 3 literals of at most 15 expected' -q -l $library "$room/y.aag"
+printf '.model k\n.inputs d c\n.outputs q\n.latch d q re c 0\n.end\n' >"$room/latch.blif"
+run "a latch alone" 0 'every step was shown' -q --effort fast -l $library "$room/latch.blif"
+! grep -q '^left out' "$room/out"
+verdict "a latch alone: nothing is left out" $?
 python3 lwflow -q -o "$room/made" --effort fast -l $library - <bench/circuits/rca8_y.blif >"$room/out" 2>"$room/err"
 verdict "standard input" $?
 run "an area within 110% of the least delay" 0 'every step was shown' -q --area 110% -l $library bench/circuits/rca8_y.blif

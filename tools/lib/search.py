@@ -158,6 +158,16 @@ def rounds(work, base):
     return made, netlists
 
 
+def fronts_of(work, base):
+    """All networks and ABC's netlists behind them. Without nodes there is nothing to restructure, and ABC ends in an assertion."""
+    if not work.size:
+        work.told("no nodes")
+        return [], []
+    work.told(f"{work.size} nodes; front ends by ABC")
+    (made, netlists), (more, others) = work.each(lambda step: step(work, base), [cheap_fronts, rounds])
+    return made + more, netlists + others
+
+
 def again(work, netlist, turn):
     """A netlist as a network once more, behind choices and a mapping by ABC: the network, or None; and ABC's netlist."""
     plain = plain_of(work, netlist, f"plain{turn}.blif")
@@ -254,10 +264,9 @@ def search(work):
     """All netlists that were found, ours and ABC's."""
     work.write("cut.blif", blif.cut(work.path(work.design)))
     base = Network("cut.blif", GIVEN)
-    work.told(f"{work.size} nodes; front ends by ABC")
-    (made, netlists), (more, others) = work.each(lambda step: step(work, base), [cheap_fronts, rounds])
-    last_step(work, [base] + made + more)
-    keep_theirs(work, netlists + others)
+    made, netlists = fronts_of(work, base)
+    last_step(work, [base] + made)
+    keep_theirs(work, netlists)
     if not work.netlists:
         why = "; ".join(dict.fromkeys(work.lost))
         why += "; --no-loads sizes nothing" if "sizing" in why else ""
