@@ -177,6 +177,9 @@ verdict "in ABC's place inside Yosys" $?
 yosys -q -l "$room/log" -p "read_verilog examples/verilog/five.v; synth -flatten -noabc -top five; abc -exe $root/tools/yosys-lwmap -genlib $root/README.md" >"$room/out" 2>"$room/err"
 [ $? -ne 0 ] && grep -q 'ABC: lwmap: no netlist: .*GATE expected' "$room/log"
 verdict "in Yosys with what is no library" $?
+yosys -p "read_verilog examples/verilog/five.v; synth -flatten -noabc -top five; abc -exe $root/tools/yosys-lwmap -genlib $root/README.md" 2>"$room/err" | cat >"$room/out"
+grep -q '^ABC: lwmap: no netlist: .*GATE expected' "$room/out"
+verdict "in Yosys with what is no library, through a pipe" $?
 
 echo "$passed passed, $failed failed"
 [ "$failed" -eq 0 ] && [ "$passed" -gt 0 ]
