@@ -3,7 +3,7 @@ import os
 import re
 import shutil
 
-from . import abc, aiger, blif, genlib, program, runs, timing, yosys
+from . import abc, aiger, blif, genlib, program, runs, search, timing, yosys
 from .proof import Step, same
 from .script import Fault
 
@@ -88,7 +88,7 @@ class Network:
         if not blif.first_word(self.given, (".model", "\xef\xbb\xbf.model", ".inputs", ".outputs", ".names")):
             raise Fault(f"{self.given} is no BLIF: it has no .model, .inputs or .names; Verilog ends in .v or .sv, AIGER in .aig or .aag")
         why = self.refused("read.blif")
-        if why is None:
+        if why is None or why.endswith(f"more than {search.SIGNALS} signals"):
             return
         changes = rewrite(self.given, self.path("rewritten.blif"), self.library.cells)
         if blif.first_word(self.path("rewritten.blif"), (".subckt",)):

@@ -18,6 +18,8 @@ EFFORTS = {
     "best": Effort(("if4", "dch+map"), 4, 20, (6, 8), 30, 40),
 }
 GIVEN = "as given"
+LARGE = 1500
+SIGNALS = 262144
 
 
 class Network:
@@ -61,6 +63,7 @@ class Work:
         self.ports = blif.ports_of(self.path(design))
         self.bare = not self.ports.latches and not self.ports.starts
         self.size = sum(words[0] == ".names" for words in self.ports.rest)
+        self.quick = effort == "fast" and self.size > LARGE
         scale = 1 + self.size / 2500
         self.search = limit or self.effort.search * scale
         self.proof = limit or self.effort.proof * scale
@@ -119,11 +122,11 @@ def cheap_script(names):
     return "; ".join(commands)
 
 
-def rounds_script(count):
+def rounds_script(count, one):
     """ABC's commands for some rounds: for each the network of nodes of two inputs (s1, s2, ..), ABC's netlist, and the
     front, which has the functions of that netlist's cells as its nodes."""
     commands = ["read_genlib padded.genlib", "read_blif cut.blif", "strash"]
-    first, choices = fronts.ROUND.rsplit("; ", 1)
+    first, choices = one.rsplit("; ", 1)
     for k in range(1, count + 1):
         commands += [first, f"write_blif s{k}.blif", choices, "backup", "map", f"write_blif abc.round{k}.blif", "unmap", "sop",
                      f"write_blif round{k}.blif", "restore"]
@@ -131,8 +134,9 @@ def rounds_script(count):
 
 
 def cheap_fronts(work, base):
-    """The networks of the fronts that ABC makes at once, and ABC's netlists: file, network, and what is said of it."""
-    names = work.effort.fronts
+    """The networks of the fronts that ABC makes at once, and ABC's netlists: file, network, and what is said of it. The least effort
+    leaves them out for a large network, where a round is nearly always better."""
+    names = () if work.quick else work.effort.fronts
     ended = abc.call(cheap_script(names), work.room, "fronts.log", work.search)
     made = [Network(f"{name}.blif", f"behind {name}", base) for name in names if abc.whole(work.path(f"{name}.blif"))]
     if len(made) < len(names):
@@ -144,7 +148,7 @@ def cheap_fronts(work, base):
 def rounds(work, base):
     """The same behind rounds of restructuring. Of several each is a step of its own, which cec decides more easily."""
     count = work.effort.rounds
-    ended = abc.call(rounds_script(count), work.room, "rounds.log", work.search)
+    ended = abc.call(rounds_script(count, fronts.QUICK if work.quick else fronts.ROUND), work.room, "rounds.log", work.search)
     made, netlists, before = [], [], base
     for k in range(1, count + 1):
         if not all(abc.whole(work.path(f"{part}{k}.blif")) for part in ("s", "abc.round", "round")):
@@ -262,6 +266,10 @@ def keep_theirs(work, found):
 
 def search(work):
     """All netlists that were found, ours and ABC's."""
+    signals = work.size + len(work.ports.inputs) + len(work.ports.latches)
+    if signals > SIGNALS:
+        raise Fault(f"the network has {signals} signals, and lwmap takes {SIGNALS}; map its modules one by one, as tools/yosys-lwmap in Yosys "
+                    "does for a design that is not flattened")
     work.write("cut.blif", blif.cut(work.path(work.design)))
     base = Network("cut.blif", GIVEN)
     made, netlists = fronts_of(work, base)
@@ -270,7 +278,7 @@ def search(work):
     if not work.netlists:
         why = "; ".join(dict.fromkeys(work.lost))
         why += "; --no-loads sizes nothing" if "sizing" in why else ""
-        raise Fault("no netlist: " + why + ("; tools/yosys-lwmap in Yosys maps a large design module by module" if "signals" in why else ""))
+        raise Fault("no netlist: " + why)
     loop(work)
     return work.netlists
 
