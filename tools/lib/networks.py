@@ -88,8 +88,10 @@ class Network:
         if not blif.first_word(self.given, (".model", "\xef\xbb\xbf.model", ".inputs", ".outputs", ".names")):
             raise Fault(f"{self.given} is no BLIF: it has no .model, .inputs or .names; Verilog ends in .v or .sv, AIGER in .aig or .aag")
         why = self.refused("read.blif")
-        if why is None or why.endswith(f"more than {search.SIGNALS} signals"):
+        if why is None:
             return
+        if why.endswith(f"more than {search.SIGNALS} signals"):
+            raise Fault(f"{self.given}: {search.TOO_LARGE}")
         changes = rewrite(self.given, self.path("rewritten.blif"), self.library.cells)
         if blif.first_word(self.path("rewritten.blif"), (".subckt",)):
             self.by_yosys(self.path("rewritten.blif"))

@@ -20,6 +20,8 @@ EFFORTS = {
 GIVEN = "as given"
 LARGE = 1500
 SIGNALS = 262144
+TOO_LARGE = (f"the network has more than {SIGNALS} signals, the most that lwmap takes; map its modules one by one, as tools/yosys-lwmap "
+             "in Yosys does for a design that is not flattened")
 
 
 class Network:
@@ -266,10 +268,8 @@ def keep_theirs(work, found):
 
 def search(work):
     """All netlists that were found, ours and ABC's."""
-    signals = work.size + len(work.ports.inputs) + len(work.ports.latches)
-    if signals > SIGNALS:
-        raise Fault(f"the network has {signals} signals, and lwmap takes {SIGNALS}; map its modules one by one, as tools/yosys-lwmap in Yosys "
-                    "does for a design that is not flattened")
+    if work.size + len(work.ports.inputs) + len(work.ports.latches) > SIGNALS:
+        raise Fault(TOO_LARGE)
     work.write("cut.blif", blif.cut(work.path(work.design)))
     base = Network("cut.blif", GIVEN)
     made, netlists = fronts_of(work, base)
