@@ -115,7 +115,7 @@ run "AIGER's text format" 0 "shown: file to network, beside Yosys's reading" -q 
 grep -q '^\.outputs q y_2 o2$' "$room/made/mapped.blif" && grep -q '^\.latch .* q 1$' "$room/made/mapped.blif"
 verdict "AIGER's text format: names and first values" $?
 sed 's/^14 12 7/14 12 16/' "$room/x.aag" >"$room/y.aag"
-run "AIGER without sense" 1 'y.aag: line 12: 3 literals of at most 15 expected' -q -l $library "$room/y.aag"
+run "AIGER without sense" 1 'y.aag: line 11: 3 literals of at most 15 expected' -q -l $library "$room/y.aag"
 printf '.model k\n.inputs d c\n.outputs q\n.latch d q re c 0\n.end\n' >"$room/latch.blif"
 run "a latch alone" 0 'every step was shown' -q --effort fast -l $library "$room/latch.blif"
 ! grep -q '^left out' "$room/out"

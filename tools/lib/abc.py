@@ -49,7 +49,7 @@ def swept(one, other, room, log, limit):
 
 def cec(one, other, room, log, limit):
     """Whether two networks in a folder compute the same: 'equal', 'different' or 'undecided', and why."""
-    if same(os.path.join(room, one), os.path.join(room, other)) or swept(one, other, room, log + ".swept", limit):
+    if same(os.path.join(room, one), os.path.join(room, other)) or swept(one, other, room, log + ".swept", limit / 2):
         return "equal", ""
     path = os.path.join(room, log)
     if os.path.exists(path):
