@@ -5,7 +5,7 @@
 
   -e EFFORTS  efforts of lwflow, in one word ('fast normal best')
   -l LIBS     libraries, in one word: names of bench/libs, files of genlib, 'osu035' for Debian's qflow-tech-osu035 by delays of
-              cells, 'osu035+loads' where the delay of the netlist that ABC has buffered and sized under loads counts
+              cells, 'osu035+loads' for the delays of netlists that ABC has buffered and sized under loads
               ('tiny mcnc rich osu035 osu035+loads')
   -r RAW      the file of raw results, a line of CSV each (quality.csv); what stands there is not measured again
   -n          measures nothing, and prints the tables of what RAW has
@@ -13,9 +13,9 @@
 
 Without words the circuits are those of bench/circuits and bench/further. For each library there is a table: for each flow the geometric means of
 delay and area to ABC's 'strash; map' of the circuit as given, the processor seconds of all its circuits, and how many circuits it
-has; 'ABC, best' is by circuit the best of ABC's flows. The means of two flows can be compared where both have all
+has; 'ABC, best' is by circuit the best of ABC's flows. The means of two flows can be compared if both have all
 circuits; the lines 'on the same circuits' compare each effort of lwflow with ABC's best on the circuits that both have. Netlists
-of lwflow are counted where every step was shown; how many were not is said. One step at a time is run.
+of lwflow count even if a step was not decided; how many have one is said. One step at a time is run.
 """
 import csv
 import getopt

@@ -59,7 +59,7 @@ class Aiger:
             raise self.fault(f"nothing drives variable {missing[0]}")
 
     def symbols(self):
-        """The names, where they can stand in BLIF."""
+        """The names that BLIF can have."""
         while self.place < len(self.lines):
             line = self.lines[self.place]
             self.place += 1
@@ -77,7 +77,7 @@ class Nets:
         self.found, self.used = found, {}
 
     def fresh(self, wanted, literal=None):
-        """The wanted name, or with a number behind it where another net has it."""
+        """The wanted name, or with a number after it if another net has it."""
         names = itertools.chain([wanted], (f"{wanted}_{k}" for k in itertools.count(2)))
         name = next(one for one in names if one not in self.used or literal is not None and self.used[one] == literal)
         self.used.setdefault(name, literal)
@@ -110,7 +110,7 @@ def blif_of(path):
 
 
 def plain(path):
-    """The file without names, and with each latch as an input and an output behind the others: what it computes from one state on."""
+    """The file without names, and with each latch as an input and an output after the others."""
     found = Aiger(path)
     own, reads = [latch[0] for latch in found.latches], [latch[1] for latch in found.latches]
     inputs, outputs = found.inputs + own, found.outputs + reads

@@ -43,7 +43,7 @@ def ports_of(path):
 
 
 def ends_of(path):
-    """The inputs and the outputs that stand before the first node; None where the network has latches, or is no single one."""
+    """The inputs and the outputs that stand before the first node; None if it has latches or several models."""
     inputs, outputs, models = [], [], 0
     for words in lines(path):
         if words[0] == ".inputs":

@@ -83,7 +83,7 @@ class Network:
                    f"write_blif {self.path('read.blif')}", self.room, "read_yosys.log", self.limit)
 
     def by_lwmap(self):
-        """BLIF as it stands where lwmap reads it; else rewritten; models in models go through Yosys."""
+        """BLIF as it is if lwmap reads it, else rewritten; models in models go through Yosys."""
         shutil.copyfile(self.given, self.path("read.blif"))
         if not blif.first_word(self.given, (".model", "\xef\xbb\xbf.model", ".inputs", ".outputs", ".names")):
             raise Fault(f"{self.given} is no BLIF: it has no .model, .inputs or .names; Verilog ends in .v or .sv, AIGER in .aig or .aag")

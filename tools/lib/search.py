@@ -33,7 +33,7 @@ class Network:
 
 class Netlist:
     """A netlist of cells: its file with latches, the network that it covers, who made it (by) and behind what (where), the
-    width where it is ours, and its figures in millionths. Where loads judge, sized has delay, area and file of the sized one."""
+    width if it is ours, and its figures in millionths. If loads count, sized has delay, area and file of the sized one."""
 
     def __init__(self, file, network, by, where, width, figures):
         self.file, self.network, self.by, self.where, self.width = file, network, by, where, width
@@ -137,7 +137,7 @@ def rounds_script(count, one):
 
 def cheap_fronts(work, base):
     """The networks of the fronts that ABC makes at once, and ABC's netlists: file, network, and what is said of it. The least effort
-    leaves them out for a large network, where a round is nearly always better."""
+    leaves them out for a large network: a round is nearly always better."""
     names = () if work.quick else work.effort.fronts
     ended = abc.call(cheap_script(names), work.room, "fronts.log", work.search)
     made = [Network(f"{name}.blif", f"behind {name}", base) for name in names if abc.whole(work.path(f"{name}.blif"))]
