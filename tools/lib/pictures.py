@@ -85,9 +85,11 @@ def named(found):
 
 
 def labels(names, points, x, y, frame):
-    """The names beside their signs, a line for each, each label at the side where it covers the fewest."""
+    """The names beside their signs, in one line or in several, each label at the side where it covers the fewest."""
     placed, parts = [], []
     for (delay, area), said in names.items():
+        if LETTER * len(", ".join(said)) < (frame[2] - frame[0]) / 2:
+            said = [", ".join(said)]
         px, py, long, more = x(delay), y(area), LETTER * max(map(len, said)), 15 * (len(said) - 1)
         sides = [(px + 12, py + 4, "start", px + 12), (px - 12, py + 4, "end", px - 12 - long), (px, py - 12 - more, "middle", px - long / 2),
                  (px, py + 22, "middle", px - long / 2), (px + 10, py - 12 - more, "start", px + 10), (px - 10, py + 20, "end", px - 10 - long),
