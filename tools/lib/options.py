@@ -17,9 +17,8 @@ each netlist under its loads, and the sized delay judges; --no-loads has the del
 """
 MORE = """
 The folder gets mapped.blif (the mapper's netlist, with its certificate where lwmap made it), mapped.v (that netlist, or with
-Liberty the sized one, as Verilog with the design's ports), cells.v (its cells), report.html and report.json (every try, what was
-shown, the critical path, arrivals and cells) and log.txt. Files are moved into place at the end; what was there before stays
-where nothing was found.
+Liberty the sized one, as Verilog with the design's ports), cells.v (its cells), report.json and log.txt. Files are moved into
+place at the end; what was there before stays where nothing was found.
 
 status  0  a netlist, and every step from the design to it was shown
         1  no netlist: standard error says why
@@ -36,7 +35,8 @@ what --area means today
          them, where loads do not judge, the network has up to 5000 nodes, and it comes to an end
   T      the same within a delay of T, in the library's unit
 
-example: ./lwflow -l bench/libs/mcnc.genlib examples/verilog/uart.v
+example: ./lwflow -l bench/libs/mcnc.genlib examples/verilog/processor.v
+         processor.lwflow/report.html says then which try won, by how much, and what was shown
 """
 
 
