@@ -45,7 +45,7 @@ left() { # WHAT FILE..
     verdict "$what: the folder" $?
 }
 
-all='cells.v log.txt mapped.blif mapped.v report.json'
+all='cells.v log.txt mapped.blif mapped.v report.html report.json'
 run "a design without registers" 0 'every step was shown' -q --effort fast -l $library examples/verilog/adder.v
 # shellcheck disable=SC2086
 left "a design without registers" $all
