@@ -17,8 +17,9 @@ netlist under its loads, and the delay of the sized one counts; with --no-loads 
 """
 MORE = """
 The folder gets mapped.blif (the mapper's netlist, with its certificate if lwmap made it), mapped.v (that netlist, or with
-Liberty the sized one, as Verilog with the design's ports), cells.v (its cells), report.json and log.txt. Files are moved into
-place at the end; if no netlist was found, nothing changes.
+Liberty the sized one, as Verilog with the design's ports), cells.v (its cells), report.html and report.json (every try, what was
+shown, the critical path, arrivals and cells) and log.txt. Files are moved into place at the end; if no netlist was found, nothing
+changes.
 
 status  0  a netlist, and every step from the design to it was shown
         1  no netlist: standard error says why
