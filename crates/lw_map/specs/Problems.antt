@@ -7,7 +7,7 @@ use Rattle.lw_net.specs.Networks.{NetworkParts, IsNetwork, output_names}
 use Rattle.lw_genlib.specs.Cells.{CellParts, IsLibrary, IsSmall}
 use Rattle.lw_pattern.specs.Libraries.{library_patterns}
 use Rattle.lw_cost.specs.Least.{AreOfCells}
-use Rattle.lw_trade.specs.Areas.{area_cost}
+use Rattle.lw_choices.specs.Areas.{area_cost}
 use Rattle.lw_map.specs.declared.choices.Choices.{Choices}
 use Rattle.lw_map.specs.declared.problem.Problem.{Problem}
 use Rattle.lw_map.specs.Choices.{AreChoicesOf}
