@@ -23,6 +23,7 @@ use Rattle.lw_check.specs.declared.verdict.Verdict.{Verdict}
 use Rattle.lw_check.specs.Verdicts.{IsVerdict}
 use Rattle.lw_mapped.specs.Texts.{HasGateClasses}
 use Rattle.lw_map.specs.declared.choices.Choices.{Choices}
+use Rattle.lw_map.specs.declared.counting.Counts.{Counts}
 use Rattle.lw_map.specs.declared.covering.Mapping.{Mapping}
 use Rattle.lw_map.specs.declared.fault.MapFault.{MapFault}
 use Rattle.lw_map.specs.declared.fault.MapFault.TheVariants.{Forms, Splits, NoCover, Points, Memory}
@@ -133,15 +134,19 @@ judged cells model m c p of are (Err e) is = tt
 
 -- Counts.
 
-pub counted : (net : NetworkParts) (c : Choices) → AreChoicesOf net c → AreCounts (plain_options c.options) net (record { forms = c.forms; classes = length c.graph.pairs; pairs = pair_total c.graph })
-counted net c are = record {
+-- the counts of a network's choices
+abbrev counts_of : Choices → Counts
+counts_of c = record { forms = c.forms; classes = length c.graph.pairs; pairs = pair_total c.graph }
+
+pub counted : (options : Options) (net : NetworkParts) (c : Choices) → plain_options c.options ≡ options → AreChoicesOf net c → AreCounts options net (record { forms = c.forms; classes = length c.graph.pairs; pairs = pair_total c.graph })
+counted options net c same are = subst (λ (o : Options). AreCounts o net (counts_of c)) same (record {
   within = are.within;
   graph = c.graph;
   is_graph = are.graph;
   forms = are.forms;
   classes = refl;
   pairs = refl;
-}
+})
 
 -- the sizes of a drawn network
 module _ (cells : List CellParts) (net : NetworkParts) (c : Choices) (m : Mapping) (t : TimingParts) (same : plain_options c.options ≡ drawing_options) (are : AreChoicesOf net c) (is : IsMappingOf Store cells net (at_once net.inputs) c m) (timed : IsTimingOf cells m.netlist (at_once net.inputs) t) where
