@@ -1,5 +1,4 @@
 use Rattle.std.proofs.Common.{ap, subst}
-use Rattle.std.proofs.lemmas.Result.{err_from_is_err_and}
 use Rattle.lw_map.specs.Options.{Options, plain_options}
 use Rattle.lw_map.specs.Checks.{HasVerdict}
 use Rattle.lw_map.proofs.Drives.{indexed}
