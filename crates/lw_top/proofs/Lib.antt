@@ -3,7 +3,7 @@ pub mod Comings
 pub mod Steps
 pub mod Reached
 pub mod Prefix
-pub mod Answering
+pub mod AnswersGiven
 pub mod Giving
 pub mod Serving
 pub mod Whole

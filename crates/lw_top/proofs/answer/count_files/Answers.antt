@@ -5,7 +5,7 @@ use Rattle.lw_top.specs.Words.{counting}
 use Rattle.lw_top.specs.Counts.{Counts}
 use Rattle.lw_top.specs.Answers.{ReadsModel}
 use Rattle.lw_top.proofs.Steps.{refused}
-use Rattle.lw_top.proofs.Answering.{responds, file_refused, given_says, says_later, ends}
+use Rattle.lw_top.proofs.AnswersGiven.{responds, file_refused, given_says, says_later, ends}
 use Rattle.lw_top.proofs.answer.count_files.Goals as goal
 
 pub returns-in_err-model : goal.returns-in_err-model

@@ -4,7 +4,7 @@ use Rattle.lw_top.specs.Words.{drawing}
 use Rattle.lw_top.specs.Counts.{Draws}
 use Rattle.lw_top.specs.Answers.{ReadsLibrary}
 use Rattle.lw_top.proofs.Steps.{refused}
-use Rattle.lw_top.proofs.Answering.{responds, file_refused, given_says, says_later, ends}
+use Rattle.lw_top.proofs.AnswersGiven.{responds, file_refused, given_says, says_later, ends}
 use Rattle.lw_top.proofs.answer.draw_files.Goals as goal
 
 pub returns-in_err-library : goal.returns-in_err-library

@@ -7,7 +7,7 @@ use Rattle.lw_top.specs.Reports.{Simulates}
 use Rattle.lw_top.specs.Answers.{ReadsModel, ReadsVectors}
 use Rattle.lw_top.specs.Named.{values_in}
 use Rattle.lw_top.proofs.Steps.{refused, refused_later}
-use Rattle.lw_top.proofs.Answering.{responds, file_refused, given_says, says_later, ends}
+use Rattle.lw_top.proofs.AnswersGiven.{responds, file_refused, given_says, says_later, ends}
 use Rattle.lw_top.proofs.answer.simulate_files.Goals as goal
 
 pub returns-in_err-model : goal.returns-in_err-model

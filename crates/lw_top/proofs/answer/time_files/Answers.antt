@@ -6,7 +6,7 @@ use Rattle.lw_top.specs.Words.{timing}
 use Rattle.lw_top.specs.Reports.{Times}
 use Rattle.lw_top.specs.Answers.{ReadsLibrary, ReadsMapped}
 use Rattle.lw_top.proofs.Steps.{refused, refused_later}
-use Rattle.lw_top.proofs.Answering.{responds, file_refused, given_says, says_later, ends}
+use Rattle.lw_top.proofs.AnswersGiven.{responds, file_refused, given_says, says_later, ends}
 use Rattle.lw_top.proofs.answer.time_files.Goals as goal
 
 pub returns-in_err-library : goal.returns-in_err-library
