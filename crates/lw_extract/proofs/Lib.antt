@@ -6,5 +6,6 @@ pub mod Assembly
 mod ChosenMatches
 mod ClassNets
 mod GateLists
-mod Places
+pub mod Places
 mod Uncovered
+pub mod PortLists
