@@ -1,6 +1,8 @@
 -- Outputs that arrive by their times.
-use Rattle.std.proofs.Common.{ℕ, zero, suc, ◌+◌, ◌<◌, ◌≤◌, ◌≡◌, ◌↔◌, List, [], ◌∷◌, length, map, Some, slice_get, slice_index_or, refl, ap, sym, ◌∙◌, subst, arith}
+use Rattle.std.proofs.Common.{ℕ, zero, suc, ◌+◌, ◌<◌, ◌≤◌, ◌≡◌, ◌↔◌, ◌⊎◌, inl, inr, List, [], ◌∷◌, length, map, Some, slice_get, slice_index_or, refl, ap, sym, ◌∙◌, subst, subst₂, arith}
 use Rattle.std.specs.List.{AllZip}
+use Rattle.std.proofs.lemmas.Bool.{cases_eq}
+use Rattle.std.proofs.lemmas.Option.{same_Some}
 use Rattle.lw_fixed.specs.declared.micro.Micro.{Micro}
 use Rattle.lw_genlib.specs.Cells.{CellParts}
 use Rattle.lw_genlib.specs.Tables.{millionths, timing_of}
@@ -29,6 +31,17 @@ early_length arrivals [] [] a = refl
 early_length arrivals [] (t ∷ times) a = absurd a
 early_length arrivals (p ∷ outputs) [] a = absurd a
 early_length arrivals (p ∷ outputs) (t ∷ times) (le, a) = ap suc (early_length arrivals outputs times a)
+
+-- one more output
+pub early_more : (arrivals : List Micro) (outputs : List Port) (times : List Micro) (k : ℕ) (p : Port) (t : Micro) → slice_get outputs k ≡ Some p → slice_get times k ≡ Some t → IsEarly arrivals p t → ((i : ℕ) (port : Port) (time : Micro) → i < k → slice_get outputs i ≡ Some port → slice_get times i ≡ Some time → IsEarly arrivals port time) → (i : ℕ) (port : Port) (time : Micro) → i < k + 1 → slice_get outputs i ≡ Some port → slice_get times i ≡ Some time → IsEarly arrivals port time
+early_more arrivals outputs times k p t p_at t_at here before i port time lt at there = by_place (cases_eq i k)
+  where
+    by_place : (i ≡ k) ⊎ (i ≡ k → ⊥) → IsEarly arrivals port time
+    by_place (inl same) =
+        let one : p ≡ port = same_Some p port (sym p_at ∙ (ap (slice_get outputs) (sym same) ∙ at)) in
+        let other : t ≡ time = same_Some t time (sym t_at ∙ (ap (slice_get times) (sym same) ∙ there)) in
+        subst₂ (IsEarly arrivals) one other here
+    by_place (inr apart) = before i port time (omega arith) at there
 
 -- by plain arrivals
 read : (arrivals : List Micro) (net : ℕ) → slice_index_or (map millionths arrivals) net 0 ≡ (slice_index_or arrivals net (record { 0 = 0 })).0

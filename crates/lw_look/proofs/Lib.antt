@@ -1,4 +1,5 @@
 mod AreaSums
+mod CellMatches
 mod Deciding
 mod Early
 mod NetDepths

@@ -3,6 +3,7 @@ use Rattle.std.proofs.Common.{ℕ, zero, suc, ◌+◌, ◌<◌, ◌≤◌, ◌�
 use Rattle.std.specs.List.{AllByRecursion}
 use Rattle.std.proofs.lemmas.Bool.{cases_eq, cases_order}
 use Rattle.std.proofs.lemmas.List.{length-map, length-set, length-append}
+use Rattle.std.proofs.lemmas.List.Elements.{All-nil, All-cons, All-head, All-tail}
 use Rattle.std.proofs.lemmas.Option.{same_Some, slice_get_within}
 use Rattle.lw_facts.proofs.Lists.{all_at, get_left, get_right, index_at}
 use Rattle.lw_pool.specs.declared.id.ClassId.{ClassId}
@@ -20,7 +21,7 @@ use Rattle.lw_extract.specs.Choosing.{chosen_classes, plain_chosen, plain_matche
 use Rattle.lw_extract.proofs.Assembly.{classes_same, plain_at}
 use Rattle.lw_extract.proofs.Places.{all_places}
 use Rattle.lw_look.specs.declared.look.Look.{Look}
-use Rattle.lw_look.specs.Lists.{AreSeen, IsMatchOfCell, IsRightList, MayStand, is_seen, pin_counts}
+use Rattle.lw_look.specs.Lists.{AllStand, AreSeen, IsMatchOfCell, IsRightList, MayStand, is_seen, pin_counts}
 
 -- Classes that have been seen.
 
@@ -99,11 +100,8 @@ module _ (l : Look) (list : List Chosen) where
   class_of : (j : ℕ) (x : Chosen) → slice_get list j ≡ Some x → slice_get gates j ≡ Some x.class.0
   class_of j x at = slice_get_map (λ (y : Chosen). y.class.0) list j x at
 
-  abbrev pub AllStand : Type 0
-  AllStand = (j : ℕ) (x : Chosen) → slice_get list j ≡ Some x → MayStand l gates j x
-
   -- where each may stand and the outputs' classes are there, the list is right
-  pub standing_is_right : AllStand → HaveNetsAt g gates l.ports.now.roots → IsRightList l list
+  pub standing_is_right : AllStand l list → HaveNetsAt g gates l.ports.now.roots → IsRightList l list
   standing_is_right stand roots = record {
     matches = record {
       apart = subst (AreGatesApart g) (sym (classes_same list)) (record { once = once; no_leaf = no_leaf });
@@ -142,7 +140,7 @@ module _ (l : Look) (list : List Chosen) where
           (subst (λ cs. AllByRecursion (HasNetBefore g cs j) (numbers x.found.pins)) (sym (classes_same list)) (stand j x at).pins)
 
   -- in a right list each may stand
-  pub right_stands : IsRightList l list → AllStand
+  pub right_stands : IsRightList l list → AllStand l list
   right_stands right j x at = record {
     within = all_at (λ (y : Chosen). y.class.0 < length g.pairs) list j x right.within at;
     fresh = λ (net, lt, is). by_side net lt (net_side g gates x.class.0 net is);
@@ -168,3 +166,29 @@ module _ (l : Look) (list : List Chosen) where
       let a = length-append g.leaves gates in
       let b = length-map list (λ (x : Chosen). x.class.0) in
       are.all (slice_index_or roots k d).0 net is (omega arith)
+
+  -- the first matches may stand, and one more
+  pub stand_more : (j : ℕ) (x : Chosen) → slice_get list j ≡ Some x → MayStand l gates j x → ((i : ℕ) (y : Chosen) → i < j → slice_get list i ≡ Some y → MayStand l gates i y) → (i : ℕ) (y : Chosen) → i < j + 1 → slice_get list i ≡ Some y → MayStand l gates i y
+  stand_more j x at here before i y lt there = by_place (cases_eq i j)
+    where
+      by_place : (i ≡ j) ⊎ (i ≡ j → ⊥) → MayStand l gates i y
+      by_place (inl same) =
+          let one : x ≡ y = same_Some x y (sym at ∙ (ap (slice_get list) (sym same) ∙ there)) in
+          subst (λ k. MayStand l gates k y) (sym same) (subst (λ (z : Chosen). MayStand l gates j z) one here)
+      by_place (inr other) = before i y (omega arith) there
+
+  pub place_seen : (j : ℕ) (x : Chosen) (seen : List Bool) → slice_get list j ≡ Some x → MayStand l gates j x → AreSeen g gates j seen → AreSeen g gates (j + 1) (slice_set seen x.class.0 true)
+  place_seen j x seen at stands are = let inside = stands.within in let same = are.one_each in seen_more g gates j x.class.0 seen (class_of j x at) (omega arith) are
+
+-- What a match may stand by.
+
+pub pins_seen : (g : Graph) (gates : List ℕ) (j : ℕ) (seen : List Bool) (pins : List ClassId) → AreSeen g gates j seen → All (λ (class : ClassId). is_seen seen class.0 ≡ true) pins → AllByRecursion (HasNetBefore g gates j) (numbers pins)
+pins_seen g gates j seen [] are all = tt
+pins_seen g gates j seen (pin ∷ pins) are all = (
+  are.some pin.0 (All-head (λ (class : ClassId). is_seen seen class.0 ≡ true) pin pins all),
+  pins_seen g gates j seen pins are (All-tail (λ (class : ClassId). is_seen seen class.0 ≡ true) pin pins all),
+)
+
+pub seen_pins : (g : Graph) (gates : List ℕ) (j : ℕ) (seen : List Bool) (pins : List ClassId) → AreSeen g gates j seen → AllByRecursion (HasNetBefore g gates j) (numbers pins) → All (λ (class : ClassId). is_seen seen class.0 ≡ true) pins
+seen_pins g gates j seen [] are all = All-nil (λ (class : ClassId). is_seen seen class.0 ≡ true)
+seen_pins g gates j seen (pin ∷ pins) are ((net, lt, at), all) = All-cons (λ (class : ClassId). is_seen seen class.0 ≡ true) pin pins (are.all pin.0 net at lt) (seen_pins g gates j seen pins are all)

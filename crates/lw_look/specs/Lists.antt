@@ -1,5 +1,5 @@
 -- Lists of matches that are a cover of the outputs, and the classes that the first of them have seen.
-use Rattle.std.specs.Prelude.{ℕ, ◌+◌, ◌<◌, ◌≡◌, Bool, true, false, All, List, length, map, slice_index_or}
+use Rattle.std.specs.Prelude.{ℕ, ◌+◌, ◌<◌, ◌≡◌, Bool, true, false, All, List, length, map, Some, slice_get, slice_index_or}
 use Rattle.std.specs.List.{AllByRecursion}
 use Rattle.lw_pool.specs.Numbers.{numbers}
 use Rattle.lw_laws.specs.Graphs.{Graph}
@@ -44,3 +44,7 @@ pub record MayStand (l : Look) (gates : List ℕ) (j : ℕ) (x : Chosen) : Type 
   pub fresh : HasNetBefore l.graph.now gates j x.class.0 → ⊥
   pub pins : AllByRecursion (HasNetBefore l.graph.now gates j) (numbers x.found.pins)
   pub is_match : IsMatchOfCell l x
+
+-- each match of the list may stand where it is
+abbrev pub AllStand : Look → List Chosen → Type 0
+AllStand l list = (j : ℕ) (x : Chosen) → slice_get list j ≡ Some x → MayStand l (chosen_classes list) j x
