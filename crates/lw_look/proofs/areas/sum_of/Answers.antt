@@ -11,6 +11,6 @@ loop-gate-preserved c =
     let j = c.loop-gate.gate-index in
     let more = area_more c.args.lib.now gates j (get_or gates j d) (slice_get-get_or gates j d c.loop-gate-test.true) in
     record {
-      area = omega (arith, more, c.loop-gate.invariant.area, c.area_at.ensures.area);
-      low = omega (arith, c.loop-gate.invariant.low, c.area_at.ensures.small);
+      area = omega (arith, more, c.loop-gate.invariant.area, c.area_at-area.ensures.area);
+      low = omega (arith, c.loop-gate.invariant.low, c.area_at-area.ensures.small);
     }
