@@ -1,15 +1,14 @@
-use Rattle.std.proofs.Common.{[], get_or, arith}
-use Rattle.std.proofs.lemmas.Option.{slice_get-get_or}
-use Rattle.lw_netlist.specs.declared.gate.Gate.{Gate}
+use Rattle.std.proofs.Common.{length, refl, arith}
+use Rattle.std.proofs.lemmas.Option.{slice_get_read}
 use Rattle.lw_look.proofs.AreaSums.{area_more}
 use Rattle.lw_look.proofs.areas.sum_of.Goals as goal
 
 pub loop-gate-preserved : goal.loop-gate-preserved
 loop-gate-preserved c =
-    let d : Gate = record { cell = record { 0 = 0 }; pins = []; out = record { 0 = 0 } } in
     let gates = c.args.gates.now in
     let j = c.loop-gate.gate-index in
-    let more = area_more c.args.lib.now gates j (get_or gates j d) (slice_get-get_or gates j d c.loop-gate-test.true) in
+    let gate = c.gate-item.result in
+    let more = area_more c.args.lib.now gates j gate (slice_get_read gates (length gates) j gate refl c.loop-gate-test.true c.gate-item.is) in
     record {
       area = omega (arith, more, c.loop-gate.invariant.area, c.area_at-area.ensures.area);
       low = omega (arith, c.loop-gate.invariant.low, c.area_at-area.ensures.small);
