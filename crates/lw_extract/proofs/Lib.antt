@@ -6,6 +6,5 @@ pub mod Assembly
 mod ChosenMatches
 mod ClassNets
 mod GateLists
-pub mod Places
+mod Places
 mod Uncovered
-pub mod PortLists

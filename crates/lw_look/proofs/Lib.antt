@@ -4,4 +4,5 @@ mod Deciding
 mod Early
 mod NetDepths
 mod Networks
+mod PortLists
 mod RightLists

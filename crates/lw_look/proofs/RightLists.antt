@@ -4,7 +4,7 @@ use Rattle.std.specs.List.{AllByRecursion}
 use Rattle.std.proofs.lemmas.Bool.{cases_eq, cases_order}
 use Rattle.std.proofs.lemmas.List.{length-map, length-set, length-append}
 use Rattle.std.proofs.lemmas.List.Elements.{All-nil, All-cons, All-head, All-tail}
-use Rattle.std.proofs.lemmas.Option.{same_Some, slice_get_within}
+use Rattle.std.proofs.lemmas.Option.{same_Some, slice_get_within, slice_get-get_or}
 use Rattle.lw_facts.proofs.Lists.{all_at, get_left, get_right, index_at}
 use Rattle.lw_pool.specs.declared.id.ClassId.{ClassId}
 use Rattle.lw_pool.specs.Numbers.{numbers}
@@ -19,7 +19,6 @@ use Rattle.lw_extract.specs.declared.choosing.Chosen.{Chosen}
 use Rattle.lw_extract.specs.Assembling.{HaveNetsAt}
 use Rattle.lw_extract.specs.Choosing.{chosen_classes, plain_chosen, plain_matches}
 use Rattle.lw_extract.proofs.Assembly.{classes_same, plain_at}
-use Rattle.lw_extract.proofs.Places.{all_places}
 use Rattle.lw_look.specs.declared.look.Look.{Look}
 use Rattle.lw_look.specs.Lists.{AllStand, AreSeen, IsMatchOfCell, IsRightList, MayStand, is_seen, pin_counts}
 
@@ -108,7 +107,7 @@ module _ (l : Look) (list : List Chosen) where
       matches = λ j y at. match_of j y (slice_get_map_back plain_chosen list j y at);
       before = λ j y at. before_of j y (slice_get_map_back plain_chosen list j y at);
     };
-    within = all_places (λ (x : Chosen). x.class.0 < length g.pairs) list (λ j x at. (stand j x at).within);
+    within = λ k d inside. (stand k (slice_index_or list k d) (slice_get-get_or list k d inside)).within;
     roots = roots;
   }
     where

@@ -46,13 +46,13 @@ use Rattle.lw_extract.specs.declared.ports.Ports.{Ports}
 use Rattle.lw_extract.specs.declared.ports.Cover.{Cover as NetlistCover}
 use Rattle.lw_extract.specs.Choosing.{labels, heights}
 use Rattle.lw_extract.specs.Covers.{IsExtractedCover, IsFirstUncovered}
-use Rattle.lw_trade.specs.Areas.{area_cost}
+use Rattle.lw_choices.specs.Areas.{area_cost}
 use Rattle.lw_map.specs.declared.choices.Choices.{Choices}
 use Rattle.lw_map.specs.Options.{plain_options}
 use Rattle.lw_map.specs.Choices.{AreChoicesOf}
 use Rattle.lw_map.specs.Ports.{ArePortsOf}
 use Rattle.lw_map.specs.Trading.{AreEarliest, HasLeastArea, IsTradedNetlist}
-use Rattle.lw_extract.proofs.PortLists.{port_name, zip_outputs}
+use Rattle.lw_map.proofs.CoverNetlists.{port_name, zip_outputs}
 use Rattle.lw_map.proofs.NetNames.{names_tell, own_names}
 use Rattle.lw_map.proofs.PortNames.{port_list, port_names, few_outputs}
 use Rattle.lw_map.proofs.Traded.{IsBest, StandsFor-cost, best_area, best_values, tree_back}
