@@ -1,5 +1,5 @@
 # shellcheck shell=bash
-# Completion for bash: commands, options and files of lwmap, and options of lwflow.
+# Completion for bash: commands, options and files of lwmap, and options of the other programs.
 _lwmap() {
     local word=${COMP_WORDS[COMP_CWORD]} before=${COMP_WORDS[COMP_CWORD - 1]}
     if [ "$COMP_CWORD" -eq 1 ]; then
@@ -30,5 +30,14 @@ _lwflow() {
     *) mapfile -t COMPREPLY < <(compgen -f -- "$word") ;;
     esac
 }
+_lwequal() {
+    local word=${COMP_WORDS[COMP_CWORD]}
+    case $word in
+    -*) mapfile -t COMPREPLY < <(compgen -W "-l -n -s -h -v" -- "$word") ;;
+    *) mapfile -t COMPREPLY < <(compgen -f -- "$word") ;;
+    esac
+}
+# A program that has a line here gets this file where it is installed.
 complete -o filenames -F _lwmap lwmap
+complete -o filenames -F _lwequal lwequal
 complete -o filenames -F _lwflow lwflow

@@ -77,11 +77,15 @@ report() {
 }
 
 manuals() {
+    for program in $(awk '{ print $2 }' release/SHA256SUMS) lwflow yosys-lwmap; do
+        [ -f "release/man/$program.1" ]
+        verdict "$program has a manual page" $?
+    done
     ! lacks "the manual pages were not read" mandoc || return
     for page in release/man/*.1; do
         # (pages that are not installed cannot be found)
         mandoc -T lint -W style "$page" | grep -v 'referenced manual not found' >"$room/out"
-        verdict "the manual page $page" $((1 - $?))
+        verdict "mandoc finds nothing in $page" $((1 - $?))
     done
     for option in $(python3 lwflow --help | grep -oE '^  -[-a-zA-Z]+|, --[a-z-]+|^  --[a-z-]+' | tr -d ' ,'); do
         case $option in -h | --help) continue ;; esac
@@ -223,13 +227,13 @@ slurm() {
 # The pictures of the tutorial are what its commands draw now.
 tutorial() {
     ! lacks "the pictures of the tutorial were not drawn" python3 yosys berkeley-abc || return
-    mkdir "$room/drawn" && sed -n 's/^    \(\.\/lwflow .*\)/\1/p; s/^    \(python3 tools\/picture.py .*\)/\1/p' docs/TUTORIAL.md >"$room/commands"
-    prepare && rm "$room/here/docs" && mkdir -p "$room/here/docs/pictures"
+    sed -n 's/^    \(\.\/lwflow .*\)/\1/p; s/^    \(python3 tools\/picture.py .*\)/\1/p' docs/TUTORIAL.md | grep -v ' LIB ' >"$room/commands"
+    prepare
     (cd "$room/here" && sh -e "$room/commands") >"$room/out" 2>&1
     verdict "the commands of the tutorial" $?
-    for picture in $(grep -oE '> *docs/pictures/[a-z0-9]+\.svg' "$room/commands" | tr -d '> '); do
-        cmp "$picture" "$room/here/$picture" >"$room/out" 2>&1
-        verdict "$picture is what the tutorial's command draws" $?
+    for picture in $(grep -oE '>[a-z]+\.svg' "$room/commands" | tr -d '>'); do
+        cmp "docs/pictures/$picture" "$room/here/$picture" >"$room/out" 2>&1
+        verdict "docs/pictures/$picture is what the tutorial's command draws" $?
     done
 }
 

@@ -45,7 +45,7 @@ left() { # WHAT FILE..
     verdict "$what: the folder" $?
 }
 
-all='cells.v log.txt mapped.blif mapped.v report.json'
+all='cells.v log.txt mapped.blif mapped.v report.html report.json'
 run "a design without registers" 0 'every step was shown' -q --effort fast -l $library examples/verilog/adder.v
 # shellcheck disable=SC2086
 left "a design without registers" $all
@@ -106,7 +106,9 @@ run "models in models, with a clock" 0 'models in models by Yosys' -q -l $librar
 run "a mapped netlist" 0 '.gate as the function of its cell' -q --effort fast -l $library "$room/gates.blif"
 berkeley-abc -q "read_blif bench/circuits/rca8_y.blif; strash; write_aiger $room/x.aig" >/dev/null 2>&1
 run "AIGER" 0 'every step was shown' -q --effort fast -l $library "$room/x.aig"
+# shellcheck disable=SC2016
 printf '\357\273\277.model people\n.inputs a b\n.cname x\n.outputs f g\n.conn a t\n.names t $true b f\n111 1\n.names b g\n0 1\n.end\n' >"$room/people.blif"
+# shellcheck disable=SC2016
 run "BLIF as people have it" 0 'rewritten: .*byte order mark.*\.cname.*\.conn.*\$true' -q --effort fast -l $library "$room/people.blif"
 printf '.i 3\n.o 1\n1-1 1\n01- 1\n.e\n' >"$room/two.pla"
 run "what ABC reads by its ending" 0 'shown: file to network, as ABC reads it, by cec' -q --effort fast -l $library "$room/two.pla"

@@ -25,7 +25,7 @@ COMMAND = re.compile(r"(\./lw\w+|sh|python3|sed|printf|cat|grep|awk|yosys|berkel
 PLACEHOLDER = re.compile(r"\b(LIB|MAPPED|TOP|NAME|FOLDER)\b|\b(x|circuit)\.blif|\bsudo\b")
 TOOLS = ["yosys", "berkeley-abc", "iverilog"]
 LIBERTY = "/usr/share/qflow/tech/osu035/osu035_stdcells.lib"
-SECONDS = 300
+SECONDS = 900
 
 
 def blocks_of(page):

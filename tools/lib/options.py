@@ -36,7 +36,8 @@ what --area means today
          'lwmap trade' with that deadline is tried too
   T      the smallest netlist within the delay T, in the library's unit
 
-example: ./lwflow -l bench/libs/mcnc.genlib examples/verilog/uart.v
+example: ./lwflow -l bench/libs/mcnc.genlib examples/verilog/processor.v
+         processor.lwflow/report.html says then which try won, by how much, and what was shown
 """
 
 

@@ -79,7 +79,8 @@ def table(heads, rows, caption="", kept=None):
     one of a short row takes the rest of it."""
     kinds = [{"#": "n", "@": "name", "": "wide-cell"}.get(head[:1], "") for head in heads]
     parts = ['<div class="scroll"><table>', f"<caption>{text(caption)}</caption>" if caption else "", "<thead><tr>"]
-    parts += [f'<th scope="col" class="{kind}">{text(head.lstrip("#@"))}</th>' if head else '<td class="wide-cell"></td>' for head, kind in zip(heads, kinds)]
+    parts += [f'<th scope="col" class="{kind}">{text(head.lstrip("#@"))}</th>' if head else '<td class="wide-cell"></td>'
+              for head, kind in zip(heads, kinds)]
     parts.append("</tr></thead><tbody>\n")
     for place, row in enumerate(rows):
         ends = f' colspan="{len(kinds) - len(row) + 1}"' if len(row) < len(kinds) else ""
@@ -97,7 +98,8 @@ def compared(one, other, name):
     if delay == others:
         early = f"as early as {name}"
     else:
-        early = f"{abs(100 * (others - delay) / others) if others else 0:.1f}% {'earlier' if delay < others else 'later'} than {name} ({figure(others)}{unit_of(other)})"
+        percent = abs(100 * (others - delay) / others) if others else 0
+        early = f"{percent:.1f}% {'earlier' if delay < others else 'later'} than {name} ({figure(others)}{unit_of(other)})"
     return f"{early}, at {area / space:.2f} of its area ({figure(space)})" if space else early
 
 
@@ -110,7 +112,8 @@ def answer(found):
     kept, status = found["kept"], found["status"]
     delay, area = judged(kept)
     parts = [f'<div class="answer{"" if status == 0 else " bad"}">']
-    parts.append(f"<p><b>Kept: {text(name_of(kept))}.</b> Delay <b>{figure(delay)}{unit_of(kept)}</b>, area <b>{figure(area)}</b>, {sum(one['count'] for one in found['cells'])} gates.</p>")
+    gates = sum(one["count"] for one in found["cells"])
+    parts.append(f"<p><b>Kept: {text(name_of(kept))}.</b> Delay <b>{figure(delay)}{unit_of(kept)}</b>, area <b>{figure(area)}</b>, {gates} gates.</p>")
     said = []
     if is_ours(kept):
         said += [compared(kept, found[key], name) for key, name in (("abc", "ABC's best netlist of this search"),) if found[key]]
@@ -119,11 +122,19 @@ def answer(found):
     if found["abc_as_given"] and name_of(found["abc_as_given"]) != name_of(kept):
         said.append(compared(kept, found["abc_as_given"], "ABC's map on the design as given"))
     parts += [f"<p>It is {text(one)}.</p>" for one in said]
-    shown_ = sum(step["verdict"] == "equal" for step in found["steps"])
-    parts.append({0: f'<p><span class="shown">Shown right:</span> all {shown_} steps from the design to mapped.v (<a href="#trust">why it can be trusted</a>).</p>',
-                  3: f'<p><span class="not">Not decided:</span> {len(found["steps"]) - shown_} of {len(found["steps"])} steps (<a href="#trust">which ones</a>).</p>',
-                  4: '<p><span class="not">DIFFERENT:</span> a step changed the design (<a href="#trust">which one</a>). No netlist was written.</p>'}[status])
-    return "".join(parts) + "</div>\n"
+    return "".join(parts) + verdict(found) + "</div>\n"
+
+
+def verdict(found):
+    """Whether the netlist was shown right, in a sentence."""
+    count = len(found["steps"])
+    good = sum(step["verdict"] == "equal" for step in found["steps"])
+    kind, head_, rest, link = {
+        0: ("shown", "Shown right:", f"all {good} steps from the design to mapped.v", "why it can be trusted"),
+        3: ("not", "Not decided:", f"{count - good} of {count} steps", "which ones"),
+        4: ("not", "DIFFERENT:", "a step changed the design, and no netlist was written", "which one"),
+    }[found["status"]]
+    return f'<p><span class="{kind}">{head_}</span> {rest} (<a href="#trust">{link}</a>).</p>'
 
 
 def rows_of_netlists(netlists, loads):
@@ -148,13 +159,19 @@ def behind(found):
     return f'<p class="soft">After the comma stands what ABC did before the mapper: {"; ".join(said)}.</p>'
 
 
+def both(draw, found):
+    """A picture for wide pages and paper, and one for narrow pages."""
+    return "".join(draw(found, width).replace("<svg", f'<svg class="{kind}"', 1) for width, kind in ((720, "big-page"), (344, "small-page")))
+
+
 def tries(found):
     loads = found["library"]["loads"]
     kept = next((k for k, one in enumerate(found["netlists"]) if name_of(one) == name_of(found["kept"])), None)
-    judge = "ABC buffered and sized each netlist; its delay under loads decides, then its area." if loads else "The smaller delay decides, then the smaller area."
+    judge = ("ABC buffered and sized each netlist; its delay under loads decides, then its area." if loads else
+             "The smaller delay decides, then the smaller area.")
     parts = [f'<h2 id="tries">Every try</h2><p>A filled circle is a netlist of lwmap, a square one of ABC\'s map after the same commands. {judge} '
              "Left and low is better.</p><figure>",
-             pictures.tries(found, 720).replace("<svg", '<svg class="big-page"', 1), pictures.tries(found, 344).replace("<svg", '<svg class="small-page"', 1), "</figure>",
+             both(pictures.tries, found), "</figure>",
              table(heads_of(loads), rows_of_netlists(found["netlists"], loads), "Best first; the kept one is marked", kept), behind(found)]
     return "".join(parts)
 
@@ -172,12 +189,14 @@ def path(found):
         rows.append([str(place + 1), text(step["cell"]) + pin, text(step["net"]), f"+{figure(step['delay'])}", figure(step["arrival"]),
                      svg.bar((step["arrival"] - step["delay"]) / most, step["delay"] / most, "b plain")])
     first = steps[0]
-    start = f"It begins at {text(first['from'])}, which arrives at {figure(first['arrival'] - first['delay'])}" if first["from"] is not None else "It begins at a constant"
+    start = "It begins at a constant"
+    if first["from"] is not None:
+        start = f"It begins at {text(first['from'])}, which arrives at {figure(first['arrival'] - first['delay'])}"
     ends = next((pictures.read_by(one) for one in found["arrivals"] if one["arrival"] == steps[-1]["arrival"]), "")
     start += f", and ends at {text(ends)}. "
     loads = "These are the delays of the cells without loads, in the netlist before sizing. " if found["library"]["loads"] else ""
-    return (f'<h2 id="path">Critical path, gate by gate</h2><p>{start}{loads}Each row is a gate, with the pin on the path. Nothing arrives later than {figure(most)}.</p>'
-            + table(["# ", "cell, pin", "net", "#delay", "#arrival", ""], rows))
+    return (f'<h2 id="path">Critical path, gate by gate</h2><p>{start}{loads}Each row is a gate, with the pin on the path. Nothing arrives '
+            f"later than {figure(most)}.</p>" + table(["# ", "cell, pin", "net", "#delay", "#arrival", ""], rows))
 
 
 def arrivals(found):
@@ -186,20 +205,20 @@ def arrivals(found):
         return ""
     most = latest[0]["arrival"] or 1
     for one in latest[:LATEST]:
-        rows.append([text(pictures.read_by(one)), "register" if one["register"] else "output", figure(one["arrival"]), svg.bar(0, one["arrival"] / most, "a plain")])
+        rows.append([text(pictures.read_by(one)), "register" if one["register"] else "output", figure(one["arrival"]),
+                     svg.bar(0, one["arrival"] / most, "a plain")])
     rest = len(latest) - LATEST
     more = f" The other {rest} arrive by {figure(latest[LATEST]['arrival'])}; report.json has all." if rest > 0 else ""
     parts = [f'<h2 id="arrivals">Arrivals of outputs</h2><p>When each output, and each input of a register, has its value.{more}</p>']
     if rest > 0 and latest[-1]["arrival"] < most:
-        parts += ["<figure>", pictures.spread(found, 720).replace("<svg", '<svg class="big-page"', 1),
-                  pictures.spread(found, 344).replace("<svg", '<svg class="small-page"', 1), "</figure>"]
+        parts += ["<figure>", both(pictures.spread, found), "</figure>"]
     return "".join(parts) + table(["name", "kind", "#arrival", ""], rows, f"The latest {min(LATEST, len(latest))} of {len(latest)}")
 
 
 def cells(found):
     total = sum(one["area"] for one in found["cells"]) or 1
-    rows = [[text(one["cell"]), str(one["count"]), figure(one["area"]), f"{100 * one['area'] / total:.1f}%", svg.bar(0, one["area"] / total, "c plain")]
-            for one in found["cells"]]
+    rows = [[text(one["cell"]), str(one["count"]), figure(one["area"]), f"{100 * one['area'] / total:.1f}%",
+             svg.bar(0, one["area"] / total, "c plain")] for one in found["cells"]]
     sized = " They are those of the sized netlist, mapped.v." if found["library"]["loads"] else ""
     return f'<h2 id="cells">Cells</h2><p>{sum(one["count"] for one in found["cells"])} gates of {len(rows)} kinds.{sized}</p>' + table(
         ["cell", "#count", "#area", "#part", ""], rows)
@@ -234,19 +253,24 @@ def listed(several):
 
 def trust(found):
     steps = found["steps"]
-    rows = [[f'<span class="{WORDS[step["verdict"]][0]}">{WORDS[step["verdict"]][1]}</span>', text(step["what"]) + (f' ({text(step["why"])})' if step["why"] else "")]
-            for step in steps]
+    rows = []
+    for step in steps:
+        kind, word = WORDS[step["verdict"]]
+        rows.append([f'<span class="{kind}">{word}</span>', text(step["what"]) + (f' ({text(step["why"])})' if step["why"] else "")])
     said = " ".join(step["what"] for step in steps)
     reasons = [f"<li><b>{text(word)}</b>: {text(why)}</li>" for word, why in REASONS if word in said]
-    trusted = ["ABC's cec"] + ["Yosys where it reads and writes Verilog"] * (found["design"]["kind"] == "Verilog") + ["the proof checker of Rattle"] * ("theorem" in said)
-    return ('<h2 id="trust">Why it can be trusted</h2><p>Each step from the design to mapped.v was compared by itself. If every step is shown, mapped.v does what the '
-            "design says.</p>" + table(["result", "step"], rows) + f"<ul>{''.join(reasons)}</ul><p>What you trust beside that: {text(listed(trusted))}.</p>")
+    trusted = ["ABC's cec"] + ["Yosys where it reads and writes Verilog"] * (found["design"]["kind"] == "Verilog")
+    trusted += ["the proof checker of Rattle"] * ("theorem" in said)
+    return ('<h2 id="trust">Why it can be trusted</h2><p>Each step from the design to mapped.v was compared by itself. If every step is '
+            "shown, mapped.v does what the design says.</p>" + table(["result", "step"], rows) +
+            f"<ul>{''.join(reasons)}</ul><p>What you trust beside that: {text(listed(trusted))}.</p>")
 
 
 def facts(found):
     design, library = found["design"], found["library"]
     loads = "judged under loads" if library["loads"] else "delays without loads"
-    files = ", ".join(f'<a href="{name}">{name}</a>' for name in (("mapped.v", "mapped.blif", "cells.v") if found["status"] != 4 else ()) + ("report.json", "log.txt"))
+    names = (("mapped.v", "mapped.blif", "cells.v") if found["status"] != 4 else ()) + ("report.json", "log.txt")
+    files = ", ".join(f'<a href="{name}">{name}</a>' for name in names)
     rows = [["design", text(f"{', '.join(design['files'])}: {design['kind']}, {design['nodes']} nodes, {design['registers']} registers")],
             ["library", text(f"{library['file']}: {library['cells']} cells, {loads}")],
             ["search", text(f"effort {found['effort']}, {len(found['netlists'])} netlists, {found['processor_seconds']:.1f} s of processor time")],
@@ -262,6 +286,7 @@ def notes(found):
 def page(found):
     """The whole page."""
     title = f"{found['design']['top']} with {found['library']['file'].rsplit('/', 1)[-1]}"
-    parts = [head("lwflow: " + title), f"<h1>{text(title)}</h1>\n", answer(found), facts(found), tries(found), trust(found), path(found), arrivals(found), cells(found),
-             drawing(found), notes(found), f'<p class="soft">Written by {text(found["version"])}.</p>\n</body>\n</html>\n']
+    sections = (answer, facts, tries, trust, path, arrivals, cells, drawing, notes)
+    parts = [head("lwflow: " + title), f"<h1>{text(title)}</h1>\n", *(section(found) for section in sections),
+             f'<p class="soft">Written by {text(found["version"])}.</p>\n</body>\n</html>\n']
     return "".join(parts)

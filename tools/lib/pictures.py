@@ -76,33 +76,37 @@ def legend(x, y):
 
 
 def named(found):
-    """The places that get a name, each once."""
+    """The places that get a name, each with its names."""
     names = {}
     for said, key in (("kept", "kept"), ("best of ABC", "abc"), ("best of lwmap", "lwmap"), ("ABC, as given", "abc_as_given")):
         if found[key]:
             names.setdefault(judged(found[key]), []).append(said)
-    return {place: ", ".join(said) for place, said in names.items()}
+    return names
 
 
 def labels(names, points, x, y, frame):
-    """The names beside their signs, each at the side where it covers the fewest."""
+    """The names beside their signs, in one line or in several, each label at the side where it covers the fewest."""
     placed, parts = [], []
     for (delay, area), said in names.items():
-        px, py, long = x(delay), y(area), LETTER * len(said)
-        sides = [(px + 12, py + 4, "start", px + 12), (px - 12, py + 4, "end", px - 12 - long), (px, py - 12, "middle", px - long / 2),
-                 (px, py + 22, "middle", px - long / 2), (px + 10, py - 12, "start", px + 10), (px - 10, py + 20, "end", px - 10 - long),
-                 (px - 8, py - 12, "end", px - 8 - long), (px + 8, py + 20, "start", px + 8)]
+        if LETTER * len(", ".join(said)) < (frame[2] - frame[0]) / 2:
+            said = [", ".join(said)]
+        px, py, long, more = x(delay), y(area), LETTER * max(map(len, said)), 15 * (len(said) - 1)
+        sides = [(px + 12, py + 4, "start", px + 12), (px - 12, py + 4, "end", px - 12 - long), (px, py - 12 - more, "middle", px - long / 2),
+                 (px, py + 22, "middle", px - long / 2), (px + 10, py - 12 - more, "start", px + 10), (px - 10, py + 20, "end", px - 10 - long),
+                 (px - 8, py - 12 - more, "end", px - 8 - long), (px + 8, py + 20, "start", px + 8)]
+
+        def box(side):
+            return (side[3] - 2, side[1] - 12, side[3] + long + 2, side[1] + more + 4)
 
         def cost(side):
-            _, base, _, left = side
-            box = (left - 2, base - 12, left + long + 2, base + 4)
-            outside = box[0] < frame[0] or box[1] < frame[1] or box[2] > frame[2] or box[3] > frame[3]
-            return (1000 * outside + sum(100 for other in placed if meet(box, other)) +
-                    sum(1 for (ox, oy) in points if meet(box, (ox - 5, oy - 5, ox + 5, oy + 5))))
+            it = box(side)
+            outside = it[0] < frame[0] or it[1] < frame[1] or it[2] > frame[2] or it[3] > frame[3]
+            return (1000 * outside + sum(100 for other in placed if meet(it, other)) +
+                    sum(1 for (ox, oy) in points if meet(it, (ox - 5, oy - 5, ox + 5, oy + 5))))
 
         best = min(sides, key=cost)
-        placed.append((best[3] - 2, best[1] - 12, best[3] + long + 2, best[1] + 4))
-        parts.append(svg.text(best[0], best[1], said, "", best[2]))
+        placed.append(box(best))
+        parts += [svg.text(best[0], best[1] + 15 * turn, one, "", best[2]) for turn, one in enumerate(said)]
     return parts
 
 
@@ -112,7 +116,7 @@ def meet(one, other):
 
 def of_tries(found):
     """What the picture of the tries shows, in words."""
-    said = [f"{name}: delay {figure(delay)}, area {figure(area)}" for (delay, area), name in named(found).items()]
+    said = [f"{', '.join(names)}: delay {figure(delay)}, area {figure(area)}" for (delay, area), names in named(found).items()]
     return f"Area against delay of {len(found['netlists'])} netlists. " + "; ".join(said)
 
 

@@ -68,7 +68,7 @@ def text(found):
         parts.append("note: --limit SECONDS gives a step more time, and --effort fast takes less; --sure keeps what was shown\n")
     verdict = {0: "every step was shown", 3: "NOT EVERY STEP WAS DECIDED, see above", 4: "DIFFERENT, see above; no netlist was written"}
     parts.append(f"{found['folder']}: {verdict[found['status']]}; {found['processor_seconds']:.1f} s of processor time, "
-                 f"{found['seconds']:.1f} s in all\n")
+                 f"{found['seconds']:.1f} s in all; report.html has more\n")
     return "".join(parts)
 
 
