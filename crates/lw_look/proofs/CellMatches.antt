@@ -44,11 +44,14 @@ module _ (l : Look) (x : Chosen) (p : Pattern) (at : slice_get l.pats.now x.foun
     stands_there many found alone = (λ same. forward (subst (StandsAlone l.graph.now (numbers x.found.pins) p.tree) same alone), λ (q, is). backward found alone (stands_by q is))
       where
         forward : StandsAlone l.graph.now (numbers x.found.pins) p.tree (Some x.class) → IsMatchOfCell l x
-        forward (stands, only, inside) = (p, record {
-          listed = at;
-          pins = pins_of_cell ∙ ap Some (many ∙ sym (length-map x.found.pins (λ (c : ClassId). c.0)));
-          stands = stands;
-        })
+        forward (stands, only, inside) = (
+          p,
+          record {
+            listed = at;
+            pins = pins_of_cell ∙ ap Some (many ∙ sym (length-map x.found.pins (λ (c : ClassId). c.0)));
+            stands = stands;
+          },
+        )
 
         stands_by : (q : Pattern) → IsMatchBy l.graph.now (pin_counts l) l.pats.now x.class.0 (plain_match x.found) q → Stands l.graph.now (numbers x.found.pins) p.tree x.class.0
         stands_by q is =

@@ -20,7 +20,7 @@ use Rattle.lw_extract.specs.Assembling.{HaveNetsAt}
 use Rattle.lw_extract.specs.Choosing.{chosen_classes, plain_chosen, plain_matches}
 use Rattle.lw_extract.proofs.Assembly.{classes_same, plain_at}
 use Rattle.lw_look.specs.declared.look.Look.{Look}
-use Rattle.lw_look.specs.Lists.{AllStand, AreSeen, IsMatchOfCell, IsRightList, MayStand, is_seen, pin_counts}
+use Rattle.lw_look.specs.Lists.{AllStand, AreSeen, IsMatchOfCell, IsNew, IsRightList, MayStand, is_seen, pin_counts}
 
 -- Classes that have been seen.
 
@@ -191,3 +191,23 @@ pins_seen g gates j seen (pin ∷ pins) are all = (
 pub seen_pins : (g : Graph) (gates : List ℕ) (j : ℕ) (seen : List Bool) (pins : List ClassId) → AreSeen g gates j seen → AllByRecursion (HasNetBefore g gates j) (numbers pins) → All (λ (class : ClassId). is_seen seen class.0 ≡ true) pins
 seen_pins g gates j seen [] are all = All-nil (λ (class : ClassId). is_seen seen class.0 ≡ true)
 seen_pins g gates j seen (pin ∷ pins) are ((net, lt, at), all) = All-cons (λ (class : ClassId). is_seen seen class.0 ≡ true) pin pins (are.all pin.0 net at lt) (seen_pins g gates j seen pins are all)
+
+not_seen : (b : Bool) → (b ≡ true → ⊥) → b ≡ false
+not_seen true no = absurd (no refl)
+not_seen false no = refl
+
+module _ (l : Look) (gates : List ℕ) (j : ℕ) (seen : List Bool) (x : Chosen) (are : AreSeen l.graph.now gates j seen) where
+  -- a match at a new class whose pins have been seen may stand there
+  pub new_stands : IsNew seen x.class.0 → All (λ (class : ClassId). is_seen seen class.0 ≡ true) x.found.pins → IsMatchOfCell l x → MayStand l gates j x
+  new_stands (inside, unseen) pins is = record {
+    within = let same = are.one_each in omega (arith, inside, same);
+    fresh = λ (net, lt, at). let f : false ≡ true = sym unseen ∙ are.all x.class.0 net at lt in absurd (cc);
+    pins = pins_seen l.graph.now gates j seen x.found.pins are pins;
+    is_match = is;
+  }
+
+  pub stands_new : MayStand l gates j x → IsNew seen x.class.0
+  stands_new stands = (
+    let inside = stands.within in let same = are.one_each in omega (arith, inside, same),
+    not_seen (is_seen seen x.class.0) (λ e. stands.fresh (are.some x.class.0 e)),
+  )

@@ -32,6 +32,10 @@ IsMatchOfCell l x = (p : Pattern) × IsMatchBy l.graph.now (pin_counts l) l.pats
 abbrev pub is_seen : List Bool → ℕ → Bool
 is_seen seen class = slice_index_or seen class false
 
+-- the class can be marked, and is not
+abbrev pub IsNew : List Bool → ℕ → Type 0
+IsNew seen class = (class < length seen) × (is_seen seen class ≡ false)
+
 -- the classes of inputs and of the first j gates have been seen, and no other
 pub record AreSeen (g : Graph) (gates : List ℕ) (j : ℕ) (seen : List Bool) : Type 0 where
   pub one_each : length seen ≡ length g.pairs

@@ -3,7 +3,7 @@ ghost use Rattle.std.specs.Prelude.{◌≡◌, ◌↔◌, ℕ, All, IfOk, IsTrue
 ghost use Rattle.lw_check.specs.Standing.{AreWithin};
 ghost use Rattle.lw_cost.specs.Least.{AreOfCells};
 ghost use Rattle.lw_extract.specs.Choosing.{chosen_classes};
-ghost use Rattle.lw_look.specs.Lists.{AllStand, AreSeen, IsMatchOfCell, IsRightList, MayStand, is_seen, pin_counts};
+ghost use Rattle.lw_look.specs.Lists.{AllStand, AreSeen, IsMatchOfCell, IsNew, IsRightList, MayStand, is_seen, pin_counts};
 
 use crate::Look;
 use lw_check::class_of_pattern;
@@ -11,6 +11,14 @@ use lw_extract::Chosen;
 use lw_graph::Graph;
 use lw_pool::ClassId;
 use std::alloc::{AllocError, Global};
+
+// Whether the class is one that can be marked and has not been seen.
+fn is_new(seen: &[bool], class: ClassId) -> bool
+    ensures { IsTrue result ↔ IsNew seen.now class.0 }
+{
+    let place = class.0 as usize;
+    place < seen.len() && !seen[place]
+}
 
 // Whether each of the classes has been seen.
 fn are_seen(seen: &[bool], classes: &[ClassId]) -> bool
@@ -74,11 +82,13 @@ impl Look<'_> {
         ensures { (gates : List ℕ) (j : ℕ) → AreSeen self.now.graph.now gates j seen.now →
             IsTrue result ↔ MayStand self.now gates j gate.now }
     {
-        let place = gate.class.0 as usize;
-        place < seen.len()
-            && !seen[place]
-            && are_seen(seen, gate.found.pins.as_slice())
-            && self.is_match(gate)
+        if !is_new(seen, gate.class) {
+            return false;
+        }
+        if !are_seen(seen, gate.found.pins.as_slice()) {
+            return false;
+        }
+        self.is_match(gate)
     }
 
     // Whether each match may stand where it is. Its class is marked then.

@@ -41,12 +41,7 @@ impl Look<'_> {
     }
 
     /// The netlist of a list of matches if it passes, else the first cover.
-    pub fn choose(
-        &self,
-        alloc: Global,
-        list: &[Chosen],
-        first: Cover,
-    ) -> Result<Looked, AllocError>
+    pub fn choose(&self, alloc: Global, list: &[Chosen], first: Cover) -> Result<Looked, AllocError>
         requires ready { IsLook self.now }
         requires first { IsFit self.now first.netlist }
         ensures { IfOk result (IsDecided self.now first) }
