@@ -1,8 +1,9 @@
--- What passes is a cover that is right, and so is what is decided.
+-- A right list makes a netlist that is a cover.
 use Rattle.std.proofs.Common.{ℕ, ◌<◌, ◌≤◌, ◌≡◌, List, length, map, ap, sym, ◌∙◌, subst, arith}
 use Rattle.std.proofs.lemmas.List.{length-map}
 use Rattle.lw_pool.specs.Numbers.{numbers}
 use Rattle.lw_laws.specs.MatchLists.{IsMatchNetlist}
+use Rattle.lw_laws.specs.Netlists.{AreByDepth}
 use Rattle.lw_laws.proofs.MatchLists.{made_is_matches}
 use Rattle.lw_genlib.specs.Cells.{IsLibrary}
 use Rattle.lw_netlist.specs.Netlists.{NetlistParts, most_gates}
@@ -14,7 +15,7 @@ use Rattle.lw_extract.specs.Choosing.{plain_chosen, plain_matches}
 use Rattle.lw_extract.proofs.Assembly.{assembled_over, classes_same, few_chosen}
 use Rattle.lw_look.specs.declared.look.Look.{Look}
 use Rattle.lw_look.specs.Lists.{IsRightList, pin_counts}
-use Rattle.lw_look.specs.Looks.{IsFit, IsLook, IsMatchCover, Passes}
+use Rattle.lw_look.specs.Looks.{IsFit, IsLook, IsMatchCover}
 
 module _ (l : Look) (ready : IsLook l) (list : List Chosen) (right : IsRightList l list) where
   -- a right list makes a netlist
@@ -39,7 +40,7 @@ module _ (l : Look) (ready : IsLook l) (list : List Chosen) (right : IsRightList
     matches : IsMatchNetlist l.graph.now (pin_counts l) l.pats.now (numbers cover.classes) (plain cover.netlist)
     matches = subst (λ cs. IsMatchNetlist l.graph.now (pin_counts l) l.pats.now cs (plain cover.netlist)) (classes_same list ∙ sym made.classes) (made_is_matches l.graph.now (pin_counts l) l.pats.now (plain_matches list) (plain cover.netlist) right.matches made.made)
 
-    pub made_covers : Rattle.lw_laws.specs.Netlists.AreByDepth (plain cover.netlist) → IsMatchCover l cover
+    pub made_covers : AreByDepth (plain cover.netlist) → IsMatchCover l cover
     made_covers by_depth = record {
       matches = matches;
       by_depth = by_depth;
@@ -50,7 +51,3 @@ module _ (l : Look) (ready : IsLook l) (list : List Chosen) (right : IsRightList
       output_names = made.output_names;
       outputs = made.outputs;
     }
-
--- what passes is a cover
-pub passed_cover : (l : Look) → IsLook l → IsLibrary l.lib.now → (most : ℕ) (list : List Chosen) (cover : Cover) → Passes l most list cover → IsMatchCover l cover
-passed_cover l ready library most list cover passes = made_covers l ready list passes.right library cover passes.assembled passes.fits.by_depth

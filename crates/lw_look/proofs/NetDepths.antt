@@ -95,9 +95,9 @@ pairs_rise last (n ∷ ns) low pairs = (
 )
 
 drop_read : (first i : ℕ) (xs : List ℕ) → slice_index_or (drop first xs) i 0 ≡ slice_index_or xs (first + i) 0
-drop_read zero i xs = ap (λ k. slice_index_or xs k 0) (omega arith)
+drop_read zero i xs = let e : i ≡ zero + i = omega arith in ap (λ k. slice_index_or xs k 0) e
 drop_read (suc first) i [] = refl
-drop_read (suc first) i (x ∷ xs) = drop_read first i xs ∙ ap (λ k. slice_index_or (x ∷ xs) k 0) (omega arith)
+drop_read (suc first) i (x ∷ xs) = let e : suc (first + i) ≡ suc first + i = omega arith in drop_read first i xs ∙ ap (λ k. slice_index_or (x ∷ xs) k 0) e
 
 -- the gates' depths rise exactly where the gates stand by depth
 pub rising_by_depth : (n : NetlistParts) (kept : IsNetlist n) (depths : List ℕ) → AreNetDepths (plain n) depths → IsRisingFrom 0 (drop n.inputs depths) ↔ AreByDepth (plain n)

@@ -193,8 +193,8 @@ seen_pins g gates j seen [] are all = All-nil (λ (class : ClassId). is_seen see
 seen_pins g gates j seen (pin ∷ pins) are ((net, lt, at), all) = All-cons (λ (class : ClassId). is_seen seen class.0 ≡ true) pin pins (are.all pin.0 net at lt) (seen_pins g gates j seen pins are all)
 
 not_seen : (b : Bool) → (b ≡ true → ⊥) → b ≡ false
-not_seen true no = absurd (no refl)
-not_seen false no = refl
+not_seen true never = absurd (never refl)
+not_seen false never = refl
 
 module _ (l : Look) (gates : List ℕ) (j : ℕ) (seen : List Bool) (x : Chosen) (are : AreSeen l.graph.now gates j seen) where
   -- a match at a new class whose pins have been seen may stand there

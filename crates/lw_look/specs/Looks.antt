@@ -21,14 +21,12 @@ use Rattle.lw_cost.specs.Least.{AreOfCells}
 use Rattle.lw_netlist.specs.declared.gate.Port.{Port}
 use Rattle.lw_netlist.specs.Netlists.{NetlistParts, most_gates}
 use Rattle.lw_netlist.specs.Plain.{IsOver, mapped_ports, plain}
-use Rattle.lw_extract.specs.declared.choosing.Chosen.{Chosen}
 use Rattle.lw_extract.specs.declared.ports.Cover.{Cover}
-use Rattle.lw_extract.specs.Assembling.{IsAssembled}
 use Rattle.lw_extract.specs.Covers.{AreFit}
 use Rattle.lw_look.specs.declared.look.Look.{Look}
 use Rattle.lw_look.specs.declared.look.Looked.{Looked}
 use Rattle.lw_look.specs.Areas.{area_of}
-use Rattle.lw_look.specs.Lists.{IsRightList, pin_counts}
+use Rattle.lw_look.specs.Lists.{pin_counts}
 
 -- The ports fit the graph, the patterns are of the library's cells, and each input has a start.
 pub record IsLook (l : Look) : Type 0 where
@@ -72,10 +70,9 @@ pub record Fits (l : Look) (most : ℕ) (n : NetlistParts) : Type 0 where
   pub area : area_of l.lib.now n.gates ≤ most
   pub in_time : IsInTime l.lib.now l.starts.now l.times.now n
 
--- The list is a cover of the outputs, and the netlist that it makes fits.
-pub record Passes (l : Look) (most : ℕ) (list : List Chosen) (cover : Cover) : Type 0 where
-  pub right : IsRightList l list
-  pub assembled : IsAssembled l.graph.now l.pats.now l.ports.now list cover
+-- the cover is right, and its netlist fits
+pub record Passes (l : Look) (most : ℕ) (cover : Cover) : Type 0 where
+  pub covers : IsMatchCover l cover
   pub fits : Fits l most cover.netlist
 
 -- The cover is the first one where the list was refused. Else it is that of the list: a cover that is right and in time, with no more area.

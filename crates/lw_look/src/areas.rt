@@ -1,5 +1,5 @@
 // The area of a netlist.
-ghost use Rattle.std.specs.Prelude.{◌≡◌, ◌≤◌, All, length, slice_get};
+ghost use Rattle.std.specs.Prelude.{◌≡◌, ◌≤◌, ◌↔◌, All, IsTrue, length, slice_get};
 ghost use Rattle.lw_netlist.specs.Netlists.{most_gates};
 ghost use Rattle.lw_netlist.specs.Filling.{one_step};
 ghost use Rattle.lw_netlist.specs.Plain.{HasCell, IsOver};
@@ -38,4 +38,13 @@ pub fn area_of(lib: &Library, netlist: &Netlist) -> u64
     ensures { result ≡ area_of lib.now netlist.now.gates }
 {
     sum_of(lib, netlist.gates())
+}
+
+// Whether the gates of a netlist take no more than an area.
+pub(crate) fn is_within(lib: &Library, netlist: &Netlist, most: u64) -> bool
+    requires over { IsOver lib.now netlist.now }
+    requires few { length netlist.now.gates ≤ most_gates }
+    ensures { IsTrue result ↔ (area_of lib.now netlist.now.gates ≤ most) }
+{
+    area_of(lib, netlist) <= most
 }

@@ -2,7 +2,7 @@
 ghost use Rattle.std.specs.Prelude.{◌↔◌, IfOk, IfSome, IsTrue};
 ghost use Rattle.lw_look.specs.Looks.{Fits, IsDecided, IsFit, IsLook, Passes};
 
-use crate::areas::area_of;
+use crate::areas::{area_of, is_within};
 use crate::depths::is_by_depth;
 use crate::timing::is_in_time;
 use crate::{Look, Looked};
@@ -18,7 +18,10 @@ impl Look<'_> {
         requires fit { IsFit self.now netlist.now }
         ensures { IfOk result (λ yes. IsTrue yes ↔ Fits self.now most netlist.now) }
     {
-        if area_of(self.lib, netlist) > most || !is_by_depth(alloc, netlist)? {
+        if !is_within(self.lib, netlist, most) {
+            return Ok(false);
+        }
+        if !is_by_depth(alloc, netlist)? {
             return Ok(false);
         }
         is_in_time(alloc, self.lib, self.starts, netlist, self.times)
@@ -27,11 +30,12 @@ impl Look<'_> {
     // The netlist of a list of matches, if it passes.
     fn passed(&self, alloc: Global, list: &[Chosen], most: u64) -> Result<Option<Cover>, AllocError>
         requires { IsLook self.now }
-        ensures { IfOk result (λ found. IfSome found (Passes self.now most list.now)) }
+        ensures { IfOk result (λ found. IfSome found (Passes self.now most)) }
     {
         if !self.is_right_list(alloc, list)? {
             return Ok(None);
         }
+        let _ = self.lib.len();
         let cover = assemble(alloc, self.graph, self.pats, self.ports, list)?;
         if self.fits(alloc, &cover.netlist, most)? {
             return Ok(Some(cover));

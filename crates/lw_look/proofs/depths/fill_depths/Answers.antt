@@ -8,6 +8,14 @@ use Rattle.lw_look.specs.Depths.{gate_depth}
 use Rattle.lw_look.proofs.NetDepths.{depths_are_local, greatest_low, low_more}
 use Rattle.lw_look.proofs.depths.fill_depths.Goals as goal
 
+pub overflow_add-depths : goal.overflow_add-depths
+overflow_add-depths c =
+    let depths = c.loop-j.depths in
+    let pins = c.index-gates-j.result.pins in
+    let is : c.deepest.result ≡ greatest_depth depths (map net_number pins) = subst (λ ps. c.deepest.result ≡ greatest_depth depths (map net_number ps)) c.as_slice.ensures c.deepest.ensures in
+    let low = greatest_low depths c.loop-j.j (map net_number pins) c.loop-j.invariant.low in
+    omega (arith, is, low, c.loop-j-test.true, c.requires.few, c.requires.one_each)
+
 pub loop-j-preserved : goal.loop-j-preserved
 loop-j-preserved c =
     let j = c.loop-j.j in
