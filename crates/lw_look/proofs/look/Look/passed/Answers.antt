@@ -1,0 +1,16 @@
+use Rattle.lw_look.proofs.Deciding.{made_covers, made_fits}
+use Rattle.lw_look.proofs.look.Look.passed.Goals as goal
+
+pub fits-requires-clause-fit : goal.fits-requires-clause-fit
+fits-requires-clause-fit c =
+    let right = c.in_ok-is_right_list.ensures.0 c.if-not-branch.false in
+    made_fits c.args.self.now c.requires c.args.list.now right c.len.ensures.kept c.in_ok-cover.cover c.in_ok-cover.ensures
+
+pub returns-then-branch : goal.returns-then-branch
+returns-then-branch c =
+    let right = c.in_ok-is_right_list.ensures.0 c.if-not-branch.false in
+    let fits = c.in_ok-fits.ensures.0 c.if-branch.true in
+    record {
+      covers = made_covers c.args.self.now c.requires c.args.list.now right c.len.ensures.kept c.in_ok-cover.cover c.in_ok-cover.ensures fits.by_depth;
+      fits = fits;
+    }
