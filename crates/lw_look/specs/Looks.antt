@@ -1,5 +1,5 @@
 -- What a look is asked, what it lets pass, and what it gives.
-use Rattle.std.specs.Prelude.{ℕ, ◌≤◌, ◌≡◌, All, Bool, true, false, List, [], ◌∷◌, length, map, slice_index_or}
+use Rattle.std.specs.Prelude.{ℕ, ◌≤◌, ◌≡◌, ◌⊎◌, All, Bool, true, false, Option, Some, None, List, [], ◌∷◌, length, map, slice_index_or}
 use Rattle.std.specs.List.{AllZip}
 use Rattle.lw_fixed.specs.declared.micro.Micro.{Micro}
 use Rattle.lw_pool.specs.Numbers.{numbers}
@@ -22,11 +22,13 @@ use Rattle.lw_netlist.specs.declared.gate.Port.{Port}
 use Rattle.lw_netlist.specs.Netlists.{NetlistParts, most_gates}
 use Rattle.lw_netlist.specs.Plain.{IsOver, mapped_ports, plain}
 use Rattle.lw_extract.specs.declared.ports.Cover.{Cover}
+use Rattle.lw_extract.specs.declared.choosing.Chosen.{Chosen}
+use Rattle.lw_extract.specs.Assembling.{IsAssembled}
 use Rattle.lw_extract.specs.Covers.{AreFit}
 use Rattle.lw_look.specs.declared.look.Look.{Look}
 use Rattle.lw_look.specs.declared.look.Looked.{Looked}
 use Rattle.lw_look.specs.Areas.{area_of}
-use Rattle.lw_look.specs.Lists.{pin_counts}
+use Rattle.lw_look.specs.Lists.{IsRightList, pin_counts}
 
 -- The ports fit the graph, the patterns are of the library's cells, and each input has a start.
 pub record IsLook (l : Look) : Type 0 where
@@ -75,13 +77,22 @@ pub record Passes (l : Look) (most : ℕ) (cover : Cover) : Type 0 where
   pub covers : IsMatchCover l cover
   pub fits : Fits l most cover.netlist
 
--- The cover is the first one where the list was refused. Else it is that of the list: a cover that is right and in time, with no more area.
-abbrev pub IsDecidedBy : Look → Cover → Cover → Bool → Type 0
-IsDecidedBy l first cover true = cover ≡ first
-IsDecidedBy l first cover false = IsMatchCover l cover × IsTimely l cover × (area_of l.lib.now cover.netlist.gates ≤ area_of l.lib.now first.netlist.gates)
+-- the list is not a cover of the outputs, or the netlist that it makes does not fit
+abbrev pub IsRefused : Look → ℕ → List Chosen → Type 0
+IsRefused l most list = (IsRightList l list → ⊥) ⊎ ((cover : Cover) × IsAssembled l.graph.now l.pats.now l.ports.now list cover × (Fits l most cover.netlist → ⊥))
 
-abbrev pub IsDecided : Look → Cover → Looked → Type 0
-IsDecided l first looked = IsDecidedBy l first looked.cover looked.refused
+abbrev pub IsPassed : Look → ℕ → List Chosen → Option Cover → Type 0
+IsPassed l most list None = IsRefused l most list
+IsPassed l most list (Some cover) = Passes l most cover
+
+-- The cover is the first one exactly where the list is refused. Else it is that of the list: a cover that is right and in time, with no more
+-- area.
+abbrev pub IsDecidedBy : Look → List Chosen → Cover → Cover → Bool → Type 0
+IsDecidedBy l list first cover true = (cover ≡ first) × IsRefused l (area_of l.lib.now first.netlist.gates) list
+IsDecidedBy l list first cover false = IsMatchCover l cover × IsTimely l cover × (area_of l.lib.now cover.netlist.gates ≤ area_of l.lib.now first.netlist.gates)
+
+abbrev pub IsDecided : Look → List Chosen → Cover → Looked → Type 0
+IsDecided l list first looked = IsDecidedBy l list first looked.cover looked.refused
 
 -- The look is at the graph of a network's forms, with the network's ports.
 pub record IsOfNetwork (mode : Mode) (width : ℕ) (net : Network) (ports : PlainPorts) (l : Look) : Type 0 where

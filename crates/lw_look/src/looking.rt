@@ -1,6 +1,6 @@
 // The look itself.
-ghost use Rattle.std.specs.Prelude.{◌↔◌, IfOk, IfSome, IsTrue};
-ghost use Rattle.lw_look.specs.Looks.{Fits, IsDecided, IsFit, IsLook, Passes};
+ghost use Rattle.std.specs.Prelude.{◌↔◌, IfOk, IsTrue};
+ghost use Rattle.lw_look.specs.Looks.{Fits, IsDecided, IsFit, IsLook, IsPassed};
 
 use crate::areas::{area_of, is_within};
 use crate::depths::is_by_depth;
@@ -30,7 +30,7 @@ impl Look<'_> {
     // The netlist of a list of matches, if it passes.
     fn passed(&self, alloc: Global, list: &[Chosen], most: u64) -> Result<Option<Cover>, AllocError>
         requires { IsLook self.now }
-        ensures { IfOk result (λ found. IfSome found (Passes self.now most)) }
+        ensures { IfOk result (IsPassed self.now most list.now) }
     {
         if !self.is_right_list(alloc, list)? {
             return Ok(None);
@@ -48,7 +48,7 @@ impl Look<'_> {
     pub fn choose(&self, alloc: Global, list: &[Chosen], first: Cover) -> Result<Looked, AllocError>
         requires ready { IsLook self.now }
         requires first { IsFit self.now first.netlist }
-        ensures { IfOk result (IsDecided self.now first) }
+        ensures { IfOk result (IsDecided self.now list.now first) }
     {
         let most = area_of(self.lib, &first.netlist);
         match self.passed(alloc, list, most)? {
