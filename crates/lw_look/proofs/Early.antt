@@ -7,7 +7,7 @@ use Rattle.lw_fixed.specs.declared.micro.Micro.{Micro}
 use Rattle.lw_genlib.specs.Cells.{CellParts}
 use Rattle.lw_genlib.specs.Tables.{millionths, timing_of}
 use Rattle.lw_laws.specs.Headline.{Port as PlainPort}
-use Rattle.lw_laws.specs.Netlists.{AreArrivals, AreOrdered}
+use Rattle.lw_laws.specs.Netlists.{AreArrivals}
 use Rattle.lw_laws.proofs.NetlistValues.{arrivals_once}
 use Rattle.lw_netlist.specs.declared.gate.Port.{Port}
 use Rattle.lw_netlist.specs.Netlists.{NetlistParts, IsNetlist}

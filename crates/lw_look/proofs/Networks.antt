@@ -1,24 +1,19 @@
 -- Covers over the graph of a network's forms, and mappings in time.
-use Rattle.std.proofs.Common.{ℕ, ◌≤◌, ◌≡◌, List, [], ◌∷◌, ◌++◌, length, map, take, slice_index_or, ap, ap₂, sym, ◌∙◌, subst, arith}
+use Rattle.std.proofs.Common.{ℕ, ◌≤◌, ◌≡◌, List, [], ◌∷◌, ◌++◌, length, map, take, slice_index_or, ap, ap₂, sym, ◌∙◌, arith}
 use Rattle.std.specs.List.{AllZip}
 use Rattle.std.proofs.lemmas.List.{take_at}
-use Rattle.lw_pool.specs.declared.id.ClassId.{ClassId}
 use Rattle.lw_pool.specs.Numbers.{numbers}
 use Rattle.lw_laws.specs.Modes.{Mode}
 use Rattle.lw_laws.specs.Networks.{Network}
 use Rattle.lw_laws.specs.Covers.{Pattern, Timing}
-use Rattle.lw_laws.specs.Extracts.{IsNetOf}
-use Rattle.lw_laws.specs.Graphs.{Graph}
 use Rattle.lw_laws.specs.Headline.{HasLeastArrival, IsMapping, Port as PlainPort, Ports}
 use Rattle.lw_laws.specs.InTime.{AreLeastTimes, ArriveBy}
-use Rattle.lw_laws.specs.Mapped.{root_class}
 use Rattle.lw_laws.specs.MappedNetlists.{IsMatchNetlistOf, root_classes}
 use Rattle.lw_laws.specs.Names.{free_names, gate_names, net_names}
 use Rattle.lw_laws.specs.Netlists.{CellTruth, Netlist}
 use Rattle.lw_laws.specs.Signals.{signals_of, sop_at}
 use Rattle.lw_laws.proofs.NetlistOnce.{least_time_once}
-use Rattle.lw_netlist.specs.declared.gate.Port.{Port}
-use Rattle.lw_netlist.specs.Plain.{plain, plain_port, mapped_ports}
+use Rattle.lw_netlist.specs.Plain.{plain, mapped_ports}
 use Rattle.lw_extract.specs.declared.ports.Cover.{Cover}
 use Rattle.lw_look.proofs.PortLists.{port_name, zip_outputs}
 use Rattle.lw_look.specs.declared.look.Look.{Look}

@@ -1,20 +1,19 @@
 -- Lists whose matches may stand where they are, one after another, are right.
-use Rattle.std.proofs.Common.{ℕ, zero, suc, ◌+◌, ◌<◌, ◌≤◌, ◌≡◌, ◌⊎◌, inl, inr, Bool, true, false, List, [], ◌∷◌, ◌++◌, length, map, All, Some, slice_get, slice_index_or, slice_set, refl, ap, sym, ◌∙◌, subst, arith, get_or-set_same, get_or-set_other}
+use Rattle.std.proofs.Common.{ℕ, ◌+◌, ◌<◌, ◌≤◌, ◌≡◌, ◌⊎◌, inl, inr, Bool, true, false, List, [], ◌∷◌, ◌++◌, length, All, Some, slice_get, slice_index_or, slice_set, refl, ap, sym, ◌∙◌, subst, arith, get_or-set_same, get_or-set_other}
 use Rattle.std.specs.List.{AllByRecursion}
 use Rattle.std.proofs.lemmas.Bool.{cases_eq, cases_order}
 use Rattle.std.proofs.lemmas.List.{length-map, length-set, length-append}
 use Rattle.std.proofs.lemmas.List.Elements.{All-nil, All-cons, All-head, All-tail}
 use Rattle.std.proofs.lemmas.Option.{same_Some, slice_get_within, slice_get-get_or}
-use Rattle.lw_facts.proofs.Lists.{all_at, get_left, get_right, index_at}
+use Rattle.lw_facts.proofs.Lists.{all_at, get_left, get_right}
 use Rattle.lw_pool.specs.declared.id.ClassId.{ClassId}
 use Rattle.lw_pool.specs.Numbers.{numbers}
 use Rattle.lw_laws.specs.Graphs.{Graph}
 use Rattle.lw_laws.specs.Covers.{Pattern}
 use Rattle.lw_laws.specs.Extracts.{IsMatchBy, IsNetOf}
-use Rattle.lw_laws.specs.MatchLists.{Gated, gated_classes, AreGatesApart, AreMatchesInOrder, HasNetBefore}
+use Rattle.lw_laws.specs.MatchLists.{Gated, gated_classes, AreGatesApart, HasNetBefore}
 use Rattle.lw_laws.proofs.MatchLists.{net_side}
 use Rattle.lw_laws.proofs.Numbers.{slice_get_map, slice_get_map_back}
-use Rattle.lw_cost.specs.Values.{plain_match}
 use Rattle.lw_extract.specs.declared.choosing.Chosen.{Chosen}
 use Rattle.lw_extract.specs.Assembling.{HaveNetsAt}
 use Rattle.lw_extract.specs.Choosing.{chosen_classes, plain_chosen, plain_matches}
@@ -181,16 +180,16 @@ module _ (l : Look) (list : List Chosen) where
 
 -- What a match may stand by.
 
-pub pins_seen : (g : Graph) (gates : List ℕ) (j : ℕ) (seen : List Bool) (pins : List ClassId) → AreSeen g gates j seen → All (λ (class : ClassId). is_seen seen class.0 ≡ true) pins → AllByRecursion (HasNetBefore g gates j) (numbers pins)
-pins_seen g gates j seen [] are all = tt
-pins_seen g gates j seen (pin ∷ pins) are all = (
+pub pins_seen : (g : Graph) (cs : List ℕ) (j : ℕ) (seen : List Bool) (pins : List ClassId) → AreSeen g cs j seen → All (λ (class : ClassId). is_seen seen class.0 ≡ true) pins → AllByRecursion (HasNetBefore g cs j) (numbers pins)
+pins_seen g cs j seen [] are all = tt
+pins_seen g cs j seen (pin ∷ pins) are all = (
   are.some pin.0 (All-head (λ (class : ClassId). is_seen seen class.0 ≡ true) pin pins all),
-  pins_seen g gates j seen pins are (All-tail (λ (class : ClassId). is_seen seen class.0 ≡ true) pin pins all),
+  pins_seen g cs j seen pins are (All-tail (λ (class : ClassId). is_seen seen class.0 ≡ true) pin pins all),
 )
 
-pub seen_pins : (g : Graph) (gates : List ℕ) (j : ℕ) (seen : List Bool) (pins : List ClassId) → AreSeen g gates j seen → AllByRecursion (HasNetBefore g gates j) (numbers pins) → All (λ (class : ClassId). is_seen seen class.0 ≡ true) pins
-seen_pins g gates j seen [] are all = All-nil (λ (class : ClassId). is_seen seen class.0 ≡ true)
-seen_pins g gates j seen (pin ∷ pins) are ((net, lt, at), all) = All-cons (λ (class : ClassId). is_seen seen class.0 ≡ true) pin pins (are.all pin.0 net at lt) (seen_pins g gates j seen pins are all)
+pub seen_pins : (g : Graph) (cs : List ℕ) (j : ℕ) (seen : List Bool) (pins : List ClassId) → AreSeen g cs j seen → AllByRecursion (HasNetBefore g cs j) (numbers pins) → All (λ (class : ClassId). is_seen seen class.0 ≡ true) pins
+seen_pins g cs j seen [] are all = All-nil (λ (class : ClassId). is_seen seen class.0 ≡ true)
+seen_pins g cs j seen (pin ∷ pins) are ((net, lt, at), all) = All-cons (λ (class : ClassId). is_seen seen class.0 ≡ true) pin pins (are.all pin.0 net at lt) (seen_pins g cs j seen pins are all)
 
 not_seen : (b : Bool) → (b ≡ true → ⊥) → b ≡ false
 not_seen true never = absurd (never refl)

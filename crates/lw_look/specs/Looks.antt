@@ -1,5 +1,5 @@
 -- What a look is asked, what it lets pass, and what it gives.
-use Rattle.std.specs.Prelude.{ℕ, ◌≤◌, ◌≡◌, ◌⊎◌, All, Bool, true, false, Option, Some, None, List, [], ◌∷◌, length, map, slice_index_or}
+use Rattle.std.specs.Prelude.{ℕ, ◌≤◌, ◌≡◌, ◌⊎◌, All, Bool, true, false, Option, Some, None, List, length, map, slice_index_or}
 use Rattle.std.specs.List.{AllZip}
 use Rattle.lw_fixed.specs.declared.micro.Micro.{Micro}
 use Rattle.lw_pool.specs.Numbers.{numbers}

@@ -1,7 +1,6 @@
-use Rattle.std.proofs.Common.{◌<◌, ◌≡◌, Some, length, slice_get, refl, arith}
+use Rattle.std.proofs.Common.{length, refl, arith}
 use Rattle.std.proofs.lemmas.Option.{slice_get_read, slice_get_within}
 use Rattle.lw_extract.specs.Choosing.{chosen_classes}
-use Rattle.lw_look.specs.Lists.{MayStand}
 use Rattle.lw_look.proofs.RightLists.{place_seen, stand_more}
 use Rattle.lw_look.proofs.look.Look.all_stand.Goals as goal
 

@@ -1,9 +1,8 @@
-use Rattle.std.proofs.Common.{◌∙◌, ◌≡◌, List, length, ap, sym, subst, arith}
+use Rattle.std.proofs.Common.{◌≡◌, List, length, ap, subst, arith}
 use Rattle.lw_pool.specs.declared.id.ClassId.{ClassId}
 use Rattle.lw_pool.specs.Numbers.{numbers}
 use Rattle.lw_check.specs.Standing.{StandsAlone}
 use Rattle.lw_pattern.specs.Listed.{pattern_of}
-use Rattle.lw_pattern.specs.Nodes.{tree_of}
 use Rattle.lw_look.proofs.CellMatches.{cell_within, as_many, stands_there}
 use Rattle.lw_look.proofs.look.Look.is_match.Goals as goal
 
