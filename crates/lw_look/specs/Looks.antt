@@ -59,9 +59,6 @@ pub record IsFit (l : Look) (n : NetlistParts) : Type 0 where
 abbrev pub IsInTime : List CellParts → List Micro → List Micro → NetlistParts → Type 0
 IsInTime cells starts times n = ArriveBy (timing_of cells starts) (plain n) (mapped_ports n) (map millionths times)
 
-abbrev pub IsTimely : Look → Cover → Type 0
-IsTimely l cover = IsInTime l.lib.now l.starts.now l.times.now cover.netlist
-
 -- the same by arrivals at hand
 abbrev pub AreEarly : List Micro → List Port → List Micro → Type 0
 AreEarly arrivals outputs times = AllZip (λ (port : Port) (time : Micro). (slice_index_or arrivals port.net.0 (record { 0 = 0 })).0 ≤ time.0) outputs times
@@ -72,8 +69,10 @@ pub record Fits (l : Look) (most : ℕ) (n : NetlistParts) : Type 0 where
   pub area : area_of l.lib.now n.gates ≤ most
   pub in_time : IsInTime l.lib.now l.starts.now l.times.now n
 
--- the cover is right, and its netlist fits
-pub record Passes (l : Look) (most : ℕ) (cover : Cover) : Type 0 where
+-- The list is a cover of the outputs. The netlist that it makes is a cover that is right, and fits.
+pub record Passes (l : Look) (most : ℕ) (list : List Chosen) (cover : Cover) : Type 0 where
+  pub right : IsRightList l list
+  pub assembled : IsAssembled l.graph.now l.pats.now l.ports.now list cover
   pub covers : IsMatchCover l cover
   pub fits : Fits l most cover.netlist
 
@@ -83,13 +82,12 @@ IsRefused l most list = (IsRightList l list → ⊥) ⊎ ((cover : Cover) × IsA
 
 abbrev pub IsPassed : Look → ℕ → List Chosen → Option Cover → Type 0
 IsPassed l most list None = IsRefused l most list
-IsPassed l most list (Some cover) = Passes l most cover
+IsPassed l most list (Some cover) = Passes l most list cover
 
--- The cover is the first one exactly where the list is refused. Else it is that of the list: a cover that is right and in time, with no more
--- area.
+-- The cover is the first one exactly where the list is refused. Else it is that of the list, which passes with no more area.
 abbrev pub IsDecidedBy : Look → List Chosen → Cover → Cover → Bool → Type 0
 IsDecidedBy l list first cover true = (cover ≡ first) × IsRefused l (area_of l.lib.now first.netlist.gates) list
-IsDecidedBy l list first cover false = IsMatchCover l cover × IsTimely l cover × (area_of l.lib.now cover.netlist.gates ≤ area_of l.lib.now first.netlist.gates)
+IsDecidedBy l list first cover false = Passes l (area_of l.lib.now first.netlist.gates) list cover
 
 abbrev pub IsDecided : Look → List Chosen → Cover → Looked → Type 0
 IsDecided l list first looked = IsDecidedBy l list first looked.cover looked.refused

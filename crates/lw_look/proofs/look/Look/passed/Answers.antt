@@ -12,6 +12,8 @@ returns-then-branch c =
     let right = c.in_ok-is_right_list.ensures.0 c.if-not-branch.false in
     let fits = c.in_ok-fits.ensures.0 c.if-branch.true in
     record {
+      right = right;
+      assembled = c.in_ok-cover.ensures;
       covers = made_covers c.args.self.now c.requires c.args.list.now right c.len.ensures.kept c.in_ok-cover.cover c.in_ok-cover.ensures fits.by_depth;
       fits = fits;
     }
