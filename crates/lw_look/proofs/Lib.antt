@@ -1,0 +1,8 @@
+mod AreaSums
+mod CellMatches
+mod Deciding
+mod Early
+mod NetDepths
+mod Networks
+mod PortLists
+mod RightLists
