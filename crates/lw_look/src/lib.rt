@@ -9,7 +9,7 @@
 //! order. The area, each gate counted once, is at most that of the other cover.
 //!
 //! `listing` looks at the list, `depths`, `timing` and `areas` at the netlist, and `looking` takes
-//! them together. `lw_area` calls it.
+//! them together. No command uses it yet.
 #![tactic(auto)]
 
 mod areas;
