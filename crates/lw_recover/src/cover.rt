@@ -5,7 +5,7 @@
 // one for each root; the links from `uses` on name the gates of these pins; `arr` is the greatest
 // of a pin's `arr` and its delay, and `req` the least of the class's deadline and of what the gates
 // above leave.
-use crate::attain::Attain;
+use crate::attained::Attained;
 use crate::matches::{Gate, Gates, Link, Matches, NONE, Put};
 use lw_kinds::{LATE, Space, Table};
 use lw_pool::ClassId;
@@ -28,10 +28,10 @@ pub(crate) struct Kept {
 }
 
 #[derive(Drop)]
-pub(crate) struct Cover<'a, A: Drop> {
+pub(crate) struct Cover<'a> {
     pub alloc: Global,
     pub space: &'a Space<'a>,
-    pub attain: A,
+    attained: &'a Attained,
     pub matches: Matches,
     pub refs: Table<u32>,
     /// The match of each class in use; of one that was in use, its last.
@@ -67,12 +67,12 @@ enum Seen {
     Done,
 }
 
-impl<'a, A: Attain + Drop> Cover<'a, A> {
+impl<'a> Cover<'a> {
     /// No gate. `start` makes the first cover.
     pub(crate) fn new(
         alloc: Global,
         space: &'a Space<'a>,
-        attain: A,
+        attained: &'a Attained,
         roots: &[Root],
     ) -> Result<Self, AllocError> {
         let classes = space.graph.classes() as usize;
@@ -84,7 +84,7 @@ impl<'a, A: Attain + Drop> Cover<'a, A> {
         Ok(Cover {
             alloc,
             space,
-            attain,
+            attained,
             matches: Matches::new(alloc, space)?,
             refs: Table::new(alloc, classes, 0)?,
             sel: Table::new(alloc, classes, NONE)?,
@@ -109,10 +109,11 @@ impl<'a, A: Attain + Drop> Cover<'a, A> {
         if known != NONE {
             return Ok(known);
         }
-        let Some(found) = self.attain.attain(class) else {
+        let attained = self.attained;
+        let Some(pat) = attained.pat(class) else {
             return Ok(NONE);
         };
-        let number = self.matches.put(found.pat, &found.pins)?;
+        let number = self.matches.put(pat, attained.pins(class))?;
         self.fast.set(class.0, number);
         Ok(number)
     }
@@ -126,9 +127,7 @@ impl<'a, A: Attain + Drop> Cover<'a, A> {
         let Some(inverter) = self.space.inverter else {
             return Ok(NONE);
         };
-        let mut pins = [ClassId(0); 16];
-        pins[0] = class.flip();
-        let number = self.matches.put(inverter.pat, &pins)?;
+        let number = self.matches.put(inverter.pat, &[class.flip()])?;
         self.inverted.set(class.0, number);
         Ok(number)
     }
@@ -345,10 +344,29 @@ impl<'a, A: Attain + Drop> Cover<'a, A> {
         Ok(true)
     }
 
-    /// The list of gates, pins first.
+    // How deep each of these gates is, which stand pins first: inputs are 0 deep.
+    fn depths(&self, gates: &[ClassId]) -> Result<Table<u32>, AllocError> {
+        let classes = self.space.graph.classes() as usize;
+        let mut depths = Table::new(self.alloc, classes, 0)?;
+        for gate in gates {
+            let of = self.matches.get(self.sel.get(gate.0));
+            let mut deepest = 0u32;
+            for place in of.first..of.end {
+                let pin = self.matches.leg(place).class;
+                deepest = deepest.max(depths.get(pin.0));
+            }
+            depths.set(gate.0, deepest.saturating_add(1));
+        }
+        Ok(depths)
+    }
+
+    /// The list of gates by depth, and so pins first.
     pub(crate) fn listed(&self) -> Result<Gates, AllocError> {
+        let mut gates = self.gates()?;
+        let depths = self.depths(&gates)?;
+        gates.sort_by_key(|class| depths.get(class.0))?;
         let mut items = Vec::new(self.alloc);
-        for class in &self.gates()? {
+        for class in &gates {
             let gate: Gate = self.matches.gate(*class, self.sel.get(class.0));
             items.push(gate)?;
         }

@@ -1,5 +1,4 @@
 // Covers that are drawn from curves, and those of the networks' own gates.
-use crate::attain::Attain;
 use crate::cover::Cover;
 use crate::curves::{Curves, Front};
 use crate::matches::NONE;
@@ -42,7 +41,7 @@ impl Drawing {
     }
 }
 
-impl<'a, A: Attain + Drop> Cover<'a, A> {
+impl<'a> Cover<'a> {
     // The curve of a class once more.
     fn curve_again(
         &self,

@@ -10,7 +10,7 @@
 //! bound on their turns.
 #![tactic(auto)]
 
-mod attain;
+mod attained;
 mod chance;
 mod cover;
 mod curves;
@@ -23,7 +23,7 @@ mod times;
 mod trial;
 mod visits;
 
-pub use attain::{Attain, Attained};
+pub use attained::Attained;
 pub use cover::Root;
 pub use drawing::Nodes;
 pub use lw_kinds::Label;

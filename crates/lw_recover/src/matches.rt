@@ -249,7 +249,7 @@ impl Matches {
     }
 
     /// Appends a match of a pattern with its pins at these classes.
-    pub(crate) fn put(&mut self, pat: PatId, pins: &[ClassId; 16]) -> Result<u32, AllocError> {
+    pub(crate) fn put(&mut self, pat: PatId, pins: &[ClassId]) -> Result<u32, AllocError> {
         let info = self.info(pat);
         if info.cell.0 == NONE {
             return Ok(NONE);

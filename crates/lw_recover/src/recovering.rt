@@ -1,5 +1,5 @@
 // What is done with moves and curves: which covers to begin with, in which order, and what is kept.
-use crate::attain::Attain;
+use crate::attained::Attained;
 use crate::cover::{Cover, Kept, Root};
 use crate::curves::Curves;
 use crate::drawing::Nodes;
@@ -53,8 +53,8 @@ const PART: u64 = 500;
 
 /// The moves, and the least cover in time that was met.
 #[derive(Drop)]
-struct Recovery<'a, A: Drop> {
-    moves: Moves<'a, A>,
+struct Recovery<'a> {
+    moves: Moves<'a>,
     best: Kept,
     /// The latest that anything may arrive.
     horizon: u64,
@@ -67,9 +67,9 @@ struct Sources {
     owns: Vec<Table<u32>>,
 }
 
-impl<'a, A: Attain + Drop> Recovery<'a, A> {
+impl<'a> Recovery<'a> {
     // Begins with the present cover, which is in time.
-    fn new(moves: Moves<'a, A>) -> Result<Self, AllocError> {
+    fn new(moves: Moves<'a>) -> Result<Self, AllocError> {
         let cover = &moves.cover;
         let area = cover.area()?;
         let sel = cover.copy_sel()?;
@@ -127,23 +127,22 @@ impl<'a, A: Attain + Drop> Recovery<'a, A> {
         }
     }
 
-    // Covers drawn from curves, and passes over each: the last curves.
-    fn rounds(&mut self, of: &Sources, first: &Curves) -> Result<Option<Curves>, AllocError> {
-        let mut last = None;
+    // Covers drawn from curves, and passes over each: the curves, each round's in the place of the
+    // one's before.
+    fn rounds(&mut self, of: &Sources, first: Curves) -> Result<Curves, AllocError> {
+        let mut curves = first;
         let mut uses = self.uses()?;
         for _ in 0..ROUNDS {
-            let old = last.as_ref().unwrap_or(first);
             let cover = &mut self.moves.cover;
-            let curves = cover.again(&of.stock, old, &of.owns, &uses, self.horizon)?;
+            curves = cover.again(&of.stock, &curves, &of.owns, &uses, self.horizon)?;
             let sel = cover.draw(&curves)?;
             if !self.adopt(&sel)? {
                 break;
             }
             self.passes(PASSES, Some(&curves))?;
             self.average(&mut uses);
-            last = Some(curves);
         }
-        Ok(last)
+        Ok(curves)
     }
 
     // The gates of a network, those of others where it has none, and else the fastest.
@@ -251,10 +250,10 @@ impl<'a, A: Attain + Drop> Recovery<'a, A> {
             }
         }
         let sources = Sources { stock, owns };
-        let mut last = self.rounds(&sources, &first)?;
+        let mut last = self.rounds(&sources, first)?;
         for place in 0..sources.owns.len() {
             if self.start_own(&sources.owns, place)? {
-                last = self.rounds(&sources, &first)?;
+                last = self.rounds(&sources, last)?;
             }
         }
         if self.adopt(&start)? {
@@ -262,7 +261,7 @@ impl<'a, A: Attain + Drop> Recovery<'a, A> {
         }
         drop(start);
         if effort == Effort::Chance {
-            self.anneal(last.as_ref())?;
+            self.anneal(Some(&last))?;
         }
         Ok(())
     }
@@ -284,19 +283,19 @@ fn chosen_in(owns: &[Table<u32>], place: usize, number: u32) -> u32 {
 
 /// A smaller cover of the roots, each by its time, which is no earlier than its label. None where
 /// no cover was found. The networks are what the graph was made of.
-pub fn recover<A: Attain + Drop>(
+pub fn recover(
     alloc: Global,
     graph: &Graph,
     lib: &Library,
     pats: &Patterns,
     labels: &[Option<Label>],
-    attain: A,
+    attained: &Attained,
     roots: &[Root],
     networks: &[Nodes],
     effort: Effort,
 ) -> Result<Option<Gates>, AllocError> {
     let space = Space::new(alloc, graph, lib, pats, labels)?;
-    let mut cover = Cover::new(alloc, &space, attain, roots)?;
+    let mut cover = Cover::new(alloc, &space, attained, roots)?;
     if !cover.start()? {
         return Ok(None);
     }

@@ -1,5 +1,4 @@
 // Times of a cover, and how a match is put in the place of another.
-use crate::attain::Attain;
 use crate::cover::Cover;
 use crate::matches::NONE;
 use lw_kinds::Table;
@@ -14,7 +13,7 @@ pub(crate) struct Linked {
     pub number: u32,
 }
 
-impl<'a, A: Attain + Drop> Cover<'a, A> {
+impl<'a> Cover<'a> {
     /// When a match arrives.
     #[inline]
     pub(crate) fn through(&self, number: u32) -> u64 {

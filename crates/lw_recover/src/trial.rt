@@ -4,7 +4,6 @@
 // required times and all of the gates in use stay. Everything is noted, and `undo` takes it back.
 // The top of a trial is the gate whose match is looked for: its old match is let go, and no class
 // that has it in its cone may be taken.
-use crate::attain::Attain;
 use crate::curves::Curves;
 use crate::matches::{NONE, Put};
 use crate::moves::{Mark, Moves, Want};
@@ -35,7 +34,7 @@ pub(crate) struct Terms {
     pub depth: u32,
 }
 
-impl<'a, A: Attain + Drop> Moves<'a, A> {
+impl<'a> Moves<'a> {
     /// Whether a class is in use or an input's.
     #[inline]
     pub(crate) fn is_used(&self, class: ClassId) -> bool {

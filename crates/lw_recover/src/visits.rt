@@ -1,5 +1,4 @@
 // Visits: the best match of a gate is looked for and put, one gate after another.
-use crate::attain::Attain;
 use crate::curves::Curves;
 use crate::matches::NONE;
 use crate::moves::{Budget, Found, Moves, Want, again_in};
@@ -9,7 +8,7 @@ use lw_kinds::{LATE, MOST_LEAVES, Matched, Walk};
 use lw_pool::ClassId;
 use std::alloc::AllocError;
 
-impl<'a, A: Attain + Drop> Moves<'a, A> {
+impl<'a> Moves<'a> {
     // The pattern of a match, and the classes of its pins.
     fn matched(&self, found: &Found) -> Option<Matched> {
         let (space, leaves) = (self.cover.space, found.pins);
