@@ -26,4 +26,3 @@ mod Problems
 mod RootLabels
 mod Tables
 mod TableTexts
-mod Drives

@@ -2,8 +2,9 @@
 ghost use Rattle.std.specs.Prelude.{◌≡◌};
 ghost use Rattle.lw_top.specs.declared.refusal.Refusal.TheVariants.{Memory};
 
+use lw_check::Reason;
 use lw_files::FileFault;
-use lw_map::{MapFault, Reason};
+use lw_map::MapFault;
 use lw_pool::Name;
 use lw_verilog::{NoVerilog, VerilogKind};
 use std::alloc::AllocError;
@@ -47,7 +48,7 @@ pub enum Refusal {
 
 impl Refusal {
     ghost use Rattle.std.specs.Prelude.{◌≡◌};
-    ghost use Rattle.lw_top.specs.Named.{file_refusal, map_refusal};
+    ghost use Rattle.lw_top.specs.Named.{file_refusal};
 
     /// The refusal of a file: running out of memory is no fault of the file.
     pub fn of_file(which: Which, fault: FileFault) -> Refusal
@@ -58,19 +59,6 @@ impl Refusal {
             fault => Refusal::Faulty(which, fault),
         }
     }
-
-    /// The refusal of a network that has no answer.
-    pub fn of_map(fault: MapFault) -> Refusal
-        ensures { result ≡ map_refusal fault }
-    {
-        match fault {
-            MapFault::Forms => Refusal::Forms,
-            MapFault::Splits => Refusal::Splits,
-            MapFault::NoCover(name) => Refusal::NoCover(name),
-            MapFault::Points => Refusal::Points,
-            MapFault::Memory => Refusal::Memory,
-        }
-    }
 }
 
 impl From<AllocError> for Refusal {
@@ -78,5 +66,22 @@ impl From<AllocError> for Refusal {
 
     fn from(_e: AllocError) -> Refusal {
         Refusal::Memory
+    }
+}
+
+impl From<MapFault> for Refusal {
+    ghost use Rattle.std.specs.Prelude.{◌≡◌};
+    ghost use Rattle.lw_top.specs.Named.{map_refusal};
+
+    ghost from_gives = { λ fault e. e ≡ map_refusal fault };
+
+    fn from(fault: MapFault) -> Refusal {
+        match fault {
+            MapFault::Forms => Refusal::Forms,
+            MapFault::Splits => Refusal::Splits,
+            MapFault::NoCover(name) => Refusal::NoCover(name),
+            MapFault::Points => Refusal::Points,
+            MapFault::Memory => Refusal::Memory,
+        }
     }
 }

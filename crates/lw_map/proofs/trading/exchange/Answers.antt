@@ -1,0 +1,13 @@
+use Rattle.lw_label.proofs.CellLaws.{patterns_of_cells}
+use Rattle.lw_map.proofs.trading.exchange.Goals as goal
+
+pub traded-netlist-requires-clause-problem : goal.traded-netlist-requires-clause-problem
+traded-netlist-requires-clause-problem c = record {
+  library = c.len.ensures.kept;
+  network = c.inputs.ensures.kept;
+  chosen = c.requires.choices;
+  outputs = c.requires.outputs;
+  early = c.requires.early;
+  patterns = c.in_ok-pats.ensures.list;
+  of_cells = patterns_of_cells c.args.lib.now c.len.ensures.kept c.in_ok-pats.pats c.in_ok-pats.ensures.list c.in_ok-pats.ensures.pins;
+}
