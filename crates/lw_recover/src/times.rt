@@ -28,8 +28,9 @@ impl<'a> Cover<'a> {
 
     /// All times of the cover, whose gates these are, pins first.
     pub(crate) fn time(&mut self, gates: &[ClassId]) {
-        for input in 0..self.space.graph.inputs() {
-            let leaf = self.space.graph.leaf(input);
+        let graph = self.space.graph;
+        for input in 0..graph.inputs() {
+            let leaf = graph.leaf(input);
             self.arr.set(leaf.0, self.space.label(leaf));
         }
         for gate in gates {

@@ -1,5 +1,5 @@
 use Rattle.std.proofs.Common.{◌+◌, ◌*◌}
-use Rattle.lw_recover.proofs.trial.+taking.Given as goal
+use Rattle.lw_recover.proofs.moves.Moves.+taking.Given as goal
 
 -- a pin's cone may be one less deep
 abbrev pub decreases-take : goal.decreases-take
