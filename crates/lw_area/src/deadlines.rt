@@ -1,74 +1,55 @@
 // By when each output has to arrive.
+ghost use Rattle.std.specs.Prelude.{◌≡◌, IfOk, map};
+ghost use Rattle.lw_area.specs.Deadlines.{common_time, deadlines_of, greatest_of, put_off};
+
 use crate::words::Deadline;
 use lw_fixed::Micro;
-use lw_match::Mark;
-use lw_pool::ClassId;
-use lw_recover::{Label, Root};
 use std::alloc::{AllocError, Global};
 
-fn label_of(marks: &[Option<Mark>], class: ClassId) -> u64 {
-    let place = class.0 as usize;
-    if place >= marks.len() {
-        return 0;
+// The greatest time that is told.
+const MOST_TIME: u64 = 0x7fff_ffff_ffff_ffff;
+
+fn greatest_of(times: &[Micro]) -> u64
+    ensures { result ≡ greatest_of times.now }
+{
+    times.iter().fold(0, |most, time| most.max(time.0))
+}
+
+// A part of a time in percent.
+fn part_of(time: u64, part: u32) -> u64
+    ensures { result ≡ common_time (Deadline.Percent part) time }
+{
+    let whole = u128::from(time) * u128::from(part) / 100;
+    if whole < u128::from(MOST_TIME) {
+        whole as u64
+    } else {
+        MOST_TIME
     }
-    marks[place].map_or(0, |mark| mark.cost)
 }
 
 // The time that all outputs may take.
-fn common(deadline: Deadline, greatest: u64) -> u64 {
+fn common_time(deadline: Deadline, greatest: u64) -> u64
+    ensures { result ≡ common_time deadline greatest }
+{
     match deadline {
-        Deadline::Each => 0,
         Deadline::Greatest => greatest,
-        Deadline::Percent(part) => {
-            let time = u128::from(greatest) * u128::from(part) / 100;
-            time.min(u128::from(u64::MAX / 4)) as u64
-        }
+        Deadline::Each => 0,
+        Deadline::Percent(part) => part_of(greatest, part),
         Deadline::At(time) => time.0,
     }
 }
 
-/// Each root with its deadline, which is never before its label.
-pub(crate) fn roots_by(
+/// The deadlines of outputs with these least times.
+pub(crate) fn deadlines_of(
     alloc: Global,
     deadline: Deadline,
-    marks: &[Option<Mark>],
-    roots: &[ClassId],
-) -> Result<Vec<Root>, AllocError> {
-    let mut greatest = 0;
-    for class in roots {
-        greatest = label_of(marks, *class).max(greatest);
-    }
-    let time = common(deadline, greatest);
-    let mut all = Vec::with_capacity(alloc, roots.len())?;
-    for class in roots {
-        all.push(Root {
-            class: *class,
-            time: label_of(marks, *class).max(time),
-        })?;
-    }
-    Ok(all)
-}
-
-/// The deadlines as times.
-pub(crate) fn times_of(alloc: Global, roots: &[Root]) -> Result<Vec<Micro>, AllocError> {
-    let mut times = Vec::with_capacity(alloc, roots.len())?;
-    for root in roots {
-        times.push(Micro(root.time))?;
-    }
-    Ok(times)
-}
-
-/// The marks as labels.
-pub(crate) fn labels_of(
-    alloc: Global,
-    marks: &[Option<Mark>],
-) -> Result<Vec<Option<Label>>, AllocError> {
-    let mut labels = Vec::with_capacity(alloc, marks.len())?;
-    for mark in marks {
-        labels.push(mark.map(|mark| Label {
-            time: mark.cost,
-            height: mark.height,
-        }))?;
-    }
-    Ok(labels)
+    least: &[Micro],
+) -> Result<Vec<Micro>, AllocError>
+    ensures { IfOk result (λ times. times.items ≡ deadlines_of deadline least.now) }
+{
+    let common = common_time(deadline, greatest_of(least));
+    least
+        .iter()
+        .map(|time| Micro(time.0.max(common)))
+        .collect(alloc)
 }
