@@ -28,7 +28,7 @@ use Rattle.lw_top.specs.Maps.{LacksGraph}
 use Rattle.lw_top.specs.Checks.{HasVerdict, Checks}
 use Rattle.lw_top.specs.Answers.{AreAlike}
 use Rattle.lw_top.specs.Tables.{Tabulates}
-use Rattle.lw_top.specs.Counts.{pair_total, counts_text, Counts}
+use Rattle.lw_top.specs.Counts.{pair_total, counts_text, Counts, IsCountText}
 use Rattle.lw_pool.specs.Numbers.{numbers}
 use Rattle.lw_net.specs.Ports.{ports_of}
 
@@ -99,13 +99,23 @@ module _ (options : Options) (cells : List CellParts) (model : Parsed) (wide : I
 -- Counts.
 
 module _ (options : Options) (model : Parsed) (wide : IsWide options) where
+  -- the text of the counts of a graph
+  abbrev counts_of : Graph → List ℕ
+  counts_of g = counts_text (record { forms = base_count options model.network; classes = length g.pairs; pairs = pair_total g })
+
+  says_counts : (text : List ℕ) → (a : IsCountText options model.network text) → text ≡ counts_of a.are.graph
+  says_counts text a =
+      let c = a.counts in
+      let by_forms = subst (λ (n : ℕ). text ≡ counts_text (record { forms = n; classes = c.classes; pairs = c.pairs })) a.are.forms a.says in
+      let by_classes = subst (λ (n : ℕ). text ≡ counts_text (record { forms = base_count options model.network; classes = n; pairs = c.pairs })) a.are.classes by_forms in
+      subst (λ (n : ℕ). text ≡ counts_text (record { forms = base_count options model.network; classes = length a.are.graph.pairs; pairs = n })) a.are.pairs by_classes
+
   pub counts_one : (files : Files) (a b : Result (List ℕ) Refusal) → Counts options model files a → Counts options model files b → a ≡ b
   counts_one files (Ok s) (Ok t) p q =
-      let graph = graph_one options model.network wide p.graph q.graph p.is_graph q.is_graph in
-      let says = ap (λ (g : Graph). counts_text (base_count options model.network) (length g.pairs) (pair_total g)) graph in
-      ap (λ (z : List ℕ). Ok z) (p.says ∙ (says ∙ sym q.says))
-  counts_one files (Ok s) (Err r) p q = absurd (within_has_graph options model.network wide p.within r q)
-  counts_one files (Err r) (Ok t) p q = absurd (within_has_graph options model.network wide q.within r p)
+      let graph = graph_one options model.network wide p.are.graph q.are.graph p.are.is_graph q.are.is_graph in
+      ap (λ (z : List ℕ). Ok z) (says_counts s p ∙ (ap counts_of graph ∙ sym (says_counts t q)))
+  counts_one files (Ok s) (Err r) p q = absurd (within_has_graph options model.network wide p.are.within r q)
+  counts_one files (Err r) (Ok t) p q = absurd (within_has_graph options model.network wide q.are.within r p)
   counts_one files (Err r) (Err s) p q = ap (λ (z : Refusal). Err z) (graph_lack_one options model.network wide r s p q)
 
   -- tables have several texts

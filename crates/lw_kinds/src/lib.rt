@@ -17,7 +17,7 @@ mod turning;
 mod walking;
 
 pub use kinds::{Kind, MOST_LEAVES, Matched, Nand, Side, Use, Way, What};
-pub use space::{Inverter, LATE, Label, Space};
+pub use space::{Inverter, LATE, Space};
 pub use standing::Standing;
 pub use table::Table;
 pub use walking::{Low, Walk, Walker};

@@ -3,6 +3,7 @@ use crate::kinds::{Kind, Nand, What, kinds_of};
 use crate::shapes::Shapes;
 use crate::standing::Standing;
 use crate::table::Table;
+use lw_cost::Mark;
 use lw_genlib::{Cell, Library};
 use lw_graph::{Graph, Pair};
 use lw_pattern::Patterns;
@@ -38,13 +39,6 @@ pub struct Space<'a> {
     pub least_other: u64,
 }
 
-/// The label of a class, and its height.
-#[derive(Clone, Copy)]
-pub struct Label {
-    pub time: u64,
-    pub height: u32,
-}
-
 fn inverter_of(kinds: &[Kind]) -> Option<Inverter> {
     for kind in kinds {
         if kind.nands.is_empty() && kind.leaves == 1 && kind.root.inverted {
@@ -78,17 +72,17 @@ impl<'a> Space<'a> {
         graph: &'a Graph,
         lib: &'a Library,
         pats: &'a Patterns,
-        given: &[Option<Label>],
+        marks: &[Option<Mark>],
     ) -> Result<Space<'a>, AllocError> {
         let classes = graph.classes() as usize;
         let (mut labels, mut heights) = (
             Table::new(alloc, classes, LATE)?,
             Table::new(alloc, classes, 0)?,
         );
-        for (number, label) in given.iter().enumerate() {
-            if let Some(label) = label {
-                labels.set(number.min(classes) as u32, label.time);
-                heights.set(number.min(classes) as u32, label.height);
+        for (number, mark) in marks.iter().enumerate() {
+            if let Some(mark) = mark {
+                labels.set(number.min(classes) as u32, mark.cost);
+                heights.set(number.min(classes) as u32, mark.height);
             }
         }
         let mut leaves = Table::new(alloc, classes, false)?;

@@ -48,7 +48,9 @@ impl<T: Copy> Table<T> {
 
     /// Sets all values to one.
     pub fn fill(&mut self, value: T) {
-        self.items.fill(value);
+        for number in 0..self.len() {
+            self.set(number, value);
+        }
     }
 
     /// Takes the values of another table over.

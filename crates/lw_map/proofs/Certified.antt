@@ -13,7 +13,7 @@ use Rattle.lw_mapped.specs.declared.certificate.Certificate.{Certificate}
 use Rattle.lw_mapped.specs.Certified.{IsCertificateOf}
 use Rattle.lw_map.specs.declared.choices.Choices.{Choices}
 use Rattle.lw_map.specs.declared.covering.Mapping.{Mapping}
-use Rattle.lw_map.specs.declared.labeller.Labeller.{Labeller}
+use Rattle.lw_map.specs.declared.labelling.Labeller.{Labeller}
 use Rattle.lw_map.specs.Mappings.{IsMappingOf, AreCertified, label_of}
 use Rattle.lw_pool.specs.Numbers.{numbers}
 

@@ -42,7 +42,7 @@ use Rattle.lw_map.specs.Choices.{AreChoicesOf}
 use Rattle.lw_map.specs.Ports.{ArePortsOf}
 use Rattle.lw_map.specs.Mappings.{IsMappingOf}
 use Rattle.lw_map.specs.Labelled.{AreStepsBy}
-use Rattle.lw_map.specs.declared.labeller.Labeller.{Labeller}
+use Rattle.lw_map.specs.declared.labelling.Labeller.{Labeller}
 use Rattle.lw_map.proofs.CoverNetlists.{port_name, cover_is_netlist}
 use Rattle.lw_map.proofs.GateCount.{few_gates}
 use Rattle.lw_map.proofs.Leaves.{start_is_least}

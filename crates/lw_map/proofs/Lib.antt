@@ -26,3 +26,4 @@ mod Problems
 mod RootLabels
 mod Tables
 mod TableTexts
+mod Drives

@@ -1,19 +1,33 @@
--- A problem can be mapped by time and by area, and what the mapping by time is.
-use Rattle.std.proofs.Common.{ℕ, ◌≡◌, List, Option, refl, subst}
+-- A problem can be mapped by time and by area, what the mapping by time is, and what a problem is made from.
+use Rattle.std.proofs.Common.{ℕ, ◌≡◌, ◌≤◌, List, Option, Result, Ok, Err, IfOk, length, refl, subst}
+use Rattle.std.specs.Prelude.{IfErr}
+use Rattle.lw_fixed.specs.declared.micro.Micro.{Micro}
+use Rattle.lw_net.specs.Networks.{NetworkParts}
+use Rattle.lw_genlib.specs.Cells.{CellParts}
+use Rattle.lw_blif.specs.declared.parsed.Parsed.{Parsed}
+use Rattle.lw_laws.specs.Graphs.{most_classes}
 use Rattle.lw_laws.specs.Costs.{Cost}
 use Rattle.lw_cost.specs.declared.mark.Mark.{Mark}
 use Rattle.lw_label.specs.Delays.{time_cost}
 use Rattle.lw_cost.specs.Labels.{AreLeastMarks}
-use Rattle.lw_netlist.specs.Netlists.{IsNetlist}
-use Rattle.lw_trade.specs.Areas.{area_cost}
+use Rattle.lw_netlist.specs.Netlists.{NetlistParts, IsNetlist}
+use Rattle.lw_netlist.specs.Plain.{IsOver}
+use Rattle.lw_choices.specs.Areas.{area_cost}
 use Rattle.lw_extract.specs.declared.fault.ExtractFault.{ExtractFault}
 use Rattle.lw_extract.specs.declared.fault.ExtractFault.TheVariants.{NoCover, Memory}
 use Rattle.lw_map.specs.declared.covering.Mapping.{Mapping}
-use Rattle.lw_map.specs.declared.labeller.Labeller.{Labeller}
+use Rattle.lw_map.specs.declared.labelling.Labeller.{Labeller}
 use Rattle.lw_map.specs.declared.problem.Problem.{Problem}
-use Rattle.lw_map.specs.Covering.{CanBeMapped, IsFastest, IsMappedBy, LacksLeastLabel, cover_in}
-use Rattle.lw_map.specs.Trades.{HasTimes}
-use Rattle.lw_map.specs.Trading.{IsProblem, LacksLabel}
+use Rattle.lw_map.specs.declared.choices.Choices.{Choices}
+use Rattle.lw_map.specs.declared.fault.MapFault.{MapFault}
+use Rattle.lw_map.specs.Options.{plain_options}
+use Rattle.lw_map.specs.Choices.{AreChoicesOf}
+use Rattle.lw_map.specs.Faults.{IsCoverFault, IsTradeFault}
+use Rattle.lw_map.specs.Mappings.{IsMappingOf}
+use Rattle.lw_map.specs.Covering.{CanBeMapped, IsFastest, IsLack, IsMappedBy, LacksLeastLabel, cover_in}
+use Rattle.lw_map.specs.Trades.{HasTimes, IsFault, IsTrade, IsTraded}
+use Rattle.lw_map.specs.Problems.{IsProblem, IsProblemOf}
+use Rattle.lw_map.specs.Trading.{IsTradeable, IsTradedNetlist, LacksLabel}
 use Rattle.lw_map.proofs.AnyTime.{leaves_free, none_lacks}
 use Rattle.lw_map.proofs.CellLaws.{delay_patterns}
 use Rattle.lw_map.proofs.Composed.{leaves_least, cover_maps, gates_few}
@@ -58,3 +72,42 @@ module _ (p : Problem) (is : IsProblem p) where
         over = by.cover.over;
         few = gates_few p.net.now p.starts.now p.choices.now ports is.network is.chosen named p.lib.now p.pats m.labels is.patterns by.least (cover_in m) extracted;
       }
+
+-- What a problem comes to, what it was made from comes to.
+module _ (cells : List CellParts) (net : NetworkParts) (starts : List Micro) (c : Choices) (p : Problem) (of : IsProblemOf cells net starts c p) where
+  -- what holds of the parts holds of what they were made from
+  of_parts : (P : List CellParts → NetworkParts → List Micro → Choices → Type 0) → P p.lib.now p.net.now p.starts.now p.choices.now → P cells net starts c
+  of_parts P is =
+      subst (λ (x : List CellParts). P x net starts c) of.lib
+      (subst (λ (x : NetworkParts). P p.lib.now x starts c) of.network
+      (subst (λ (x : List Micro). P p.lib.now p.net.now x c) of.starts_are
+      (subst (λ (x : Choices). P p.lib.now p.net.now p.starts.now x) of.choices is)))
+
+  pub fastest_for : (labeller : Labeller) (r : Result Mapping MapFault) → IfOk r (IsFastest labeller p) → IfOk r (IsMappingOf labeller cells net starts c)
+  fastest_for labeller (Ok m) is = of_parts (λ a b s d. IsMappingOf labeller a b s d m) is.mapping
+  fastest_for labeller (Err e) is = tt
+
+  pub over_for : (labeller : Labeller) (r : Result Mapping MapFault) → IfOk r (IsFastest labeller p) → IfOk r (λ m. IsOver cells m.netlist)
+  over_for labeller (Ok m) is = of_parts (λ a b s d. IsOver a m.netlist) is.over
+  over_for labeller (Err e) is = tt
+
+  pub few_for : (labeller : Labeller) (r : Result Mapping MapFault) → IfOk r (IsFastest labeller p) → IfOk r (λ m. length m.netlist.gates ≤ most_classes)
+  few_for labeller (Ok m) is = is.few
+  few_for labeller (Err e) is = tt
+
+  pub lack_for : (r : Result Mapping MapFault) → IfErr r (IsLack p) → IfErr r (IsCoverFault cells net starts c)
+  lack_for (Ok m) is = tt
+  lack_for (Err e) is = of_parts (λ a b s d. IsCoverFault a b s d e) is
+
+  pub trade_for : (deadline : Option Micro) (r : Result NetlistParts MapFault) → IfErr r (IsFault p deadline) → IfErr r (IsTradeFault cells net starts c deadline)
+  trade_for deadline (Ok n) is = tt
+  trade_for deadline (Err e) is = of_parts (λ a b s d. IsTradeFault a b s d deadline e) is
+
+module _ (cells : List CellParts) (model : Parsed) (c : Choices) (p : Problem) (of : IsProblemOf cells model.network model.starts c p) (are : AreChoicesOf model.network c) where
+  pub traded_for : (deadline : Option Micro) (r : Result NetlistParts MapFault) → IfOk r (IsTrade p deadline) → IfOk r (IsTraded deadline (plain_options c.options) cells model)
+  traded_for deadline (Ok n) is = record {
+    within = are.within;
+    netlist = of_parts cells model.network model.starts c p of (λ a b s d. IsTradedNetlist (plain_options d.options) a b s deadline n) is.netlist;
+    tradeable = of_parts cells model.network model.starts c p of (λ a b s d. IsTradeable (plain_options d.options) a b s deadline) is.tradeable;
+  }
+  traded_for deadline (Err e) is = tt

@@ -19,7 +19,7 @@ use Rattle.lw_extract.specs.declared.ports.Ports.{Ports}
 use Rattle.lw_extract.specs.Covers.{IsExtractedCover, IsFirstUncovered}
 use Rattle.lw_map.specs.declared.covering.Mapping.{Mapping}
 use Rattle.lw_map.specs.declared.fault.MapFault.{MapFault}
-use Rattle.lw_map.specs.declared.labeller.Labeller.{Labeller}
+use Rattle.lw_map.specs.declared.labelling.Labeller.{Labeller}
 use Rattle.lw_map.specs.declared.problem.Problem.{Problem}
 use Rattle.lw_map.specs.Choices.{AreChoicesOf}
 use Rattle.lw_map.specs.Faults.{IsCoverFault}

@@ -13,8 +13,8 @@ use Rattle.lw_map.specs.declared.fault.MapFault.TheVariants.{Forms, Splits, NoCo
 use Rattle.lw_map.specs.Options.{Options, plain_options}
 use Rattle.lw_map.specs.Mapped.{HasTooManyForms, HasTooManySplits, LacksCover}
 use Rattle.lw_map.specs.Trading.{HasTooManyPoints}
-use Rattle.lw_trade.specs.declared.point.CurveFault.{CurveFault}
-use Rattle.lw_trade.specs.declared.point.CurveFault.TheVariants as curve
+use Rattle.lw_curves.specs.declared.point.CurveFault.{CurveFault}
+use Rattle.lw_curves.specs.declared.point.CurveFault.TheVariants as curve
 
 abbrev pub form_fault : FormFault → MapFault
 form_fault form.Limit = Forms
@@ -48,3 +48,15 @@ IsTradeFault cells net starts c deadline (NoCover name) = LacksCover (plain_opti
 IsTradeFault cells net starts c (Some deadline) Points = HasTooManyPoints (plain_options c.options) cells net starts deadline
 IsTradeFault cells net starts c deadline Memory = ⊤
 IsTradeFault cells net starts c deadline other = ⊥
+
+-- What keeps a command from its answer, whatever the choices are.
+
+-- Too many forms or splits, or the first output without a cover. Running out of memory needs no reason.
+abbrev pub IsMapFault : Options → List CellParts → NetworkParts → List Micro → MapFault → Type 0
+IsMapFault options cells net starts (NoCover name) = LacksCover options cells net starts name
+IsMapFault options cells net starts other = IsChoiceFault options net other
+
+-- the same, or too many points by the deadline; without a deadline no points are counted
+abbrev pub IsTradingFault : Option Micro → Options → List CellParts → NetworkParts → List Micro → MapFault → Type 0
+IsTradingFault (Some deadline) options cells net starts Points = HasTooManyPoints options cells net starts deadline
+IsTradingFault deadline options cells net starts other = IsMapFault options cells net starts other

@@ -8,8 +8,8 @@ use Rattle.lw_laws.specs.Rounds.{labels_in}
 use Rattle.lw_bounds.specs.Bounds.{AreBounds, BoundsFit}
 use Rattle.lw_cost.specs.Labels.{AreLeastMarks, costs_of}
 use Rattle.lw_settle.specs.Steps.{AreSteps}
-use Rattle.lw_map.specs.declared.labeller.Labeller.{Labeller}
-use Rattle.lw_map.specs.declared.labeller.Labeller.TheVariants.{Rounds, Store}
+use Rattle.lw_map.specs.declared.labelling.Labeller.{Labeller}
+use Rattle.lw_map.specs.declared.labelling.Labeller.TheVariants.{Rounds, Store}
 use Rattle.lw_map.specs.declared.labelling.Labelled.{Labelled}
 use Rattle.lw_map.specs.declared.problem.Problem.{Problem}
 

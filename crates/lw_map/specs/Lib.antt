@@ -8,4 +8,8 @@ pub mod Mappings
 pub mod Faults
 pub mod Tabled
 pub mod Trading
+pub mod Problems
 pub mod Trades
+pub mod Certified
+pub mod Checks
+pub mod Counts

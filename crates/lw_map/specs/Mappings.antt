@@ -10,7 +10,7 @@ use Rattle.lw_pattern.specs.Libraries.{library_patterns}
 use Rattle.lw_cost.specs.Labels.{costs_of}
 use Rattle.lw_mapped.specs.declared.certificate.Certificate.{Certificate}
 use Rattle.lw_map.specs.declared.choices.Choices.{Choices}
-use Rattle.lw_map.specs.declared.labeller.Labeller.{Labeller}
+use Rattle.lw_map.specs.declared.labelling.Labeller.{Labeller}
 use Rattle.lw_map.specs.declared.covering.Mapping.{Mapping}
 use Rattle.lw_map.specs.Options.{plain_options}
 use Rattle.lw_map.specs.Labelled.{AreStepsBy}

@@ -2,13 +2,16 @@
 use Rattle.std.specs.Prelude.{All, ℕ, ◌^◌, ◌<◌, ◌≡◌, List, Option, map, length}
 use Rattle.lw_pool.specs.declared.id.ClassId.{ClassId}
 use Rattle.lw_fixed.specs.declared.micro.Micro.{Micro}
+use Rattle.lw_genlib.specs.Cells.{CellParts}
+use Rattle.lw_blif.specs.declared.parsed.Parsed.{Parsed}
 use Rattle.lw_cost.specs.declared.mark.Mark.{Mark}
 use Rattle.lw_netlist.specs.Netlists.{NetlistParts}
-use Rattle.lw_trade.specs.declared.targets.Targets.{Targets}
+use Rattle.lw_backtrace.specs.declared.targets.Targets.{Targets}
 use Rattle.lw_map.specs.declared.fault.MapFault.{MapFault}
 use Rattle.lw_map.specs.declared.problem.Problem.{Problem}
 use Rattle.lw_map.specs.Faults.{IsTradeFault}
-use Rattle.lw_map.specs.Options.{plain_options}
+use Rattle.lw_map.specs.Mapped.{IsWithinLimits}
+use Rattle.lw_map.specs.Options.{Options, plain_options}
 use Rattle.lw_map.specs.Ports.{ArePortsOf}
 use Rattle.lw_map.specs.Trading.{AreEarliest, HaveLabelsTo, IsTradeable, IsTradedNetlist, micros, put_off}
 
@@ -47,3 +50,9 @@ pub record IsTrade (p : Problem) (deadline : Option Micro) (n : NetlistParts) : 
 -- why there is none
 abbrev pub IsFault : Problem → Option Micro → MapFault → Type 0
 IsFault p deadline fault = IsTradeFault p.lib.now p.net.now p.starts.now p.choices.now deadline fault
+
+-- what a model comes to by the deadline: a netlist of least area, which is traded for within the limits
+pub record IsTraded (deadline : Option Micro) (options : Options) (cells : List CellParts) (model : Parsed) (n : NetlistParts) : Type 0 where
+  pub within : IsWithinLimits options model.network
+  pub netlist : IsTradedNetlist options cells model.network model.starts deadline n
+  pub tradeable : IsTradeable options cells model.network model.starts deadline

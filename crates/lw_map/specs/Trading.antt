@@ -1,5 +1,5 @@
 -- The netlist of least area under a deadline that a network comes to.
-use Rattle.std.specs.Prelude.{All, ℕ, ◌^◌, ◌<◌, ◌≤◌, ◌≡◌, ◌⊎◌, Contains, max, Bool, List, [], ◌∷◌, map, length, Option, Some, None, slice_get, slice_index_or}
+use Rattle.std.specs.Prelude.{ℕ, ◌^◌, ◌<◌, ◌≤◌, ◌≡◌, ◌⊎◌, Contains, max, Bool, List, [], ◌∷◌, map, length, Option, Some, None, slice_get, slice_index_or}
 use Rattle.std.specs.List.{AllZip, IsDistinct}
 use Rattle.std.specs.Str.{bytes_eq}
 use Rattle.lw_pool.specs.declared.id.ClassId.{ClassId}
@@ -17,22 +17,20 @@ use Rattle.lw_laws.specs.Headline.{HasLeastArrival}
 use Rattle.lw_laws.specs.MappedNetlists.{AreNetNames}
 use Rattle.lw_laws.specs.Names.{numbered_name}
 use Rattle.lw_laws.specs.Netlists.{AreByDepth, AreArrivals, AreNetCosts, AreNetlistValues, StandsFor}
-use Rattle.lw_net.specs.Networks.{NetworkParts, IsNetwork, input_names, output_names}
+use Rattle.lw_net.specs.Networks.{NetworkParts, input_names, output_names}
 use Rattle.lw_net.specs.Plain.{plain}
-use Rattle.lw_genlib.specs.Cells.{CellParts, IsLibrary, IsSmall}
+use Rattle.lw_genlib.specs.Cells.{CellParts}
 use Rattle.lw_genlib.specs.Tables.{delays_of_cells, timing_of, truth_of_cells}
 use Rattle.lw_pattern.specs.Libraries.{library_patterns}
 use Rattle.lw_netlist.specs.Netlists.{NetlistParts, IsNetlist}
 use Rattle.lw_netlist.specs.Plain as netlist
-use Rattle.lw_trade.specs.Areas.{area_cost}
-use Rattle.lw_trade.specs.Points.{task, AreTooMany}
+use Rattle.lw_choices.specs.Areas.{area_cost}
+use Rattle.lw_choices.specs.Tasks.{task}
+use Rattle.lw_curves.specs.Points.{AreTooMany}
 use Rattle.lw_cost.specs.declared.mark.Mark.{Mark}
-use Rattle.lw_cost.specs.Least.{AreOfCells}
 use Rattle.lw_extract.specs.declared.fault.ExtractFault.{ExtractFault}
 use Rattle.lw_extract.specs.declared.fault.ExtractFault.TheVariants.{NoCover, Memory}
 use Rattle.lw_extract.specs.Covers.{IsFirstUncovered}
-use Rattle.lw_map.specs.declared.problem.Problem.{Problem}
-use Rattle.lw_map.specs.Choices.{AreChoicesOf}
 use Rattle.lw_map.specs.Options.{Options}
 use Rattle.lw_map.specs.Mapped.{IsWithinLimits}
 use Rattle.lw_net.specs.Ports.{ports_of}
@@ -77,17 +75,6 @@ pub record IsTradedNetlist (options : Options) (cells : List CellParts) (net : N
   pub names : IsDistinct bytes_eq net.names → IsDistinct bytes_eq (input_names net) → IsDistinct bytes_eq (output_names net) → AreNetNames (netlist.plain n) n.names (mapped_ports n)
   pub own_names : (name : List ℕ) → Contains n.names name → Contains (input_names net) name ⊎ (Contains (output_names net) name ⊎ ((k : ℕ) × (k < 2 ^ 64) × (name ≡ numbered_name k)))
   pub by_depth : AreByDepth (netlist.plain n)
-
--- A network with what listed its choices, the cells that they are covered by with their patterns, and starts that are no later than inputs
--- may start.
-pub record IsProblem (p : Problem) : Type 0 where
-  pub library : IsLibrary p.lib.now
-  pub network : IsNetwork p.net.now
-  pub chosen : AreChoicesOf p.net.now p.choices.now
-  pub outputs : IsDistinct bytes_eq (output_names p.net.now)
-  pub early : All IsSmall p.starts.now
-  pub patterns : p.pats ≡ library_patterns p.lib.now
-  pub of_cells : AreOfCells (area_cost p.lib.now).pin_counts p.pats
 
 -- Limits.
 

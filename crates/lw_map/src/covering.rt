@@ -12,12 +12,13 @@ ghost use Rattle.lw_map.specs.Labelled.{HasLeastLabels};
 ghost use Rattle.lw_map.specs.Ports.{ArePortsOf};
 ghost use Rattle.lw_map.specs.Mappings.{IsMappingOf};
 ghost use Rattle.lw_map.specs.Faults.{IsCoverFault};
-ghost use Rattle.lw_map.specs.Trading.{IsProblem, LacksLabel};
+ghost use Rattle.lw_map.specs.Problems.{IsProblem};
+ghost use Rattle.lw_map.specs.Trading.{LacksLabel};
 
-use crate::labelling::Labelled;
+use crate::labelling::{Labelled, Labeller};
 use crate::naming::{input_names, output_names, refused};
 use crate::problem::Problem;
-use crate::{Choices, Labeller, MapFault};
+use crate::{Choices, MapFault};
 use lw_cost::Cost;
 use lw_extract::{Cover, ExtractFault, Ports, extract_with};
 use lw_fixed::Micros;
@@ -25,7 +26,6 @@ use lw_genlib::Library;
 use lw_label::{DelayCost, Labels};
 use lw_net::Network;
 use lw_netlist::Netlist;
-use lw_pattern::patterns;
 use lw_pool::{Classes, Name};
 use std::alloc::{AllocError, Global};
 
@@ -126,16 +126,7 @@ pub fn cover(
     ensures few { IfOk result (λ m. length m.netlist.gates ≤ most_classes) }
     ensures fault { IfErr result (IsCoverFault lib.now net.now starts.now choices.now) }
 {
-    let _ = (lib.len(), net.inputs());
-    let pats = patterns(alloc, lib)?;
-    let problem = Problem {
-        alloc,
-        lib,
-        net,
-        starts,
-        choices,
-        pats,
-    };
+    let problem = Problem::new(alloc, lib, net, starts, choices)?;
     let mapping = problem.fastest(labeller);
     drop(problem);
     mapping

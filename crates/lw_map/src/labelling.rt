@@ -4,13 +4,21 @@ ghost use Rattle.lw_cost.specs.Least.{AreOfCells};
 ghost use Rattle.lw_map.specs.Covering.{CanBeMapped};
 ghost use Rattle.lw_map.specs.Labelled.{AreFoundBy};
 
-use crate::Labeller;
 use crate::problem::Problem;
 use lw_bounds::Bounds;
 use lw_cost::Cost;
 use lw_label::{Labels, relabel_with_bounds};
 use lw_settle::{StoreFault, settle, store_matches};
 use std::alloc::AllocError;
+
+/// How labels are found.
+#[derive(Clone, Copy)]
+pub enum Labeller {
+    /// In rounds, which store no match.
+    Rounds,
+    /// By stored matches, of which each reading counts.
+    Store,
+}
 
 /// The labels of the classes of a graph, the table of bounds for them where they are found in
 /// rounds, and how often a stored match was read to find them: none in rounds, which are taken too

@@ -1,29 +1,28 @@
 // The netlist of least area under a deadline that a network comes to.
-ghost use Rattle.std.specs.Prelude.{All, IfErr, IfOk, IfSome, None, Some, map, ◌≡◌};
-ghost use Rattle.std.specs.List.{IsDistinct};
-ghost use Rattle.std.specs.Str.{bytes_eq};
+ghost use Rattle.std.specs.Prelude.{IfErr, IfOk, IfSome, None, Some, map, ◌≡◌};
+ghost use Rattle.lw_blif.specs.BlifNetworks.{IsModel};
 ghost use Rattle.lw_genlib.specs.Cells.{IsSmall};
-ghost use Rattle.lw_net.specs.Networks.{output_names};
 ghost use Rattle.lw_map.specs.Choices.{AreChoicesOf};
 ghost use Rattle.lw_map.specs.Covering.{IsLack};
-ghost use Rattle.lw_map.specs.Faults.{IsTradeFault};
+ghost use Rattle.lw_map.specs.Faults.{IsTradeFault, IsTradingFault};
 ghost use Rattle.lw_map.specs.Options.{plain_options};
-ghost use Rattle.lw_map.specs.Trades.{AreLeastTimes, AreTargets, CanBeRead, HasTimes, HaveLabels, IsFault, IsTrade};
-ghost use Rattle.lw_map.specs.Trading.{IsProblem, IsTradeable, IsTradedNetlist, LacksLabel, latest_of, micros, put_off};
+ghost use Rattle.lw_map.specs.Problems.{IsProblem};
+ghost use Rattle.lw_map.specs.Trades.{AreLeastTimes, AreTargets, CanBeRead, HasTimes, HaveLabels, IsFault, IsTrade, IsTraded};
+ghost use Rattle.lw_map.specs.Trading.{LacksLabel, latest_of, micros, put_off};
 
 use crate::covering::ports;
+use crate::labelling::Labeller;
 use crate::naming::refused;
 use crate::problem::Problem;
-use crate::{Choices, Labeller, MapFault};
+use crate::{Choices, MapFault, Options, decompose};
+use lw_blif::Parsed;
 use lw_cost::Mark;
 use lw_extract::ExtractFault;
 use lw_fixed::{Micro, Micros};
 use lw_genlib::Library;
 use lw_label::DelayCost;
-use lw_net::Network;
 use lw_netlist::Netlist;
-use lw_pattern::patterns;
-use lw_trade::{AreaCost, Targets, curves, trade};
+use lw_trade::{AreaCost, Targets, curves};
 use std::alloc::{AllocError, Global};
 
 // The latest of some times, and at least the deadline.
@@ -112,7 +111,7 @@ impl Problem<'_> {
         let horizon = latest_of(deadline, times);
         let curves = curves(self.alloc, graph, pats, lib, self.starts, horizon)?;
         let targets = self.targets(times, deadline)?;
-        let netlist = trade(self.alloc, graph, pats, lib, self.starts, &curves, &targets);
+        let netlist = lw_trade::trade(self.alloc, graph, pats, lib, self.starts, &curves, &targets);
         drop(curves);
         drop(targets);
         let netlist = netlist?;
@@ -155,40 +154,49 @@ impl Problem<'_> {
     }
 }
 
-/// Covers the choices of a network by cells of a library with the least area by a deadline: each
-/// output arrives by it, or at its least time where that is later, and each use of a shared part
-/// counts. Without a deadline the area is the least of all. `NoCover` tells the first output that
-/// has no cover, and comes exactly where there is one; `Points` comes exactly where there is none,
-/// and where the classes have more than 8,000,000 points up to the latest of these times.
-pub fn exchange(
+// The netlist of least area by a deadline, or of least area of all, over the choices of a network.
+fn of_choices(
     alloc: Global,
     lib: &Library,
-    net: &Network,
-    starts: &Micros,
+    model: &Parsed,
     choices: &Choices,
     deadline: Option<Micro>,
 ) -> Result<Netlist, MapFault>
-    requires choices { AreChoicesOf net.now choices.now }
-    requires outputs { IsDistinct bytes_eq (output_names net.now) }
-    requires early { All IsSmall starts.now }
+    requires choices { AreChoicesOf model.now.network choices.now }
+    requires model { IsModel model.now }
     requires late { IfSome deadline IsSmall }
-    ensures traded { IfOk result (IsTradedNetlist (plain_options choices.now.options) lib.now
-        net.now starts.now deadline) }
-    ensures tradeable { IfOk result (λ n. IsTradeable (plain_options choices.now.options) lib.now
-        net.now starts.now deadline) }
-    ensures fault { IfErr result (IsTradeFault lib.now net.now starts.now choices.now deadline) }
+    ensures traded { IfOk result (IsTraded deadline (plain_options choices.now.options) lib.now
+        model.now) }
+    ensures fault { IfErr result (IsTradeFault lib.now model.now.network model.now.starts choices.now
+        deadline) }
 {
-    let _ = (lib.len(), net.inputs());
-    let pats = patterns(alloc, lib)?;
-    let problem = Problem {
-        alloc,
-        lib,
-        net,
-        starts,
-        choices,
-        pats,
-    };
+    let problem = Problem::new(alloc, lib, &model.network, &model.starts, choices)?;
     let netlist = problem.traded(deadline);
     drop(problem);
+    netlist
+}
+
+/// What a library and a model come to by a deadline: the netlist of least area, in which each
+/// output arrives by it, or at its least time where that is later, and each use of a shared part
+/// counts. Without a deadline the area is the least of all. `NoCover` tells the first output that
+/// has no cover, and comes exactly where there is one. `Points` comes exactly where there is none,
+/// and where the classes have more than 8,000,000 points up to the latest of these times. `Forms`
+/// and `Splits` come exactly where there are more than are dealt with.
+pub fn trade(
+    alloc: Global,
+    lib: &Library,
+    model: &Parsed,
+    options: Options,
+    deadline: Option<Micro>,
+) -> Result<Netlist, MapFault>
+    requires model { IsModel model.now }
+    requires late { IfSome deadline IsSmall }
+    ensures traded { IfOk result (IsTraded deadline (plain_options options) lib.now model.now) }
+    ensures fault { IfErr result (IsTradingFault deadline (plain_options options) lib.now
+        model.now.network model.now.starts) }
+{
+    let choices = decompose(alloc, &model.network, options)?;
+    let netlist = of_choices(alloc, lib, model, &choices, deadline);
+    drop(choices);
     netlist
 }

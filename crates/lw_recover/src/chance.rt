@@ -58,7 +58,8 @@ fn log_2(x: u64) -> u64 {
     let part = top >> 39 & 65_535;
     let (low, high) = (LOGS[place] as u64, LOGS[place + 1] as u64);
     let whole = (63 - zeros as u64) * 65_536;
-    whole + low + high.saturating_sub(low).saturating_mul(part) / 65_536
+    let between = high.saturating_sub(low).saturating_mul(part) / 65_536;
+    whole.saturating_add(low).saturating_add(between)
 }
 
 // A time or an area as a signed number.
@@ -95,7 +96,9 @@ impl Chance {
 
     /// Lets the heat fall by one pass.
     pub(crate) fn cool(&mut self) {
-        self.heat = (self.heat as u128 * self.factor as u128 >> 32).min(u64::MAX as u128) as u64;
+        let (high, low) = (self.heat >> 32, self.heat & 0xffff_ffff);
+        let part = low.saturating_mul(self.factor) >> 32;
+        self.heat = high.saturating_mul(self.factor).saturating_add(part);
     }
 
     /// How much more area than its match a gate may take.
@@ -129,7 +132,8 @@ impl Chance {
         let x = self.random() >> 11 | 1;
         let below = (53 * 65_536u64).saturating_sub(log_2(x));
         let below = (below.saturating_mul(LN_2) / 65_536).max(1);
-        (signed(log_2(below)) - 16 * 65_536).saturating_mul(LN_2 as i64) / 65_536
+        let log = signed(log_2(below)).saturating_sub(16 * 65_536);
+        log.saturating_mul(LN_2 as i64) / 65_536
     }
 
     /// What a match with this area and arrival counts as, by chance: the least is taken.

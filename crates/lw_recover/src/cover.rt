@@ -31,7 +31,7 @@ pub(crate) struct Kept {
 pub(crate) struct Cover<'a> {
     pub alloc: Global,
     pub space: &'a Space<'a>,
-    attained: &'a Attained,
+    attained: Attained<'a>,
     pub matches: Matches,
     pub refs: Table<u32>,
     /// The match of each class in use; of one that was in use, its last.
@@ -72,7 +72,7 @@ impl<'a> Cover<'a> {
     pub(crate) fn new(
         alloc: Global,
         space: &'a Space<'a>,
-        attained: &'a Attained,
+        attained: Attained<'a>,
         roots: &[Root],
     ) -> Result<Self, AllocError> {
         let classes = space.graph.classes() as usize;
@@ -137,8 +137,8 @@ impl<'a> Cover<'a> {
         let classes = self.space.graph.classes();
         let mut sel = Table::new(self.alloc, classes as usize, NONE)?;
         let mut stack = Vec::new(self.alloc);
-        for root in 0..self.roots.len() {
-            stack.push(self.roots[root].class)?;
+        for root in &self.roots {
+            stack.push(root.class)?;
         }
         for _ in 0..self.most_steps() {
             let Some(class) = stack.pop() else {
@@ -332,10 +332,12 @@ impl<'a> Cover<'a> {
         self.sel.copy(sel);
         self.refs.fill(0);
         self.uses.fill(NONE);
-        for root in 0..self.roots.len() {
-            let number = self.roots[root].class.0;
-            self.refs
-                .set(number, self.refs.get(number).saturating_add(1));
+        for k in 0..self.roots.len() {
+            let Some(root) = self.roots.get(k).copied() else {
+                break;
+            };
+            let count = self.refs.get(root.class.0).saturating_add(1);
+            self.refs.set(root.class.0, count);
         }
         for gate in &gates {
             self.link_pins(*gate)?;

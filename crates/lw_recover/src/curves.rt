@@ -213,7 +213,9 @@ impl Front {
         let (mut kept, mut last) = (0usize, u64::MAX);
         let count = self.points.len();
         for k in 0..count {
-            let old = self.points[k];
+            let Some(old) = self.points.get(k).copied() else {
+                break;
+            };
             let flow = old.flow.saturating_mul(256) / u64::from(uses.max(1));
             let is_low = kept == 0 || flow < thinner(last);
             let is_kept = k + 1 == count || is_low && kept < MOST_POINTS - 1;

@@ -26,6 +26,5 @@ mod visits;
 pub use attained::Attained;
 pub use cover::Root;
 pub use drawing::Nodes;
-pub use lw_kinds::Label;
 pub use matches::{Gate, Gates};
 pub use recovering::{Effort, recover};

@@ -6,9 +6,10 @@ use crate::drawing::Nodes;
 use crate::matches::{Gates, NONE};
 use crate::moves::{Limits, Moves, Want};
 use crate::stock::Stock;
+use lw_cost::Mark;
 use lw_genlib::Library;
 use lw_graph::Graph;
-use lw_kinds::{Label, Space, Table};
+use lw_kinds::{Space, Table};
 use lw_pattern::Patterns;
 use std::alloc::{AllocError, Global};
 
@@ -151,8 +152,8 @@ impl<'a> Recovery<'a> {
         let classes = cover.sel.len() as usize;
         let mut sel = Table::new(cover.alloc, classes, NONE)?;
         let mut stack = Vec::new(cover.alloc);
-        for root in 0..cover.roots.len() {
-            stack.push(cover.roots[root].class)?;
+        for root in &cover.roots {
+            stack.push(root.class)?;
         }
         for _ in 0..cover.most_steps() {
             let Some(class) = stack.pop() else {
@@ -288,13 +289,13 @@ pub fn recover(
     graph: &Graph,
     lib: &Library,
     pats: &Patterns,
-    labels: &[Option<Label>],
-    attained: &Attained,
+    marks: &[Option<Mark>],
+    attained: Attained<'_>,
     roots: &[Root],
     networks: &[Nodes],
     effort: Effort,
 ) -> Result<Option<Gates>, AllocError> {
-    let space = Space::new(alloc, graph, lib, pats, labels)?;
+    let space = Space::new(alloc, graph, lib, pats, marks)?;
     let mut cover = Cover::new(alloc, &space, attained, roots)?;
     if !cover.start()? {
         return Ok(None);

@@ -155,8 +155,11 @@ impl<'a> Cover<'a> {
     fn backward(&mut self) -> Result<bool, AllocError> {
         self.falling.clear();
         for k in 0..self.touched.len() {
-            let number = self.touched[k].0;
-            self.falling.push((self.req.get(number), number))?;
+            let Some(class) = self.touched.get(k).copied() else {
+                break;
+            };
+            let time = self.req.get(class.0);
+            self.falling.push((time, class.0))?;
         }
         for _ in 0..self.most_steps() {
             let Some((_, number)) = self.falling.pop() else {

@@ -144,7 +144,9 @@ impl<'a> Moves<'a> {
     // Marks what the walk has come through as above the top.
     fn mark_way(&mut self) {
         for k in 0..self.cover.stack.len() {
-            let (class, _) = self.cover.stack[k];
+            let Some((class, _)) = self.cover.stack.get(k).copied() else {
+                break;
+            };
             self.marks.set(
                 class.0,
                 Mark {

@@ -82,7 +82,7 @@ impl<'a> Moves<'a> {
     fn note_links(&mut self) -> Result<(), AllocError> {
         self.links.clear();
         for k in 0..self.log.len() {
-            if let Entry::Link(class, _, _) = self.log[k] {
+            if let Some(Entry::Link(class, _, _)) = self.log.get(k).copied() {
                 let number = self.cover.sel.get(class.0);
                 self.links.push(Linked { class, number })?;
             }

@@ -10,8 +10,7 @@ use Rattle.lw_laws.proofs.GraphEncodes.{graph_encodes}
 use Rattle.lw_net.specs.Networks.{NetworkParts}
 use Rattle.lw_net.specs.Plain.{plain}
 use Rattle.lw_genlib.specs.Cells.{CellParts, IsLibrary}
-use Rattle.lw_genlib.specs.Tables.{truth_of_cells}
-use Rattle.lw_pattern.specs.Libraries.{library_patterns}
+use Rattle.lw_genlib.specs.Tables.{truth_of_cells, library_patterns}
 use Rattle.lw_blif.specs.declared.parsed.Parsed.{Parsed}
 use Rattle.lw_mapped.specs.declared.closing.Mapped.{Mapped as MappedParts}
 use Rattle.lw_check.specs.declared.verdict.Verdict.TheVariants as verdict

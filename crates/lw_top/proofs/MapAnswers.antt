@@ -14,7 +14,7 @@ use Rattle.lw_map.proofs.CertificateOnce.{certificate_once}
 use Rattle.lw_top.specs.declared.refusal.Refusal.{Refusal}
 use Rattle.lw_top.specs.declared.refusal.Refusal.TheVariants.{Forms, Splits, NoCover}
 use Rattle.lw_files.specs.Steps.{Files}
-use Rattle.lw_top.specs.Maps.{IsAskedFor, IsMappedText, LacksGraph, LacksMapping, Maps}
+use Rattle.lw_top.specs.Maps.{IsAskedFor, IsMappedText, LacksMapping, Maps}
 
 -- why a network is not mapped, by cases
 pub data Lack (options : Options) (cells : List CellParts) (net : NetworkParts) (starts : List Micro) : Refusal → Type 0 where
@@ -55,12 +55,6 @@ module _ (options : Options) (cells : List CellParts) (net : NetworkParts) (star
   not_both kept early lib w n is r lacks =
       let (name, p) = within_lacks w (by_lack options cells net starts r lacks) in
       covered options cells net starts wide kept early lib w.forms n is p.place p.output p.at p.lacks
-
--- why there is no graph is one thing
-pub graph_lack : (options : Options) (cells : List CellParts) (net : NetworkParts) (starts : List Micro) (r : Refusal) → LacksGraph options net r → LacksMapping options cells net starts r
-graph_lack options cells net starts Forms m = m
-graph_lack options cells net starts Splits m = m
-graph_lack options cells net starts other m = absurd m
 
 module _ (options : Options) (cells : List CellParts) (model : Parsed) (wide : IsWide options) (kept : IsNetwork model.network) (early : All IsSmall model.starts) (lib : IsLibrary cells) where
   asked_one : (n : NetlistParts) (a b : IsMappedNetlist options cells model.network model.starts n) (certified : Bool) (c d : Option Certificate) → IsAskedFor options cells model.network model.starts n a certified c → IsAskedFor options cells model.network model.starts n b certified d → c ≡ d

@@ -5,7 +5,7 @@ use Rattle.lw_laws.specs.Graphs.{Graph}
 use Rattle.lw_net.proofs.Rise.{in_order}
 use Rattle.lw_blif.specs.declared.parsed.Parsed.{Parsed}
 use Rattle.lw_genlib.specs.Cells.{CellParts}
-use Rattle.lw_pattern.specs.Libraries.{library_patterns}
+use Rattle.lw_genlib.specs.Tables.{library_patterns}
 use Rattle.lw_mapped.specs.declared.closing.Mapped.{Mapped as MappedParts}
 use Rattle.lw_check.specs.Mappings.{IsKept}
 use Rattle.lw_check.specs.Verdicts.{claim}

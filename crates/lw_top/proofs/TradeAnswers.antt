@@ -4,24 +4,22 @@ use Rattle.std.proofs.lemmas.List.{length-map, length-take-le}
 use Rattle.std.proofs.lemmas.Slice.Zip.{AllZip-long}
 use Rattle.lw_fixed.specs.declared.micro.Micro.{Micro}
 use Rattle.lw_pool.specs.declared.id.NetId.{NetId}
-use Rattle.lw_net.specs.Networks.{NetworkParts, IsNetwork, name_in}
+use Rattle.lw_net.specs.Networks.{NetworkParts, name_in}
 use Rattle.lw_genlib.specs.Cells.{CellParts}
 use Rattle.lw_blif.specs.declared.parsed.Parsed.{Parsed}
 use Rattle.lw_blif.specs.BlifNetworks.{IsModel}
 use Rattle.lw_laws.specs.Headline.{HasLeastArrival}
 use Rattle.lw_net.specs.Plain.{plain}
-use Rattle.lw_genlib.specs.Tables.{timing_of}
-use Rattle.lw_pattern.specs.Libraries.{library_patterns}
+use Rattle.lw_genlib.specs.Tables.{timing_of, library_patterns}
 use Rattle.lw_netlist.specs.Netlists.{NetlistParts}
 use Rattle.lw_mapped.specs.Texts.{IsFramed}
-use Rattle.lw_map.specs.declared.choices.Choices.{Choices}
 use Rattle.lw_map.specs.declared.fault.MapFault.{MapFault}
 use Rattle.lw_map.specs.declared.fault.MapFault.TheVariants as map_fault
-use Rattle.lw_map.specs.Options.{Options, IsWide, plain_options}
+use Rattle.lw_map.specs.Options.{Options, IsWide}
 use Rattle.lw_map.specs.Mapped.{IsWithinLimits, LacksCover}
-use Rattle.lw_map.specs.Choices.{AreChoicesOf}
-use Rattle.lw_map.specs.Faults.{IsTradeFault}
-use Rattle.lw_map.specs.Trading.{IsTradeable, IsTradedNetlist, HasTooManyPoints, HasFewPoints, AreEarliest}
+use Rattle.lw_map.specs.Faults.{IsTradingFault}
+use Rattle.lw_map.specs.Trading.{IsTradeable, IsTradedNetlist, HasFewPoints, AreEarliest}
+use Rattle.lw_map.specs.Trades.{IsTraded}
 use Rattle.lw_map.proofs.Once.{zip_at}
 use Rattle.lw_top.specs.declared.answer.Answer.TheVariants as answer
 use Rattle.lw_top.specs.declared.refusal.Refusal.{Refusal}
@@ -89,23 +87,22 @@ trades_alike options cells model deadline wide files (Err r) (Err s) p q = trade
 
 -- Giving.
 
--- why there is no mapping is why there is none by a deadline
-pub mapping_lack : (deadline : Option Micro) (options : Options) (cells : List CellParts) (net : NetworkParts) (starts : List Micro) (r : Refusal) → LacksMapping options cells net starts r → LacksTrade deadline options cells net starts r
-mapping_lack deadline options cells net starts Points m = absurd m
-mapping_lack deadline options cells net starts other m = m
-
-pub trade_refused : (options : Options) (cells : List CellParts) (model : Parsed) (c : Choices) → plain_options c.options ≡ options → (deadline : Option Micro) (fault : MapFault) → IsTradeFault cells model.network model.starts c deadline fault → Gives (Trades deadline options cells model) (Err (map_refusal fault))
-trade_refused options cells model c same deadline (map_fault.NoCover name) is = λ files. subst (λ (o : Options). LacksCover o cells model.network model.starts name) same is
-trade_refused options cells model c same None map_fault.Points is = absurd is
-trade_refused options cells model c same (Some deadline) map_fault.Points is = λ files. subst (λ (o : Options). HasTooManyPoints o cells model.network model.starts deadline) same is
-trade_refused options cells model c same deadline map_fault.Memory is = tt
-trade_refused options cells model c same deadline map_fault.Forms is = absurd is
-trade_refused options cells model c same deadline map_fault.Splits is = absurd is
+pub trade_refused : (options : Options) (cells : List CellParts) (model : Parsed) (deadline : Option Micro) (fault : MapFault) → IsTradingFault deadline options cells model.network model.starts fault → Gives (Trades deadline options cells model) (Err (map_refusal fault))
+trade_refused options cells model None map_fault.Forms is = λ files. is
+trade_refused options cells model None map_fault.Splits is = λ files. is
+trade_refused options cells model None (map_fault.NoCover name) is = λ files. is
+trade_refused options cells model None map_fault.Points is = absurd is
+trade_refused options cells model None map_fault.Memory is = tt
+trade_refused options cells model (Some deadline) map_fault.Forms is = λ files. is
+trade_refused options cells model (Some deadline) map_fault.Splits is = λ files. is
+trade_refused options cells model (Some deadline) (map_fault.NoCover name) is = λ files. is
+trade_refused options cells model (Some deadline) map_fault.Points is = λ files. is
+trade_refused options cells model (Some deadline) map_fault.Memory is = tt
 
 -- the frame and the starts fit the netlist
-framed : (options : Options) (cells : List CellParts) (model : Parsed) (deadline : Option Micro) (n : NetlistParts) → IsNetwork model.network → IsModel model → IsTradedNetlist options cells model.network model.starts deadline n → IsFramed n model.frame model.starts
-framed options cells model deadline n kept fits is =
-    let m = kept.named in
+framed : (options : Options) (cells : List CellParts) (model : Parsed) (deadline : Option Micro) (n : NetlistParts) → IsModel model → IsTradedNetlist options cells model.network model.starts deadline n → IsFramed n model.frame model.starts
+framed options cells model deadline n fits is =
+    let m = fits.network.named in
     let names = length-take-le model.network.inputs model.network.names (omega arith) in
     let inputs = is.inputs in
     let own = fits.frame.own_inputs in
@@ -117,8 +114,8 @@ framed options cells model deadline n kept fits is =
     let d = length-map model.network.outputs (name_in model.network) in
     record { inputs = omega arith; outputs = omega arith; one_start = omega arith }
 
-pub trade_given : (cells : List CellParts) (model : Parsed) (c : Choices) (deadline : Option Micro) (n : NetlistParts) → IsNetwork model.network → IsModel model → AreChoicesOf model.network c → IsTradeable (plain_options c.options) cells model.network model.starts deadline → IsTradedNetlist (plain_options c.options) cells model.network model.starts deadline n → Gives (Trades deadline (plain_options c.options) cells model) (Ok (answer.Mapping cells n model.frame model.starts None))
-trade_given cells model c deadline n kept fits are can is = (
-  λ text files says. record { within = are.within; tradeable = can; netlist = n; traded = is; written = says },
-  (is.over, framed (plain_options c.options) cells model deadline n kept fits is, tt),
+pub trade_given : (options : Options) (cells : List CellParts) (model : Parsed) (deadline : Option Micro) (n : NetlistParts) → IsModel model → IsTraded deadline options cells model n → Gives (Trades deadline options cells model) (Ok (answer.Mapping cells n model.frame model.starts None))
+trade_given options cells model deadline n fits is = (
+  λ text files says. record { within = is.within; tradeable = is.tradeable; netlist = n; traded = is.netlist; written = says },
+  (is.netlist.over, framed options cells model deadline n fits is.netlist, tt),
 )

@@ -9,7 +9,6 @@ pub mod Answers
 pub mod Reading
 pub mod Commands
 pub mod Named
-pub mod Mapped
 pub mod Answered
 pub mod Outcome
 pub mod Reasons

@@ -1,5 +1,5 @@
 -- What a library of cells and a network come to: the text of the netlist that the network is mapped to, or why there is none.
-use Rattle.std.specs.Prelude.{ℕ, ◌≡◌, Bool, true, false, List, length, Option, Some, None, Ok, Err}
+use Rattle.std.specs.Prelude.{ℕ, ◌≡◌, Bool, List, Option, Ok, Err}
 use Rattle.lw_fixed.specs.declared.micro.Micro.{Micro}
 use Rattle.lw_net.specs.Networks.{NetworkParts}
 use Rattle.lw_genlib.specs.Cells.{CellParts}
@@ -7,22 +7,12 @@ use Rattle.lw_blif.specs.declared.parsed.Parsed.{Parsed}
 use Rattle.lw_netlist.specs.Netlists.{NetlistParts}
 use Rattle.lw_mapped.specs.declared.certificate.Certificate.{Certificate}
 use Rattle.lw_mapped.specs.Texts.{mapped_text}
-use Rattle.lw_mapped.specs.Certified.{IsCertificateOf}
 use Rattle.lw_map.specs.Options.{Options}
+pub use Rattle.lw_map.specs.Certified.{HasCertificate, IsAskedFor}
 use Rattle.lw_map.specs.Mapped.{IsMappedNetlist, IsWithinLimits, HasTooManyForms, HasTooManySplits, LacksCover}
 use Rattle.lw_top.specs.declared.refusal.Refusal.{Refusal}
 use Rattle.lw_top.specs.declared.refusal.Refusal.TheVariants.{Forms, Splits, NoCover}
 use Rattle.lw_top.specs.Steps.{Step}
-
--- There is a certificate where one is asked for, that of the netlist, with a place for each class and no more.
-pub record HasCertificate (options : Options) (cells : List CellParts) (net : NetworkParts) (starts : List Micro) (n : NetlistParts) (is : IsMappedNetlist options cells net starts n) (certificate : Certificate) : Type 0 where
-  pub is_of : IsCertificateOf is.is certificate
-  pub one_each : length certificate.labels ≡ length is.is.graph.pairs
-
-abbrev pub IsAskedFor : (options : Options) (cells : List CellParts) (net : NetworkParts) (starts : List Micro) (n : NetlistParts) → IsMappedNetlist options cells net starts n → Bool → Option Certificate → Type 0
-IsAskedFor options cells net starts n is false None = Unit {0}
-IsAskedFor options cells net starts n is true (Some certificate) = HasCertificate options cells net starts n is certificate
-IsAskedFor options cells net starts n is certified certificate = ⊥
 
 -- the text is that of the netlist that the model is mapped to, with its frame and its starts, and with its certificate where it is asked for
 pub record IsMappedText (options : Options) (certified : Bool) (cells : List CellParts) (model : Parsed) (text : List ℕ) : Type 0 where

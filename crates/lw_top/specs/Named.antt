@@ -26,7 +26,7 @@ use Rattle.lw_top.specs.declared.answer.Answer.TheVariants as answer
 use Rattle.lw_top.specs.Checks.{yes_text}
 use Rattle.lw_top.specs.Counts.{counts_text, sizes_text}
 
--- the refusal of a network that is not mapped
+-- the refusal of a network that has no answer
 abbrev pub map_refusal : MapFault → Refusal
 map_refusal map_fault.Forms = Forms
 map_refusal map_fault.Splits = Splits
@@ -78,5 +78,5 @@ IsTextOf (answer.Values network vectors sim) text = IsNetworkSimulation network 
 IsTextOf (answer.GateValues library netlist vectors sim) text = IsNetlistSimulation library netlist (values_in vectors) text
 IsTextOf (answer.Verilog library netlist) text = text ≡ verilog_text library netlist
 IsTextOf (answer.Tables net frame) text = text ≡ tables_text net frame
-IsTextOf (answer.Counts forms classes alternatives) text = text ≡ counts_text forms classes alternatives
-IsTextOf (answer.Sizes nodes classes gates latest steps) text = text ≡ sizes_text nodes classes gates latest.0 steps
+IsTextOf (answer.Counts counts) text = text ≡ counts_text counts
+IsTextOf (answer.Sizes sizes) text = text ≡ sizes_text sizes

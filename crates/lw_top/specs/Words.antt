@@ -7,7 +7,7 @@ use Rattle.std.specs.Str.Parse.{digits_value}
 use Rattle.lw_fixed.specs.Decimals.{given_units, decimal_of}
 use Rattle.lw_fixed.specs.declared.fault.DecimalFault.{DecimalFault}
 use Rattle.lw_fixed.specs.declared.micro.Micro.{Micro}
-use Rattle.lw_big.specs.Generated.{most_nodes}
+use Rattle.lw_map.specs.Counts.{most_nodes}
 use Rattle.lw_genlib.specs.Cells.{IsSmall}
 use Rattle.lw_laws.specs.Modes.Mode.{plain, idempotent}
 use Rattle.lw_map.specs.Options.{Options, IsWide}

@@ -7,20 +7,17 @@ ghost use Rattle.lw_top.specs.Answered.{Responds};
 ghost use Rattle.lw_map.specs.Options.{plain_options};
 ghost use Rattle.lw_map.specs.Tabled.{AreLeaves};
 
-use crate::counting::{count_model, draw};
-use crate::mapping::map_model;
+use crate::answering::{check_mapped, count_model, draw, map_model, table_model, trade_model};
 use crate::refusal::Refusal;
-use crate::reports::{check_mapped, simulate, simulate_gates, time_mapped};
+use crate::reports::{simulate, simulate_gates, time_mapped};
 use crate::sources::{read_library, read_mapped, read_model, read_netlist, read_vectors};
-use crate::tabling::table_model;
-use crate::trading::trade_model;
 use crate::verilog::{map_verilog, say_verilog};
 use crate::words::Command;
 use lw_fixed::{Micro, Micros};
 use lw_genlib::Library;
 use lw_io::Shelf;
 use lw_lut::TableNet;
-use lw_map::Options;
+use lw_map::{Counts, Options, Sizes};
 use lw_mapped::Certificate;
 use lw_net::Network;
 use lw_netlist::Netlist;
@@ -45,11 +42,10 @@ pub enum Answer {
     GateValues(Library, Netlist, Vectors, Sim),
     /// A network of lookup tables, and what stands around it.
     Tables(TableNet, Frame),
-    /// How many base forms, classes and pairs there are.
-    Counts(u32, u32, u128),
-    /// How many nodes, classes and gates there are, the greatest arrival, and how often stored
-    /// matches were read, if they were not too many to store.
-    Sizes(u32, u32, u32, Micro, Option<u64>),
+    /// The size of a network's graph.
+    Counts(Counts),
+    /// The sizes of a network that was drawn and mapped.
+    Sizes(Sizes),
 }
 
 /// The answer to a command, or why there is none.

@@ -12,9 +12,9 @@ use crate::answer::{Answer, respond};
 use crate::refusal::Refusal;
 use crate::words::Command;
 use lw_files::{put_count, put_number, put_time};
-use lw_fixed::Micro;
 use lw_io::{Failed, Shelf, Sink, Writer, write_all};
 use lw_lut::write_tables;
+use lw_map::{Counts, Sizes};
 use lw_mapped::write;
 use lw_verilog::write_verilog;
 use std::alloc::Global;
@@ -85,21 +85,19 @@ fn write_text<O: Sink>(answer: &mut Answer, out: &mut O) -> Result<(), Failed>
         Answer::GateValues(library, netlist, vectors, sim) => {
             sim.netlist(netlist, library, vectors, out)
         }
-        Answer::Counts(forms, classes, pairs) => write_counts(*forms, *classes, *pairs, out),
-        Answer::Sizes(nodes, classes, gates, latest, steps) => {
-            write_sizes(*nodes, *classes, *gates, *latest, *steps, out)
-        }
+        Answer::Counts(counts) => write_counts(*counts, out),
+        Answer::Sizes(sizes) => write_sizes(*sizes, out),
     }
 }
 
-fn write_counts<O: Sink>(forms: u32, classes: u32, pairs: u128, out: &mut O) -> Result<(), Failed>
+fn write_counts<O: Sink>(counts: Counts, out: &mut O) -> Result<(), Failed>
     ensures { IsTaken (O.taken out.old) (O.faults out.old) (O.taken out.new) (O.faults out.new)
-        (counts_text forms classes pairs) result }
+        (counts_text counts) result }
 {
     let mut text = Writer::new(out);
-    put_count(&mut text, b"forms ", u128::from(forms), b"\n");
-    put_count(&mut text, b"classes ", u128::from(classes), b"\n");
-    put_count(&mut text, b"alternatives ", pairs, b"\n");
+    put_count(&mut text, b"forms ", u128::from(counts.forms), b"\n");
+    put_count(&mut text, b"classes ", u128::from(counts.classes), b"\n");
+    put_count(&mut text, b"alternatives ", counts.pairs, b"\n");
     text.end()
 }
 
@@ -113,26 +111,19 @@ fn put_steps<O: Sink>(out: &mut Writer<'_, O>, steps: Option<u64>)
     }
 }
 
-fn write_sizes<O: Sink>(
-    nodes: u32,
-    classes: u32,
-    gates: u32,
-    latest: Micro,
-    steps: Option<u64>,
-    out: &mut O,
-) -> Result<(), Failed>
+fn write_sizes<O: Sink>(sizes: Sizes, out: &mut O) -> Result<(), Failed>
     ensures { IsTaken (O.taken out.old) (O.faults out.old) (O.taken out.new) (O.faults out.new)
-        (sizes_text nodes classes gates latest.0 steps) result }
+        (sizes_text sizes) result }
 {
     let mut text = Writer::new(out);
-    put_count(&mut text, b"nodes ", u128::from(nodes), b"\n");
-    put_count(&mut text, b"classes ", u128::from(classes), b"\n");
-    put_count(&mut text, b"gates ", u128::from(gates), b"\n");
+    put_count(&mut text, b"nodes ", u128::from(sizes.nodes), b"\n");
+    put_count(&mut text, b"classes ", u128::from(sizes.classes), b"\n");
+    put_count(&mut text, b"gates ", u128::from(sizes.gates), b"\n");
     text.put(b"max ");
-    put_time(&mut text, latest);
+    put_time(&mut text, sizes.latest);
     text.put(b"\n");
     text.put(b"steps ");
-    put_steps(&mut text, steps);
+    put_steps(&mut text, sizes.steps);
     text.put(b"\n");
     text.end()
 }

@@ -3,10 +3,10 @@ ghost use Rattle.std.specs.Prelude.{◌≡◌};
 ghost use Rattle.lw_io.specs.Writers.{Writes};
 ghost use Rattle.lw_top.specs.Reasons.{label_text, label_reason, root_reason, value_reason, reason_text, no_verilog_text, verilog_kind_text};
 
-use lw_check::Reason;
 use lw_files::{put_count, put_number, put_three, put_time};
 use lw_fixed::Micro;
 use lw_io::{Sink, Writer};
+use lw_map::Reason;
 use lw_pool::{ClassId, Name};
 use lw_verilog::{NoVerilog, VerilogKind};
 

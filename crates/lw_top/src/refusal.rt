@@ -2,9 +2,8 @@
 ghost use Rattle.std.specs.Prelude.{◌≡◌};
 ghost use Rattle.lw_top.specs.declared.refusal.Refusal.TheVariants.{Memory};
 
-use lw_check::Reason;
 use lw_files::FileFault;
-use lw_map::MapFault;
+use lw_map::{MapFault, Reason};
 use lw_pool::Name;
 use lw_verilog::{NoVerilog, VerilogKind};
 use std::alloc::AllocError;
@@ -48,7 +47,7 @@ pub enum Refusal {
 
 impl Refusal {
     ghost use Rattle.std.specs.Prelude.{◌≡◌};
-    ghost use Rattle.lw_top.specs.Named.{file_refusal};
+    ghost use Rattle.lw_top.specs.Named.{file_refusal, map_refusal};
 
     /// The refusal of a file: running out of memory is no fault of the file.
     pub fn of_file(which: Which, fault: FileFault) -> Refusal
@@ -59,23 +58,11 @@ impl Refusal {
             fault => Refusal::Faulty(which, fault),
         }
     }
-}
 
-impl From<AllocError> for Refusal {
-    ghost from_gives = { λ _ e. e ≡ Memory };
-
-    fn from(_e: AllocError) -> Refusal {
-        Refusal::Memory
-    }
-}
-
-impl From<MapFault> for Refusal {
-    ghost use Rattle.std.specs.Prelude.{◌≡◌};
-    ghost use Rattle.lw_top.specs.Named.{map_refusal};
-
-    ghost from_gives = { λ fault e. e ≡ map_refusal fault };
-
-    fn from(fault: MapFault) -> Refusal {
+    /// The refusal of a network that has no answer.
+    pub fn of_map(fault: MapFault) -> Refusal
+        ensures { result ≡ map_refusal fault }
+    {
         match fault {
             MapFault::Forms => Refusal::Forms,
             MapFault::Splits => Refusal::Splits,
@@ -83,5 +70,13 @@ impl From<MapFault> for Refusal {
             MapFault::Points => Refusal::Points,
             MapFault::Memory => Refusal::Memory,
         }
+    }
+}
+
+impl From<AllocError> for Refusal {
+    ghost from_gives = { λ _ e. e ≡ Memory };
+
+    fn from(_e: AllocError) -> Refusal {
+        Refusal::Memory
     }
 }

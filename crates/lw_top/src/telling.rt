@@ -11,9 +11,9 @@ use crate::outcome::Outcome;
 use crate::reasons::{put_no_verilog, put_reason, verilog_kind_text};
 use crate::refusal::{Refusal, Which};
 use crate::words::{Command, file_word};
-use lw_check::Reason;
 use lw_files::{put_broken, put_fault, put_two};
 use lw_io::{Failed, Sink, Writer};
+use lw_map::Reason;
 use lw_verilog::NoVerilog;
 
 /// Writes the line of an outcome, if it has one.

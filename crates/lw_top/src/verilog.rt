@@ -8,10 +8,10 @@ ghost use Rattle.lw_top.specs.Counts.{at_once};
 ghost use Rattle.lw_top.specs.Verilogs.{SaysVerilog, SaysMapped, whole_frame};
 
 use crate::answer::{Answer, Answered};
-use crate::counting::all_at_once;
 use crate::refusal::Refusal;
 use lw_fixed::Micros;
 use lw_genlib::Library;
+use lw_map::all_at_once;
 use lw_mapped::Mapped;
 use lw_netlist::Netlist;
 use lw_pool::{Frame, Latches};

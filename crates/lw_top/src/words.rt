@@ -6,9 +6,8 @@ ghost use Rattle.lw_top.specs.Commands.{plain_begun, plain_command, asked};
 ghost use Rattle.lw_map.specs.Options.{plain_options};
 
 use crate::refusal::Which;
-use lw_assoc::Mode;
 use lw_fixed::{Micro, are_digits, read};
-use lw_map::Options;
+use lw_map::{Mode, Options};
 
 /// A command, with its options and the words for its files.
 #[derive(Clone, Copy)]

@@ -1,13 +1,21 @@
-use Rattle.lw_label.proofs.CellLaws.{patterns_of_cells}
+use Rattle.lw_map.proofs.Problems.{fastest_for, few_for, lack_for, over_for}
 use Rattle.lw_map.proofs.covering.cover.Goals as goal
 
 pub fastest-mapping-requires : goal.fastest-mapping-requires
-fastest-mapping-requires c = record {
-  library = c.len.ensures.kept;
-  network = c.inputs.ensures.kept;
-  chosen = c.requires.choices;
-  outputs = c.requires.outputs;
-  early = c.requires.early;
-  patterns = c.in_ok-pats.ensures.list;
-  of_cells = patterns_of_cells c.args.lib.now c.len.ensures.kept c.in_ok-pats.pats c.in_ok-pats.ensures.list c.in_ok-pats.ensures.pins;
-}
+fastest-mapping-requires c = c.in_ok-problem.ensures.is
+
+pub returns-clause-mapping : goal.returns-clause-mapping
+returns-clause-mapping c =
+    fastest_for c.args.lib.now c.args.net.now c.args.starts.now c.args.choices.now c.in_ok-problem.problem c.in_ok-problem.ensures c.args.labeller c.fastest-mapping.result c.fastest-mapping.ensures.mapping
+
+pub returns-clause-over : goal.returns-clause-over
+returns-clause-over c =
+    over_for c.args.lib.now c.args.net.now c.args.starts.now c.args.choices.now c.in_ok-problem.problem c.in_ok-problem.ensures c.args.labeller c.fastest-mapping.result c.fastest-mapping.ensures.mapping
+
+pub returns-clause-few : goal.returns-clause-few
+returns-clause-few c =
+    few_for c.args.lib.now c.args.net.now c.args.starts.now c.args.choices.now c.in_ok-problem.problem c.in_ok-problem.ensures c.args.labeller c.fastest-mapping.result c.fastest-mapping.ensures.mapping
+
+pub returns-clause-fault : goal.returns-clause-fault
+returns-clause-fault c =
+    lack_for c.args.lib.now c.args.net.now c.args.starts.now c.args.choices.now c.in_ok-problem.problem c.in_ok-problem.ensures c.fastest-mapping.result c.fastest-mapping.ensures.fault
