@@ -1,13 +1,20 @@
-//! A network mapped to cells with each output by its deadline and little area: from words and files
-//! to a status, the bytes for out and a line for err.
+//! A network mapped to the cells of a library with little area: the program `lwarea` without its
+//! system.
+//!
+//! In go the words of the command line, files and two streams; out come the exit status, the
+//! netlist on the first stream, or a line on the second one. `words` says what is asked for,
+//! `deadlines` by when outputs have to arrive, `recovering` looks for a smaller cover, `mapping`
+//! makes the netlist, `refusal` lists why there is none, `telling` has the lines and the pages, and
+//! `top` takes them together. The definition to read is `IsRecovered` in `specs/Recovered.antt`.
+//! The program crate `lwarea` calls `run`.
 #![tactic(auto)]
 
-mod attaining;
 mod deadlines;
 mod mapping;
+mod recovering;
 mod refusal;
-mod running;
 mod telling;
+mod top;
 mod words;
 
-pub use running::run;
+pub use top::run;

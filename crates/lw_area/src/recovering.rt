@@ -4,18 +4,17 @@ use crate::words::Settings;
 use lw_blif::Parsed;
 use lw_bounds::Bounds;
 use lw_cost::{Match, Pins};
-use lw_extract::{Attained, Chosen, Cover, Ports, attained};
+use lw_extract::{Chosen, Cover, attaining_matches};
 use lw_fixed::Micro;
 use lw_form::{FormFault, Forms, forms};
 use lw_genlib::Library;
 use lw_graph::Graph;
 use lw_label::{DelayCost, Labels};
-use lw_look::{Look, Looked};
+use lw_look::Look;
 use lw_map::{Choices, ports};
 use lw_net::Network;
 use lw_pattern::{Patterns, patterns};
-use lw_pool::ClassId;
-use lw_recover::{Effort, Gate, Nodes, Root, recover};
+use lw_recover::{Attained, Effort, Gate, Nodes, Root, recover};
 use std::alloc::{AllocError, Global};
 
 /// What a smaller cover is looked for in: a library, the model of a network, its choices, the
@@ -119,7 +118,7 @@ impl Case<'_> {
         &self,
         effort: Effort,
         pats: &Patterns,
-        attained: &Attained,
+        attained: Attained<'_>,
         times: &[Micro],
     ) -> Result<Vec<Chosen>, AllocError> {
         let (graph, marks) = (&self.choices.graph, self.labels.marks());
@@ -143,5 +142,45 @@ impl Case<'_> {
             }
         }
         Ok(list)
+    }
+
+    // The list that is found from the matches which attain the labels.
+    fn found(
+        &self,
+        effort: Effort,
+        pats: &Patterns,
+        times: &[Micro],
+    ) -> Result<Vec<Chosen>, AllocError> {
+        let (alloc, lib, graph) = (self.alloc, self.library, &self.choices.graph);
+        let cost = DelayCost::new(lib, &self.model.starts);
+        let bounds = Bounds::settled(alloc, graph, pats, self.labels.marks(), &cost)?;
+        let ports = ports(alloc, &self.model.network, self.choices)?;
+        let all = attaining_matches(alloc, graph, pats, lib, self.labels, &bounds, &ports, &cost)?;
+        drop(bounds);
+        let attained = Attained {
+            pats: &all.pats,
+            ends: &all.ends,
+            pins: &all.pins,
+        };
+        self.list(effort, pats, attained, times)
+    }
+
+    /// A smaller cover than the first one, if one is found, in which each output arrives by its
+    /// deadline; else the first one.
+    pub(crate) fn smaller(&self, effort: Effort, first: Cover) -> Result<Cover, AllocError> {
+        let alloc = self.alloc;
+        let pats = patterns(alloc, self.library)?;
+        let times = deadlines_of(alloc, self.settings.deadline, &self.least()?)?;
+        let list = self.found(effort, &pats, &times)?;
+        let ports = ports(alloc, &self.model.network, self.choices)?;
+        let look = Look {
+            graph: &self.choices.graph,
+            pats: &pats,
+            lib: self.library,
+            starts: &self.model.starts,
+            ports: &ports,
+            times: &times,
+        };
+        Ok(look.choose(alloc, &list, first)?.cover)
     }
 }

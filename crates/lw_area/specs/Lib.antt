@@ -1,0 +1,5 @@
+pub mod Words
+pub mod Plain
+pub mod Deadlines
+pub mod Refusals
+pub mod Recovered

@@ -1,0 +1,6 @@
+mod AreaSums
+mod Deciding
+mod Early
+mod NetDepths
+mod Networks
+mod RightLists

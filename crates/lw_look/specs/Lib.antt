@@ -1,0 +1,4 @@
+pub mod Areas
+pub mod Depths
+pub mod Lists
+pub mod Looks

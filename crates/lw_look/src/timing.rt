@@ -1,0 +1,47 @@
+// Whether the outputs of a netlist arrive by their times.
+ghost use Rattle.std.specs.Prelude.{◌≡◌, ◌≤◌, ◌<◌, ◌↔◌, All, IfOk, IsTrue, length};
+ghost use Rattle.lw_genlib.specs.Cells.{IsSmall};
+ghost use Rattle.lw_netlist.specs.Netlists.{most_gates};
+ghost use Rattle.lw_netlist.specs.Plain.{IsOver};
+ghost use Rattle.lw_look.specs.Looks.{AreEarly, IsInTime};
+
+use lw_fixed::{Micro, Micros};
+use lw_genlib::Library;
+use lw_netlist::{Netlist, Port};
+use std::alloc::{AllocError, Global};
+
+// Whether each output arrives by its time.
+fn are_early(outputs: &[Port], times: &[Micro], arrivals: &[Micro]) -> bool
+    requires known { All (λ port. port.net.0 < length arrivals.now) outputs.now }
+    ensures { IsTrue result ↔ AreEarly arrivals.now outputs.now times.now }
+{
+    if outputs.len() != times.len() {
+        return false;
+    }
+    for (k, port) in outputs.iter().enumerate() {
+        if arrivals[port.net.0 as usize].0 > times[k].0 {
+            return false;
+        }
+    }
+    true
+}
+
+/// Whether each output of a netlist arrives by its time.
+pub(crate) fn is_in_time(
+    alloc: Global,
+    lib: &Library,
+    starts: &Micros,
+    netlist: &Netlist,
+    times: &[Micro],
+) -> Result<bool, AllocError>
+    requires over { IsOver lib.now netlist.now }
+    requires one_start { length starts.now ≡ netlist.now.inputs }
+    requires early { All IsSmall starts.now }
+    requires few { length netlist.now.gates ≤ most_gates }
+    ensures { IfOk result (λ yes. IsTrue yes ↔
+        IsInTime lib.now starts.now times.now netlist.now) }
+{
+    let mut arrivals = vec![in alloc; Micro(0); netlist.names().len()]?;
+    netlist.arrivals(lib, starts, &mut arrivals);
+    Ok(are_early(netlist.outputs(), times, &arrivals))
+}
