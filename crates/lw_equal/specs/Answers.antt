@@ -1,13 +1,13 @@
 -- What an answer claims of two sides.
-use Rattle.std.specs.Prelude.{ℕ, ◌≡◌, ◌≢◌, Bool, false, ⊤, Some, List, length, slice_index_or, Contains}
+use Rattle.std.specs.Prelude.{ℕ, ◌≡◌, ◌≢◌, Bool, false, ⊤, Option, Some, List, length, slice_index_or, Contains}
 use Rattle.std.specs.List.{position_or_len}
 use Rattle.std.specs.Str.{bytes_eq}
 use Rattle.lw_equal.specs.declared.answer.Answer.{Answer}
 use Rattle.lw_equal.specs.declared.answer.Answer.TheVariants.{Equal, Differ, Undecided}
-use Rattle.lw_equal.specs.declared.answer.Difference.{Difference}
 use Rattle.lw_equal.specs.declared.answer.Fault.{Fault}
 use Rattle.lw_equal.specs.declared.answer.Fault.TheVariants.{Ports, Memory}
-use Rattle.lw_equal.specs.declared.point.Point.{Point}
+use Rattle.lw_equal.specs.declared.answer.PortFault.{PortFault}
+use Rattle.lw_equal.specs.declarepoint.Point.{Point}
 use Rattle.lw_equal.specs.declared.side.Side.{Side}
 use Rattle.lw_equal.specs.Ports.{first_port_fault}
 use Rattle.lw_equal.specs.Sides.{AreValuesUnder, IsNetAt, inputs_of}
@@ -25,25 +25,29 @@ abbrev pub named_value : List (List ℕ) → List Bool → List ℕ → Bool
 named_value names values name = slice_index_or values (position_or_len (bytes_eq name) names) false
 
 -- With these values of the inputs of the one side, and those of the same names of the other, the sides have different values at the point.
-pub record IsDifference (one other : Side) (d : Difference) : Type 0 where
-  pub one_each : length d.inputs.items ≡ length (inputs_of one.logic)
+pub record IsDifference (one other : Side) (point : Point) (inputs : List Bool) : Type 0 where
+  pub one_each : length inputs ≡ length (inputs_of one.logic)
   pub left : ℕ
-  pub is_left : IsNetAt one d.point left
+  pub is_left : IsNetAt one point left
   pub right : ℕ
-  pub is_right : IsNetAt other d.point right
+  pub is_right : IsNetAt other point right
   pub lefts : List Bool
-  pub are_lefts : AreValuesUnder one (named_value (inputs_of one.logic) d.inputs.items) lefts
+  pub are_lefts : AreValuesUnder one (named_value (inputs_of one.logic) inputs) lefts
   pub rights : List Bool
-  pub are_rights : AreValuesUnder other (named_value (inputs_of one.logic) d.inputs.items) rights
+  pub are_rights : AreValuesUnder other (named_value (inputs_of one.logic) inputs) rights
   pub differ : slice_index_or lefts left false ≢ slice_index_or rights right false
 
 -- The sides agree at each point, or they differ, or they agree at each point that is not told.
 abbrev pub IsAnswer : Side → Side → Answer → Type 0
 IsAnswer one other Equal = (point : Point) → AgreeAt one other point
-IsAnswer one other (Differ d) = IsDifference one other d
+IsAnswer one other (Differ d) = IsDifference one other d.point d.inputs.items
 IsAnswer one other (Undecided points) = (point : Point) → (Contains points point → ⊥) → AgreeAt one other point
 
--- The first port fault, or that memory ran out.
+-- the port is refused, or memory ran out
+abbrev pub Refuses : Option PortFault → Fault → Type 0
+Refuses first (Ports fault) = first ≡ Some fault
+Refuses first Memory = ⊤
+
+-- the first port that is not right, or that memory ran out
 abbrev pub HasFault : Side → Side → List Side → Fault → Type 0
-HasFault one other more (Ports fault) = first_port_fault one other more ≡ Some fault
-HasFault one other more Memory = ⊤
+HasFault one other more fault = Refuses (first_port_fault one other more) fault

@@ -38,8 +38,6 @@ pub struct Counts {
     pub conflicts: u64,
     /// At how many points the sides were compared.
     pub points: u64,
-    /// At how many of them they were found equal.
-    pub proved: u64,
 }
 
 /// An answer, and what was done on the way.
@@ -62,8 +60,8 @@ pub enum PortKind {
 #[derive(Debug, Drop)]
 pub struct PortFault {
     pub kind: PortKind,
-    pub has: u32,
-    pub lacks: u32,
+    pub has: usize,
+    pub lacks: usize,
     pub name: Name,
 }
 

@@ -14,8 +14,15 @@
 #![tactic(auto)]
 
 mod answer;
+mod cells;
 mod comparing;
+mod deciding;
+mod known;
+mod looking;
+mod pairing;
+mod placing;
 mod point;
+mod ports;
 mod side;
 
 pub use answer::{Answer, Counts, Difference, Fault, Outcome, PortFault, PortKind};
