@@ -62,18 +62,15 @@ line text = codes "lwequal: " ++ (text ++ codes "\n")
 abbrev pub count : List ℕ → ℕ → List ℕ
 count before number = before ++ (decimal number ++ [])
 
--- how the graph of all networks was searched
-abbrev pub search_text : Counts → List ℕ
-search_text c =
-    count (codes "nodes ") c.nodes
+-- at how many points the networks were compared, how large their graph is, and how its pairs of nodes were found
+abbrev pub counts_text : Counts → List ℕ
+counts_text c =
+    count (codes "points ") c.points
+    ++ (count (codes ", nodes ") c.nodes
     ++ (count (codes ", pairs equal ") c.equal
     ++ (count (codes ", apart ") c.apart
     ++ (count (codes ", left ") c.open
-    ++ count (codes ", conflicts ") c.conflicts)))
-
--- and at how many points the networks were compared
-abbrev pub counts_text : Counts → List ℕ
-counts_text c = search_text c ++ (count (codes ", points ") c.points ++ count (codes ", of them equal ") c.proved)
+    ++ count (codes ", conflicts ") c.conflicts))))
 
 abbrev pub comparison_line : Comparison → Ending → List ℕ
 comparison_line c Told = []

@@ -4,7 +4,7 @@ ghost use Rattle.lw_io.specs.Waitings.{IsTaken};
 ghost use Rattle.lw_io.specs.Writers.{Writes};
 ghost use Rattle.lw_files.specs.Faults.{fault_text};
 ghost use Rattle.lw_equal_top.specs.Shown.{shown};
-ghost use Rattle.lw_equal_top.specs.Telling.{comparison_line, counts_text, ending_line, file_of, kind_name, named, port_text, refusal_text, search_text, shown_fault, word_at, word_text, words_line};
+ghost use Rattle.lw_equal_top.specs.Telling.{comparison_line, counts_text, ending_line, file_of, kind_name, named, port_text, refusal_text, shown_fault, word_at, word_text, words_line};
 ghost use Rattle.lw_equal_top.specs.Requests.{plain_comparison, plain_fault, plain_request};
 
 use crate::fault::Refusal;
@@ -90,10 +90,10 @@ fn word_at(words: &[String], place: usize) -> &[u8]
 }
 
 // The file of a network, whose number counts from 1.
-fn file_of(files: &[String], number: u32) -> &[u8]
+fn file_of(files: &[String], number: usize) -> &[u8]
     ensures { result.now ≡ file_of (map string_bytes files.now) number }
 {
-    word_at(files, number.saturating_sub(1) as usize)
+    word_at(files, number.saturating_sub(1))
 }
 
 fn put_port_fault<E: Sink>(out: &mut Writer<'_, E>, files: &[String], fault: &PortFault)
@@ -135,22 +135,16 @@ fn put_refusal<E: Sink>(
     }
 }
 
-fn put_search<E: Sink>(out: &mut Writer<'_, E>, counts: &Counts)
-    ensures { Writes E.taken E.faults out.old out.new (search_text counts.now) }
+// What was found on the way.
+fn put_counts<E: Sink>(out: &mut Writer<'_, E>, counts: &Counts)
+    ensures { Writes E.taken E.faults out.old out.new (counts_text counts.now) }
 {
-    put_count(out, b"nodes ", u128::from(counts.nodes), b"");
+    put_count(out, b"points ", u128::from(counts.points), b"");
+    put_count(out, b", nodes ", u128::from(counts.nodes), b"");
     put_count(out, b", pairs equal ", u128::from(counts.equal), b"");
     put_count(out, b", apart ", u128::from(counts.apart), b"");
     put_count(out, b", left ", u128::from(counts.open), b"");
     put_count(out, b", conflicts ", u128::from(counts.conflicts), b"");
-}
-
-fn put_counts<E: Sink>(out: &mut Writer<'_, E>, counts: &Counts)
-    ensures { Writes E.taken E.faults out.old out.new (counts_text counts.now) }
-{
-    put_search(out, counts);
-    put_count(out, b", points ", u128::from(counts.points), b"");
-    put_count(out, b", of them equal ", u128::from(counts.proved), b"");
 }
 
 // The line of a comparison.
