@@ -9,16 +9,6 @@ tests=$(dirname -- "$(readlink -f -- "$0")")
 # shellcheck source=tests/cases.sh
 . "$tests/cases.sh"
 
-# A row: its files but these four lie in the folder, and the words are the lines of the file words.
-row() {
-    row=$1
-    cp -R "$row/." . && rm words stdout stderr status || return 1
-    set --
-    while IFS= read -r word; do set -- "$@" "$word"; done <"$row/words"
-    mkdir "$room/at/.got" && "$program" "$@" </dev/null >.got/stdout 2>.got/stderr
-    status $? "$(cat "$row/status")" && same .got/stdout "$row/stdout" && same .got/stderr "$row/stderr"
-}
-
 # An example, by the library of its folder, with the text that is wanted.
 example() { # MAPPED
     run map "$(dirname "$1")"/*.genlib "${1%.mapped.blif}.blif"
