@@ -1,6 +1,6 @@
 -- What a table of bounds is made of.
-use Rattle.std.specs.Prelude.{ℕ, ◌≡◌, ◌≤◌, ◌*◌, List, length, map}
-use Rattle.lw_laws.specs.Graphs.{Graph}
+use Rattle.std.specs.Prelude.{ℕ, zero, suc, ◌≡◌, ◌≤◌, ◌+◌, ◌*◌, List, [], ◌∷◌, length, map, slice_index_or}
+use Rattle.lw_laws.specs.Graphs.{Graph, Pair}
 use Rattle.lw_laws.specs.Covers.{Pattern}
 use Rattle.lw_bounds.specs.declared.making.Rows.{Rows}
 use Rattle.lw_bounds.specs.declared.making.Sides.{Sides}
@@ -18,9 +18,23 @@ pub record AreSidesOf (room : ℕ) (gaps : List (List ℕ)) (pats : List Pattern
   pub root_count : length s.roots.items ≡ length pats
   pub roots : HaveRootShapes s.parts.keys gaps pats s.roots.items
 
--- so few parts that a number for each of them at each class is not too many
+-- 1 for a class that has pairs
+abbrev pub row_count : List Pair → ℕ
+row_count [] = 0
+row_count (_ ∷ _) = 1
+
+-- how many of the first classes have pairs
+abbrev pub rows_below : List (List Pair) → ℕ → ℕ
+rows_below pairs zero = 0
+rows_below pairs (suc n) = rows_below pairs n + row_count (slice_index_or pairs n [])
+
+-- how many classes have pairs
+abbrev pub rows_in : Graph → ℕ
+rows_in g = rows_below g.pairs (length g.pairs)
+
+-- so few parts that a number for each of them at each class with pairs is not too many
 pub record AreFew (g : Graph) (parts : List Part) : Type 0 where
-  pub size : length parts * length g.pairs ≤ most_numbers
+  pub size : length parts * rows_in g ≤ most_numbers
   pub few : length parts ≤ most_numbers
 
 -- a row of zeros for each class that has pairs, the rules of the parts, and room for one row

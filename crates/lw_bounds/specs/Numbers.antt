@@ -8,7 +8,7 @@ use Rattle.lw_bounds.specs.declared.parts.Side.{Side}
 use Rattle.lw_bounds.specs.declared.parts.Part.{Part}
 use Rattle.lw_bounds.specs.declared.numbers.Numbers.{Numbers}
 
--- how many numbers a table has at most that has a row for each class
+-- how many numbers a table has at most
 abbrev pub most_numbers : ℕ
 most_numbers = 67108864
 

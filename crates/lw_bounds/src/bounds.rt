@@ -6,7 +6,9 @@ ghost use Rattle.lw_bounds.specs.Numbers.{most_numbers};
 use crate::cuts::Cuts;
 use crate::gaps::{all_guesses, no_gaps};
 use crate::lowering::Plan;
-use crate::making::{RootLists, Rows, Sides, bare_patterns, lists_by, rows_by, sides_by};
+use crate::making::{
+    RootLists, Rows, Sides, bare_patterns, lists_by, row_count, rows_by, sides_by,
+};
 use crate::numbers::{NO_ROW, Numbers, start_of};
 use crate::renewing::{Renewal, put_row, renew_parts};
 use lw_cost::{Cost, Mark};
@@ -16,16 +18,15 @@ use lw_pool::{ClassId, PatId};
 use std::alloc::{AllocError, Global};
 use std::marker::Model;
 
-/// The most numbers that a table would have with a row for each class.
+/// The most numbers that a table has.
 const MOST_NUMBERS: u32 = 67108864;
 
-// How many parts have numbers, given how many classes there are.
-fn room_for(classes: u32) -> u32
-    requires { 0 < classes }
-    ensures room { result * classes ≤ most_numbers }
+// How many parts have numbers, given how many rows there are.
+fn room_for(rows: u32) -> u32
+    ensures room { result * rows ≤ most_numbers }
     ensures few { result ≤ most_numbers }
 {
-    MOST_NUMBERS / classes
+    MOST_NUMBERS / rows.max(1)
 }
 
 /// Numbers of the parts of patterns at the classes of a graph: what a pin costs at least, with what
@@ -98,7 +99,7 @@ impl Bounds {
     ) -> Result<Bounds, AllocError>
         ensures { IfOk result (IsFreshTable pats.now graph.now gaps.items) }
     {
-        let room = room_for(graph.classes()) as usize;
+        let room = room_for(row_count(graph)) as usize;
         let _ = pats.len();
         let bare = bare_patterns(alloc, pats)?;
         let sides = sides_by(alloc, room, &gaps, pats)?;

@@ -10,23 +10,30 @@ use lw_cost::Mark;
 use lw_graph::Graph;
 use lw_pool::PatId;
 
-/// What searches are cut by: the side that each node of each pattern is and that its root is, the
-/// numbers of the parts by rows, and the gaps of the pins of each pattern. With no sides no search
-/// is cut. The roots also stand in lists by where their numbers are. A second table tells the
-/// height that a side's pins have at least: the sides of the nodes by it, and what their numbers
-/// are read from.
+/// What searches are cut by. With no sides no search is cut.
 #[derive(Clone, Copy)]
 pub struct Cuts<'a> {
+    /// The side that each node is, by pattern.
     pub sides: &'a [Vec<Side>],
+    /// The side that the root is, by pattern.
     pub roots: &'a [Side],
+    /// The roots that are pins or constants, whose numbers stand with those of the class.
     pub leaf_roots: &'a [Root],
+    /// The roots whose numbers stand in the row of the class.
     pub row_roots: &'a [Root],
+    /// The roots whose numbers stand in the row of the complement.
     pub other_roots: &'a [Root],
+    /// How many numbers a row has: one for each part of the patterns.
     pub width: usize,
+    /// Where the row of each class starts in the numbers.
     pub starts: &'a [u32],
+    /// The numbers of the parts, row by row: what the pins of a part cost at least there.
     pub numbers: &'a [u64],
+    /// What each pin is guessed to cost less than its cell, by pattern.
     pub gaps: &'a [[u64; 16]],
+    /// The side that each node is in a second table, of the heights that pins have at least.
     pub height_sides: &'a [Vec<Side>],
+    /// What the numbers of those sides are read from.
     pub heights: Numbers<'a>,
 }
 

@@ -1,6 +1,6 @@
 // What a table of bounds is made of.
-ghost use Rattle.std.specs.Prelude.{◌<◌, ◌≤◌, ◌^◌, length, IfOk, ◌*◌};
-ghost use Rattle.lw_bounds.specs.Making.{AreFew, AreFreshRows, AreSidesOf};
+ghost use Rattle.std.specs.Prelude.{◌≡◌, ◌<◌, ◌≤◌, ◌^◌, length, IfOk, ◌*◌};
+ghost use Rattle.lw_bounds.specs.Making.{AreFew, AreFreshRows, AreSidesOf, rows_in};
 ghost use Rattle.lw_bounds.specs.Places.{AreRootsListed};
 ghost use Rattle.lw_pattern.specs.Listed.{most_patterns};
 ghost use Rattle.lw_bounds.specs.Numbers.{AreStarts, most_numbers};
@@ -92,6 +92,19 @@ pub(crate) fn rows_by(alloc: Global, graph: &Graph, parts: &[Part]) -> Result<Ro
     })
 }
 
+/// How many classes have pairs, and so a row.
+pub(crate) fn row_count(graph: &Graph) -> u32
+    ensures { result ≡ rows_in graph.now }
+{
+    let mut rows = 0;
+    for number in 0..graph.classes() {
+        if !graph.nands(ClassId(number)).is_empty() {
+            rows += 1;
+        }
+    }
+    rows
+}
+
 /// Where the rows start, and how many numbers they have.
 #[derive(Drop)]
 pub(crate) struct Starts {
@@ -101,7 +114,7 @@ pub(crate) struct Starts {
 
 /// Rows of a width, one for each class that has pairs.
 pub(crate) fn starts_of(alloc: Global, graph: &Graph, width: u32) -> Result<Starts, AllocError>
-    requires { width * length graph.now.pairs ≤ most_numbers }
+    requires { width * rows_in graph.now ≤ most_numbers }
     ensures rows { IfOk result (λ s. AreStarts width s.starts.items s.size) }
     ensures bare { IfOk result (λ s. AreBare s.starts.items graph.now) }
     ensures apart { IfOk result (λ s. AreApart width s.starts.items) }

@@ -28,6 +28,31 @@ pub(crate) struct Table {
     pub times: Times,
 }
 
+impl Bounds {
+    /// The table of bounds for these marks: its numbers fall until none falls any more.
+    pub fn settled<C: Cost>(
+        alloc: Global,
+        graph: &Graph,
+        pats: &Patterns,
+        marks: &[Option<Mark>],
+        cost: &C,
+    ) -> Result<Bounds, AllocError>
+        requires one_each { length marks.now ≡ length graph.now.pairs }
+        requires of_cells { AreOfCells (C.costs cost.now).pin_counts pats.now }
+        ensures fits { IfOk result (λ b. BoundsFit b pats.now graph.now) }
+        ensures bounds { IfOk result (λ b. AreBounds b graph.now marks.now) }
+    {
+        let _ = graph.classes();
+        let times = Times::new(alloc, graph)?;
+        let mut bounds = Bounds::new(alloc, graph, pats, cost)?;
+        bounds.forget_all();
+        let basis = Basis { graph, pats, marks };
+        let mut table = Table { bounds, times };
+        while renew_rounds(basis, &mut table) {}
+        Ok(table.bounds)
+    }
+}
+
 // Lets the numbers of a class fall, if that is due or the round is a whole one, and says whether
 // one fell.
 fn renew_class(basis: Basis, table: &mut Table, class: ClassId, whole: bool) -> bool
@@ -65,29 +90,4 @@ fn renew_rounds(basis: Basis, table: &mut Table) -> bool
 {
     while renew_round(basis, table, false) {}
     renew_round(basis, table, true)
-}
-
-impl Bounds {
-    /// The table of bounds for these marks: its numbers fall until none falls any more.
-    pub fn settled<C: Cost>(
-        alloc: Global,
-        graph: &Graph,
-        pats: &Patterns,
-        marks: &[Option<Mark>],
-        cost: &C,
-    ) -> Result<Bounds, AllocError>
-        requires one_each { length marks.now ≡ length graph.now.pairs }
-        requires of_cells { AreOfCells (C.costs cost.now).pin_counts pats.now }
-        ensures fits { IfOk result (λ b. BoundsFit b pats.now graph.now) }
-        ensures bounds { IfOk result (λ b. AreBounds b graph.now marks.now) }
-    {
-        let _ = graph.classes();
-        let times = Times::new(alloc, graph)?;
-        let mut bounds = Bounds::new(alloc, graph, pats, cost)?;
-        bounds.forget_all();
-        let basis = Basis { graph, pats, marks };
-        let mut table = Table { bounds, times };
-        while renew_rounds(basis, &mut table) {}
-        Ok(table.bounds)
-    }
 }

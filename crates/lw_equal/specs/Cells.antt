@@ -1,5 +1,5 @@
 -- Literals of cells, and of the nets of a netlist.
-use Rattle.std.specs.Prelude.{ℕ, ◌<◌, ◌≤◌, ◌≡◌, Bool, false, not, List, map, length, slice_index_or, All}
+use Rattle.std.specs.Prelude.{ℕ, ◌+◌, ◌-◌, ◌<◌, ◌≡◌, Bool, false, not, List, map, length, slice_index_or, All}
 use Rattle.std.specs.List.{list_all, list_any}
 use Rattle.lw_aig.specs.declared.gate.Gate.{Gate}
 use Rattle.lw_aig.specs.declared.literal.Literal.{Literal}
@@ -7,9 +7,10 @@ use Rattle.lw_aig.specs.Aigs.{AreNodeValues, IsBelow}
 use Rattle.lw_aig.specs.Literals.{literal_value}
 use Rattle.lw_genlib.specs.declared.op.ExprOp.{ExprOp}
 use Rattle.lw_genlib.specs.declared.op.ExprOp.TheVariants.{Const, Pin, Not, And, Or}
-use Rattle.lw_genlib.specs.Postfix.{stepped}
+use Rattle.lw_genlib.specs.Postfix.{arity, stepped}
 use Rattle.lw_joint.specs.Joint.{AreInputs, Carry}
 use Rattle.lw_pool.specs.declared.id.NetId.{NetId}
+use Rattle.lw_pool.specs.Numbers.{net_number}
 use Rattle.lw_laws.specs.Netlists.{AreNetlistValues, CellTruth, Netlist}
 
 abbrev pub itself : Bool → Bool
@@ -39,11 +40,12 @@ pub record IsMade (gates : List Gate) (pins : List Literal) (op : ExprOp) (parts
 
 -- the literals of some nets
 abbrev pub literals_at : List Literal → List NetId → List Literal
-literals_at lits nets = map (λ (net : NetId). slice_index_or lits net.0 (record { 0 = 0 })) nets
+literals_at lits nets = map (λ net. slice_index_or lits net (record { 0 = 0 })) (map net_number nets)
 
 -- A step puts its literal in the place of those that it takes.
 pub record IsStep (gates : List Gate) (pins : List Literal) (op : ExprOp) (old new : List Literal) : Type 0 where
   pub within : All (IsBelow (length gates)) new
+  pub long : length new ≡ length old - arity op + 1
   pub always : (v : ℕ → Bool) → AreNodeValues gates v → values_of v new ≡ stepped (truth_by (values_of v pins)) op (values_of v old)
 
 -- The literals have the values of the nets of a netlist, from the first net on, wherever those of its inputs have the values of the inputs.

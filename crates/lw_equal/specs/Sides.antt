@@ -25,6 +25,10 @@ abbrev pub inputs_of : Logic → List (List ℕ)
 inputs_of (Rows net) = rows.input_names net.now
 inputs_of (Cells n lib) = (cells.mapped_ports n.now).inputs
 
+abbrev pub input_count : Logic → ℕ
+input_count (Rows net) = net.now.inputs
+input_count (Cells n lib) = n.now.inputs
+
 -- the roots: the outputs, and then what the latches read
 abbrev pub roots_of : Logic → List Port
 roots_of (Rows net) = (rows.ports_of net.now).outputs

@@ -142,7 +142,8 @@ fn cell_literal(
 {
     let _ = sweep.aig().gates();
     stack.clear();
-    'steps: for op in cell.forms()[0].ops() {
+    let ops = cell.forms()[0].ops();
+    'steps: for op in ops {
         if !step(sweep, alloc, *op, pins, stack)? {
             return Ok(None);
         }

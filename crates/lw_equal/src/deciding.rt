@@ -54,8 +54,8 @@ fn pattern_inputs(
 {
     let mut found = Vec::new(alloc);
     for input in 0..inputs {
-        let input = u32::try_from(input).unwrap_or(0);
-        found.push(sweep.pattern_value(input, pattern))?;
+        let number = u32::try_from(input).unwrap_or(0);
+        found.push(sweep.pattern_value(number, pattern))?;
     }
     Ok(found)
 }
@@ -66,8 +66,8 @@ fn found_inputs(alloc: Global, sweep: &Sweep, inputs: usize) -> Result<Vec<bool>
 {
     let mut found = Vec::new(alloc);
     for input in 0..inputs {
-        let input = u32::try_from(input).unwrap_or(0);
-        found.push(sweep.found_value(input).unwrap_or(false))?;
+        let number = u32::try_from(input).unwrap_or(0);
+        found.push(sweep.found_value(number).unwrap_or(false))?;
     }
     Ok(found)
 }
@@ -199,13 +199,13 @@ fn copy_of(alloc: Global, point: &Point) -> Result<Point, AllocError>
 
 // The points of all pairs, as open.
 pub(crate) fn all_open(alloc: Global, pairs: &[Pair]) -> Result<Points, AllocError>
-    ensures { IfOk result (λ open. LeavesOpen pairs.now open) }
+    ensures { IfOk result (λ undecided. LeavesOpen pairs.now undecided) }
 {
-    let mut open = Points::new(alloc);
+    let mut undecided = Points::new(alloc);
     for pair in pairs {
-        open.push(copy_of(alloc, &pair.point)?)?;
+        undecided.push(copy_of(alloc, &pair.point)?)?;
     }
-    Ok(open)
+    Ok(undecided)
 }
 
 // Judges the nets of each point, up to the first at which the sides differ.
@@ -220,7 +220,7 @@ pub(crate) fn decide_all(
     requires pairs { All (IsPair (one_of case.now) (other_of case.now)) pairs.now }
     ensures { IfOk result (Settles (one_of case.now) (other_of case.now) pairs.now) }
 {
-    let mut open = Points::new(alloc);
+    let mut undecided = Points::new(alloc);
     'pairs: for pair in pairs {
         match judge(sweep, alloc, case, pair, effort)? {
             Judgement::Same => {}
@@ -228,11 +228,11 @@ pub(crate) fn decide_all(
                 let point = copy_of(alloc, &pair.point)?;
                 return Ok(Answer::Differ(Difference { point, inputs }));
             }
-            Judgement::Open => open.push(copy_of(alloc, &pair.point)?)?,
+            Judgement::Open => undecided.push(copy_of(alloc, &pair.point)?)?,
         }
     }
-    if open.len() == 0 {
+    if undecided.len() == 0 {
         return Ok(Answer::Equal);
     }
-    Ok(Answer::Undecided(open))
+    Ok(Answer::Undecided(undecided))
 }

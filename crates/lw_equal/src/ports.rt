@@ -18,7 +18,8 @@ fn lacking<'a>(one: &'a Known, other: &Known, kind: PortKind) -> Option<&'a Name
     ensures { option_copied result
         ≡ first_lacking (names_of kind other.now.side.now) (names_of kind one.now.side.now) }
 {
-    for name in one.names(kind) {
+    let names = one.names(kind);
+    for name in names {
         if !other.has(kind, name) {
             return Some(name);
         }
@@ -32,7 +33,8 @@ fn strange<'a>(one: &Known, side: &'a Side) -> Option<&'a Name>
     ensures { option_copied result
         ≡ first_lacking (inputs_of one.now.side.now.logic) (inputs_of side.now.logic) }
 {
-    for name in side.logic.inputs() {
+    let names = side.logic.inputs();
+    for name in names {
         if !one.inputs.contains(name) {
             return Some(name);
         }

@@ -29,11 +29,12 @@ pub(crate) struct Root<'a> {
 
 impl Logic<'_> {
     ghost use Rattle.std.specs.Prelude.{◌≡◌, ◌<◌, Some, length, slice_get};
-    ghost use Rattle.lw_equal.specs.Sides.{inputs_of, net_count, roots_of};
+    ghost use Rattle.lw_equal.specs.Sides.{input_count, inputs_of, net_count, roots_of};
 
     /// The names of the inputs, the latches' outputs behind the circuit's own.
     pub fn inputs(&self) -> &[Name]
-        ensures { result.now ≡ inputs_of self.now }
+        ensures names { result.now ≡ inputs_of self.now }
+        ensures count { length result.now ≡ input_count self.now }
     {
         match self {
             Logic::Rows(net) => &net.names()[..net.inputs() as usize],

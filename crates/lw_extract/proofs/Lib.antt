@@ -2,7 +2,8 @@ pub mod Arriving
 mod Descent
 mod Picking
 mod Sorting
-mod Assembly
+pub mod Assembly
+mod Chosen
 mod ClassNets
 mod GateLists
 mod Places

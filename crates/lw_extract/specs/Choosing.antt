@@ -8,6 +8,7 @@ use Rattle.lw_laws.specs.Choices.{Labels}
 use Rattle.lw_laws.specs.Marks.{heights_of}
 use Rattle.lw_laws.specs.Rounds.{labels_in}
 use Rattle.lw_laws.specs.Extracts.{IsChosen, AreGateClasses}
+use Rattle.lw_laws.specs.MatchLists.{Gated}
 use Rattle.lw_cost.specs.declared.mark.Mark.{Mark}
 use Rattle.lw_cost.specs.declared.mark.Match.{Match}
 use Rattle.lw_cost.specs.Values.{marks_in, plain_match}
@@ -32,6 +33,13 @@ IsChoice g cost pats marks c found = (p : Pattern) × IsChosen g cost pats (labe
 
 abbrev pub chosen_classes : List Chosen → List ℕ
 chosen_classes chosen = map (λ (x : Chosen). x.class.0) chosen
+
+-- the matches with their classes, as plain data
+abbrev pub plain_chosen : Chosen → Gated
+plain_chosen x = record { class = x.class.0; found = plain_match x.found }
+
+abbrev pub plain_matches : List Chosen → List Gated
+plain_matches chosen = map plain_chosen chosen
 
 -- the classes with a gate, in order, each with its chosen match
 pub record AreChosen (g : Graph) (cost : Cost) (pats : List Pattern) (marks : List (Option Mark)) (roots : List ClassId) (chosen : List Chosen) : Type 0 where

@@ -14,11 +14,11 @@ use lw_naming::{Place, need, needed_by};
 use lw_pool::{ClassId, NetId};
 use std::alloc::{AllocError, Global};
 
-// A class with a gate, and the match that the gate is.
+/// A class with a gate, and the match that the gate is.
 #[derive(Drop)]
-pub(crate) struct Chosen {
-    pub(crate) class: ClassId,
-    pub(crate) found: Match,
+pub struct Chosen {
+    pub class: ClassId,
+    pub found: Match,
 }
 
 // The chosen match of a class: the first of those that attain its label and its height.

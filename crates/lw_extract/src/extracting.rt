@@ -1,16 +1,12 @@
 // The netlist that labels give to some outputs.
 ghost use Rattle.std.specs.Prelude.{◌≡◌, ◌<◌, ◌^◌, ◌↔◌, ℕ, All, IfOk, IfSome, IsSome, None, Err, length, slice_index_or, MatchOption};
-ghost use Rattle.lw_pool.specs.Numbers.{numbers};
-ghost use Rattle.lw_laws.specs.Names.{net_names};
 ghost use Rattle.lw_bounds.specs.Bounds.{BoundsFit, AreBounds};
 ghost use Rattle.lw_extract.specs.declared.fault.ExtractFault.TheVariants.{NoCover};
-ghost use Rattle.lw_extract.specs.Choosing.{chosen_classes};
-ghost use Rattle.lw_extract.specs.Nets.{AreClassNets};
 ghost use Rattle.lw_extract.specs.Covers.{AreFit, AreLibraryLabels, IsCoverBy, IsFirstUncovered};
-ghost use Rattle.lw_extract.specs.Jobs.{AreJobBounds, AreJobChoices, CanCover, IsJobCover};
+ghost use Rattle.lw_extract.specs.Jobs.{AreJobBounds, CanCover, IsJobCover};
 
-use crate::choosing::{Chosen, choose};
-use crate::gates::{gates_of, outputs_of};
+use crate::assembling::assemble_over;
+use crate::choosing::choose;
 use crate::job::Job;
 use crate::nets::{add_gates, input_nets};
 use crate::{Cover, ExtractFault, Ports};
@@ -19,10 +15,8 @@ use lw_cost::{Cost, Mark};
 use lw_genlib::Library;
 use lw_graph::Graph;
 use lw_label::Labels;
-use lw_naming::net_names;
-use lw_netlist::Netlist;
 use lw_pattern::Patterns;
-use lw_pool::{ClassId, Classes, Name, Names, NetId};
+use lw_pool::ClassId;
 use std::alloc::{AllocError, Global};
 
 // The first of the roots that has no mark.
@@ -41,70 +35,17 @@ fn first_uncovered(marks: &[Option<Mark>], roots: &[ClassId]) -> Option<u32>
     None
 }
 
-// The classes of the gates.
-fn classes_of(alloc: Global, chosen: &[Chosen]) -> Result<Classes, AllocError>
-    ensures { IfOk result (λ classes. numbers classes ≡ chosen_classes chosen.now) }
-{
-    let mut classes = Vec::with_capacity(alloc, chosen.len())?;
-    for x in chosen {
-        classes.push(x.class)?;
-    }
-    Ok(Classes::from_vec(classes))
-}
-
-// The names of the inputs and of the gates of some classes.
-fn names_of(
-    alloc: Global,
-    graph: &Graph,
-    ports: &Ports,
-    gates: &[ClassId],
-) -> Result<Names, AllocError>
-    requires fit { AreFit graph.now ports.now }
-    requires gates { All (λ gate. gate.0 < length graph.now.pairs) gates.now }
-    ensures { IfOk result (λ names. names ≡ net_names ports.now.inputs ports.now.outputs
-        (numbers ports.now.roots) (numbers gates.now)) }
-{
-    let classes = graph.classes() as usize;
-    let (inputs, outputs, roots) = (&ports.inputs, &ports.outputs, ports.roots.as_slice());
-    net_names(alloc, inputs, outputs, roots, classes, gates)
-}
-
-// The netlist of these matches, over the nets of their classes and of the inputs'.
-fn assemble<C: Cost>(
-    alloc: Global,
-    job: &Job<C>,
-    nets: &[Option<NetId>],
-    chosen: &[Chosen],
-) -> Result<Cover, AllocError>
-    requires ready { CanCover C.costs job.now }
-    requires chosen { AreJobChoices C.costs job.now chosen.now }
-    requires nets { AreClassNets job.now.graph.now (chosen_classes chosen.now) nets.now }
-    ensures { IfOk result (IsJobCover C.costs job.now) }
-{
-    let _ = job.lib.len();
-    let (graph, ports) = (job.graph, job.ports);
-    let inputs = graph.inputs();
-    let gates = gates_of(alloc, job.pats, nets, inputs, chosen)?;
-    let outputs = outputs_of(alloc, nets, ports)?;
-    let classes = classes_of(alloc, chosen)?;
-    let names = names_of(alloc, graph, ports, classes.as_slice())?;
-    let model = Name::from_slice(alloc, ports.model.as_bytes())?;
-    Ok(Cover {
-        netlist: Netlist::new(model, names, inputs, gates, outputs),
-        classes,
-    })
-}
-
 // The netlist of the chosen matches.
 fn cover<C: Cost>(alloc: Global, job: &Job<C>, bounds: &Bounds) -> Result<Cover, AllocError>
     requires ready { CanCover C.costs job.now }
     requires bounds { AreJobBounds job.now bounds.now }
     ensures { IfOk result (IsJobCover C.costs job.now) }
 {
+    let _ = job.lib.len();
     let mut nets = input_nets(alloc, job.graph)?;
     let chosen = choose(alloc, job, bounds, &nets)?;
     add_gates(&mut nets, job.graph.inputs(), &chosen);
-    assemble(alloc, job, &nets, &chosen)
+    assemble_over(alloc, job.graph, job.pats, job.ports, &nets, &chosen)
 }
 
 // The netlist of the chosen matches, by a table of bounds that is at hand or is made here.

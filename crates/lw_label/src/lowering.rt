@@ -9,7 +9,7 @@ use crate::labelling::{LabelRounds, Labelling, Task};
 use crate::once::forget_moving;
 use lw_cost::{Best, Cost, Mark};
 use lw_graph::Graph;
-use lw_match::{better_bare, better_within};
+use lw_match::{better_within, better_without_nands};
 use lw_pool::ClassId;
 use std::alloc::{AllocError, Global};
 
@@ -101,7 +101,7 @@ impl Labelling<'_> {
 
     // Gives a class the cost of a match by a pattern without NANDs, where that is lower than its
     // own.
-    fn lower_bare<C: Cost>(&mut self, task: &Task<C>, class: ClassId) -> bool
+    fn lower_without_nands<C: Cost>(&mut self, task: &Task<C>, class: ClassId) -> bool
         requires class { class.0 < length task.now.graph.now.pairs }
         requires may { MayLower C.costs task.now self.old }
         ensures { LowersMarks C.costs task.now self.old self.new (λ c. c ≡ class.0) result }
@@ -109,7 +109,7 @@ impl Labelling<'_> {
         let old = self.mark(class);
         let (graph, pats, cost) = (task.graph, task.pats, task.cost);
         let (bounds, marks) = (&self.bounds, &self.marks);
-        let found = better_bare(graph, pats, bounds, marks, class, cost, 0, old);
+        let found = better_without_nands(graph, pats, bounds, marks, class, cost, 0, old);
         self.put(class, found)
     }
 
@@ -125,7 +125,7 @@ impl Labelling<'_> {
         let _ = task.graph.classes();
         let (odd, even) = (ClassId(place * 2 + 1), ClassId(place * 2));
         if lowered && is_ahead(self.mark(even), self.mark(odd)) {
-            return self.lower_bare(task, odd);
+            return self.lower_without_nands(task, odd);
         }
         false
     }

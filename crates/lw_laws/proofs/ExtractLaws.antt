@@ -1,8 +1,9 @@
 -- The netlist that the chosen matches make is one, and its nets cost their classes' labels.
-use Rattle.std.proofs.Common.{ℕ, zero, suc, ◌+◌, ◌<◌, ◌≡◌, ◌⊎◌, inl, inr, List, [], ◌∷◌, ◌++◌, length, Some, slice_get, slice_index_or, map, min, refl, ap, ap₂, sym, ◌∙◌, subst, arith}
-use Rattle.std.specs.List.{AllZip}
-use Rattle.std.proofs.lemmas.Option.{slice_get_within}
-use Rattle.std.proofs.lemmas.Bool.{cases_order}
+use Rattle.std.proofs.Common.{ℕ, zero, suc, ◌+◌, ◌<◌, ◌≤◌, ◌≡◌, ◌⊎◌, inl, inr, List, [], ◌∷◌, ◌++◌, length, Contains, Some, slice_get, slice_index_or, map, min, refl, ap, ap₂, sym, ◌∙◌, subst, arith}
+use Rattle.std.specs.List.{AllZip, AllByRecursion}
+use Rattle.std.proofs.lemmas.Option.{same_Some, slice_get_within}
+use Rattle.lw_facts.proofs.Lists.{contains_tail}
+use Rattle.std.proofs.lemmas.Bool.{cases_eq, cases_order}
 use Rattle.std.proofs.lemmas.List.{length-append}
 use Rattle.lw_laws.specs.Graphs.{Graph}
 use Rattle.lw_laws.specs.Costs.{Cost}
@@ -11,10 +12,12 @@ use Rattle.lw_laws.specs.Covers.{Timing, Pattern, start_of, latest, delays_of}
 use Rattle.lw_laws.specs.Delays.{delay_cost}
 use Rattle.lw_laws.specs.Netlists.{Gate, Netlist, AreOrdered, AreArrivals, AreNetCosts}
 use Rattle.lw_laws.specs.Mapped.{IsMapped}
-use Rattle.lw_laws.specs.Extracts.{Match, IsChosen, IsGateBefore, AreGateClasses, IsNetOf, IsExtracted, class_at, AreDistinctLeaves, HaveLeafLabels}
-use Rattle.lw_laws.proofs.Extracts.{slice_get_append, IsChosen_once, extracted_ordered, extracted_mapped, net_cost}
+use Rattle.lw_laws.specs.MatchLists.{AreGatesApart, HasNetBefore, IsMatchNetlist}
+use Rattle.lw_laws.proofs.MatchLists.{class_net_once}
+use Rattle.lw_laws.specs.Extracts.IsNeeded.{by_pin}
+use Rattle.lw_laws.specs.Extracts.{Match, IsChosen, IsGateBefore, IsLeafClass, IsNeeded, AreGateClasses, IsNetOf, IsExtracted, class_at, AreDistinctLeaves, HaveLeafLabels}
+use Rattle.lw_laws.proofs.Extracts.{slice_get_left, slice_get_right, lower_before, IsChosen_once, extracted_ordered, extracted_mapped, net_cost}
 use Rattle.lw_laws.proofs.Delays.{latest-cut}
-use Rattle.lw_laws.proofs.Lists.{slice_get_some}
 
 not_both : (heights : ℕ → ℕ) (c d : ℕ) → IsGateBefore heights c d → IsGateBefore heights d c → ⊥
 not_both heights c d (inl a) (inl b) = omega arith
@@ -24,6 +27,23 @@ not_both heights c d (inr (e, a)) (inr (f, b)) = omega arith
 
 not_itself : (heights : ℕ → ℕ) (c : ℕ) → IsGateBefore heights c c → ⊥
 not_itself heights c b = not_both heights c c b b
+
+-- a class is an input's or it is not
+leaf_or_not : (leaves : List ℕ) (c : ℕ) → ((i : ℕ) × (slice_get leaves i ≡ Some c)) ⊎ ((i : ℕ) × (slice_get leaves i ≡ Some c) → ⊥)
+leaf_or_not [] c = inr (λ (i, e). cc)
+leaf_or_not (x ∷ leaves) c = by_head (leaf_or_not leaves c) (cases_eq x c)
+  where
+    by_rest : (x ≡ c → ⊥) → ((i : ℕ) × (slice_get leaves i ≡ Some c)) ⊎ ((i : ℕ) × (slice_get leaves i ≡ Some c) → ⊥) → ((i : ℕ) × (slice_get (x ∷ leaves) i ≡ Some c)) ⊎ ((i : ℕ) × (slice_get (x ∷ leaves) i ≡ Some c) → ⊥)
+    by_rest other (inl (i, e)) = inl (suc i, e)
+    by_rest other (inr out) = inr at_none
+      where
+        at_none : (i : ℕ) × (slice_get (x ∷ leaves) i ≡ Some c) → ⊥
+        at_none (zero, e) = other (same_Some x c e)
+        at_none (suc i, e) = out (i, e)
+
+    by_head : ((i : ℕ) × (slice_get leaves i ≡ Some c)) ⊎ ((i : ℕ) × (slice_get leaves i ≡ Some c) → ⊥) → (x ≡ c) ⊎ (x ≡ c → ⊥) → ((i : ℕ) × (slice_get (x ∷ leaves) i ≡ Some c)) ⊎ ((i : ℕ) × (slice_get (x ∷ leaves) i ≡ Some c) → ⊥)
+    by_head rest (inl same) = inl (0, ap Some same)
+    by_head rest (inr other) = by_rest other rest
 
 module _ (heights : ℕ → ℕ) where
   abbrev IsSorted : List ℕ → Type 0
@@ -83,22 +103,51 @@ module _ (g : Graph) (cost : Cost) (pats : List Pattern) (labels : Labels) (heig
         by_order (inr (inl l)) = absurd (not_itself heights c (classes.sorted i j c c e f l))
         by_order (inr (inr l)) = absurd (not_itself heights c (classes.sorted j i c c f e l))
 
-    pub net_once : AreDistinctLeaves g → (c k l : ℕ) → IsNetOf g gates c k → IsNetOf g gates c l → k ≡ l
-    net_once distinct c k l e f = by_side (slice_get_append g.leaves gates k c e) (slice_get_append g.leaves gates l c f)
-      where
-        in_left : (m : ℕ) → m < length g.leaves → IsNetOf g gates c m → slice_get g.leaves m ≡ Some c
-        in_left m lt h = let (d, at) = slice_get_some g.leaves m lt in let s = left g.leaves m d at in let same : d ≡ c = cc in at ∙ ap Some same
-          where
-            left : (xs : List ℕ) (m d : ℕ) → slice_get xs m ≡ Some d → slice_get (xs ++ gates) m ≡ Some d
-            left [] m d at = cc
-            left (x ∷ xs) zero d at = at
-            left (x ∷ xs) (suc m) d at = left xs m d at
+    -- no class stands twice or is an input's
+    pub gates_apart : AreGatesApart g gates
+    gates_apart = record { once = gate_once; no_leaf = λ j c at. (classes.needed j c at).1 }
 
-        by_side : (k < length g.leaves) ⊎ ((i : ℕ) × (slice_get gates i ≡ Some c) × (k ≡ length g.leaves + i)) → (l < length g.leaves) ⊎ ((i : ℕ) × (slice_get gates i ≡ Some c) × (l ≡ length g.leaves + i)) → k ≡ l
-        by_side (inl p) (inl q) = distinct k l c (in_left k p e) (in_left l q f)
-        by_side (inl p) (inr (j, at, s)) = absurd ((classes.needed j c at).1 (k, in_left k p e))
-        by_side (inr (i, at, s)) (inl q) = absurd ((classes.needed i c at).1 (l, in_left l q f))
-        by_side (inr (i, at, s)) (inr (j, bt, t)) = let same = gate_once i j c at bt in omega arith
+    pub net_once : AreDistinctLeaves g → (c k l : ℕ) → IsNetOf g gates c k → IsNetOf g gates c l → k ≡ l
+    net_once = class_net_once g gates gates_apart
+
+    -- each needed class has a net
+    pub needed_net : (c : ℕ) → IsNeeded g cost pats labels heights roots c → (net : ℕ) × IsNetOf g gates c net
+    needed_net c need = by_leaf (leaf_or_not g.leaves c)
+      where
+        by_leaf : IsLeafClass g c ⊎ (IsLeafClass g c → ⊥) → (net : ℕ) × IsNetOf g gates c net
+        by_leaf (inl (i, here)) = (i, slice_get_left g.leaves gates i c here)
+        by_leaf (inr out) = let (j, here) = classes.all c need out in (length g.leaves + j, slice_get_right g.leaves gates j c here)
+
+    -- each pin of a chosen match has a net before
+    pub chosen_before : (j c : ℕ) (m : Match) (p : Pattern) → slice_get gates j ≡ Some c → IsChosen g cost pats labels heights c m p → AllByRecursion (HasNetBefore g gates j) m.pins
+    chosen_before j c m p at chosen = of_pins m.pins (λ q held. held) chosen.supports.lower
+      where
+        need : IsNeeded g cost pats labels heights roots c × (IsLeafClass g c → ⊥)
+        need = classes.needed j c at
+
+        of_pin : (q : ℕ) → Contains m.pins q → suc (heights q) ≤ heights c → HasNetBefore g gates j q
+        of_pin q held low = by_leaf (leaf_or_not g.leaves q)
+          where
+            by_leaf : IsLeafClass g q ⊎ (IsLeafClass g q → ⊥) → HasNetBefore g gates j q
+            by_leaf (inl (i, here)) = let lt = slice_get_within g.leaves i q here in (i, omega arith, slice_get_left g.leaves gates i q here)
+            by_leaf (inr out) =
+                let (i, here) = classes.all q (by_pin need.0 need.1 chosen held) out in
+                let lt = lower_before heights gates classes.sorted i j q c here at (omega arith) in
+                (length g.leaves + i, omega arith, slice_get_right g.leaves gates i q here)
+
+        of_pins : (qs : List ℕ) → ((q : ℕ) → Contains qs q → Contains m.pins q) → AllByRecursion (λ q. suc (heights q) ≤ heights c) qs → AllByRecursion (HasNetBefore g gates j) qs
+        of_pins [] sub low = tt
+        of_pins (q ∷ qs) sub (lt, low) = (of_pin q (sub q (0, omega arith, refl)) lt, of_pins qs (λ r held. sub r (contains_tail q qs r held)) low)
+
+    -- the netlist of the chosen matches is one of matches
+    pub extracted_is_matches : (n : Netlist) → IsExtracted g cost pats labels heights gates n → IsMatchNetlist g cost.pin_counts pats gates n
+    extracted_is_matches n is = record {
+      inputs = is.inputs;
+      one_each = is.one_each;
+      apart = gates_apart;
+      ordered = (ordered_and_mapped n is).0;
+      mapped = (ordered_and_mapped n is).1;
+    }
 
     pins_once : AreDistinctLeaves g → (qs ks ls : List ℕ) → AllZip (λ q net. IsNetOf g gates q net) qs ks → AllZip (λ q net. IsNetOf g gates q net) qs ls → ks ≡ ls
     pins_once distinct [] [] [] a b = refl

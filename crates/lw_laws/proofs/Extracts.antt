@@ -9,7 +9,8 @@ use Rattle.lw_laws.specs.Costs.{Cost}
 use Rattle.lw_laws.specs.Choices.{Labels, HaveLabels}
 use Rattle.lw_laws.specs.Covers.{Pattern}
 use Rattle.lw_laws.specs.Netlists.{Gate, Netlist, IsGate, AreOrdered, AreNetCosts}
-use Rattle.lw_laws.specs.Extracts.{Match, IsListAtMost, IsMatchAtMost, IsChosen, IsGateBefore, net_classes, IsNetOf, IsExtracted, HaveLeafLabels}
+use Rattle.lw_laws.specs.Extracts.{Match, IsListAtMost, IsMatchAtMost, IsMatchBy, IsChosen, IsGateBefore, net_classes, class_at, IsNetOf, IsExtracted, HaveLeafLabels}
+use Rattle.lw_laws.specs.Matches.{IsMatchAt}
 use Rattle.lw_laws.specs.Mapped.{IsMapped}
 use Rattle.lw_laws.proofs.Lists.{slice_get_some}
 
@@ -54,39 +55,68 @@ IsMatchAtMost_both m k (inl h) (inr (e, l)) = absurd (omega arith)
 IsMatchAtMost_both m k (inr (e, h)) (inl l) = absurd (omega arith)
 IsMatchAtMost_both m k (inr (e, h)) (inr (f, l)) = (e, IsListAtMost_both m.pins k.pins h l)
 
+-- a class that is lower than that of gate j has its net before that of gate j
+pub lower_before : (heights : ℕ → ℕ) (gates : List ℕ) → ((i j c d : ℕ) → slice_get gates i ≡ Some c → slice_get gates j ≡ Some d → i < j → IsGateBefore heights c d) → (i j c d : ℕ) → slice_get gates i ≡ Some c → slice_get gates j ≡ Some d → heights c < heights d → i < j
+lower_before heights gates sorted i j c d e f lt = by_order (dec_lt i j)
+  where
+    not_after : IsGateBefore heights d c → ⊥
+    not_after (inl h) = omega arith
+    not_after (inr (s, h)) = omega arith
+
+    by_order : Dec (i < j) → i < j
+    by_order (yes l) = l
+    by_order (no out) = by_place (dec_lt j i)
+      where
+        by_place : Dec (j < i) → i < j
+        by_place (yes l) = absurd (not_after (sorted j i d c f e l))
+        by_place (no out') =
+            let s : i ≡ j = omega arith in
+            let t : slice_get gates j ≡ Some c = ap (slice_get gates) (sym s) ∙ e in
+            let u : c ≡ d = cc in
+            let v : heights c ≡ heights d = ap heights u in
+            absurd (omega arith)
+
+-- Gates that are matches over the classes of nets.
+module _ (g : Graph) (gates : List ℕ) (n : Netlist) (inputs : n.inputs ≡ length g.leaves) where
+  pins_of_nets : (qs nets : List ℕ) → AllZip (λ q net. IsNetOf g gates q net) qs nets → map (class_at g gates) nets ≡ qs
+  pins_of_nets [] [] z = refl
+  pins_of_nets [] (net ∷ nets) z = absurd z
+  pins_of_nets (q ∷ qs) [] z = absurd z
+  pins_of_nets (q ∷ qs) (net ∷ nets) (e, z) =
+      ap₂ (λ p ps. p ∷ ps) (index_at (net_classes g gates) net q e) (pins_of_nets qs nets z)
+
+  -- the class of an input's net
+  pub input_class : (i : ℕ) → i < n.inputs → slice_get g.leaves i ≡ Some (class_at g gates i)
+  input_class i in' =
+      let (c, e) = slice_get_some g.leaves i (subst (λ m. i < m) inputs in') in
+      e ∙ ap Some (sym (index_at (net_classes g gates) i c (slice_get_left g.leaves gates i c e)))
+
+  -- the gate of a match is one at the class of its net
+  pub gate_match : (pin_counts : List ℕ) (pats : List Pattern) (j c : ℕ) (m : Match) (p : Pattern) (gt : Gate) → slice_get gates j ≡ Some c → IsMatchBy g pin_counts pats c m p → gt.cell ≡ p.cell → AllZip (λ q net. IsNetOf g gates q net) m.pins gt.pins → IsMatchAt g pin_counts pats (class_at g gates (n.inputs + j)) gt.cell (map (class_at g gates) gt.pins)
+  gate_match pin_counts pats j c m p gt e t cell nets =
+      let s : slice_get (net_classes g gates) (n.inputs + j) ≡ Some c = subst (λ k. slice_get (net_classes g gates) (k + j) ≡ Some c) (sym inputs) (slice_get_right g.leaves gates j c e) in
+      let u = index_at (net_classes g gates) (n.inputs + j) c s in
+      let v = pins_of_nets m.pins gt.pins nets in
+      record {
+        pattern = p;
+        listed = listed_at pats m.pattern p t.listed;
+        cell_is = sym cell;
+        pins = rw (cell, v) t.pins;
+        stands = rw (u, v) t.stands;
+      }
+
 module _ (g : Graph) (cost : Cost) (pats : List Pattern) (labels : Labels) (heights : ℕ → ℕ) where
   -- the chosen match is one
   pub IsChosen_once : (c : ℕ) (m k : Match) (p q : Pattern) → IsChosen g cost pats labels heights c m p → IsChosen g cost pats labels heights c k q → (m.pattern ≡ k.pattern) × (m.pins ≡ k.pins)
   IsChosen_once c m k p q a b = IsMatchAtMost_both m k (a.first k q b.supports) (b.first m p a.supports)
 
   module _ (gates : List ℕ) (n : Netlist) (sorted : (i j c d : ℕ) → slice_get gates i ≡ Some c → slice_get gates j ≡ Some d → i < j → IsGateBefore heights c d) (is : IsExtracted g cost pats labels heights gates n) where
-    -- a class that is lower than that of gate j has its net before that of gate j
-    lower_before : (i j c d : ℕ) → slice_get gates i ≡ Some c → slice_get gates j ≡ Some d → heights c < heights d → i < j
-    lower_before i j c d e f lt = by_order (dec_lt i j)
-      where
-        not_after : IsGateBefore heights d c → ⊥
-        not_after (inl h) = omega arith
-        not_after (inr (s, h)) = omega arith
-
-        by_order : Dec (i < j) → i < j
-        by_order (yes l) = l
-        by_order (no out) = by_place (dec_lt j i)
-          where
-            by_place : Dec (j < i) → i < j
-            by_place (yes l) = absurd (not_after (sorted j i d c f e l))
-            by_place (no out') =
-                let s : i ≡ j = omega arith in
-                let t : slice_get gates j ≡ Some c = ap (slice_get gates) (sym s) ∙ e in
-                let u : c ≡ d = cc in
-                let v : heights c ≡ heights d = ap heights u in
-                absurd (omega arith)
-
     net_before : (j d q net : ℕ) → slice_get gates j ≡ Some d → heights q < heights d → IsNetOf g gates q net → net < n.inputs + j
     net_before j d q net e lt is_net = by_case (slice_get_append g.leaves gates net q is_net)
       where
         by_case : (net < length g.leaves) ⊎ ((i : ℕ) × (slice_get gates i ≡ Some q) × (net ≡ length g.leaves + i)) → net < n.inputs + j
         by_case (inl in') = let s = is.inputs in omega arith
-        by_case (inr (i, f, s)) = let l = lower_before i j q d f e lt in let t = is.inputs in omega arith
+        by_case (inr (i, f, s)) = let l = lower_before heights gates sorted i j q d f e lt in let t = is.inputs in omega arith
 
     nets_before : (j d : ℕ) (qs nets : List ℕ) → slice_get gates j ≡ Some d → AllByRecursion (λ q. suc (heights q) ≤ heights d) qs → AllZip (λ q net. IsNetOf g gates q net) qs nets → AllByRecursion (λ p. p < n.inputs + j) nets
     nets_before j d [] [] e a z = tt
@@ -101,35 +131,13 @@ module _ (g : Graph) (cost : Cost) (pats : List Pattern) (labels : Labels) (heig
         let (c, m, p, e, chosen, cell, nets) = is.chosen j gt at in
         nets_before j c m.pins gt.pins e chosen.supports.lower nets
 
-    abbrev pub class_of_net : ℕ → ℕ
-    class_of_net net = slice_index_or (net_classes g gates) net 0
-
-    pins_of_nets : (qs nets : List ℕ) → AllZip (λ q net. IsNetOf g gates q net) qs nets → map class_of_net nets ≡ qs
-    pins_of_nets [] [] z = refl
-    pins_of_nets [] (net ∷ nets) z = absurd z
-    pins_of_nets (q ∷ qs) [] z = absurd z
-    pins_of_nets (q ∷ qs) (net ∷ nets) (e, z) =
-        ap₂ (λ p ps. p ∷ ps) (index_at (net_classes g gates) net q e) (pins_of_nets qs nets z)
-
     -- each gate is a match of its class with the classes of its pins
-    pub extracted_mapped : IsMapped g cost.pin_counts pats n class_of_net
+    pub extracted_mapped : IsMapped g cost.pin_counts pats n (class_at g gates)
     extracted_mapped = record {
-      inputs = λ i in'.
-          let (c, e) = slice_get_some g.leaves i (subst (λ m. i < m) is.inputs in') in
-          e ∙ ap Some (sym (index_at (net_classes g gates) i c (slice_get_left g.leaves gates i c e)));
+      inputs = input_class g gates n is.inputs;
       gates = λ j gt at.
           let (c, m, p, e, chosen, cell, nets) = is.chosen j gt at in
-          let t = chosen.supports.matches in
-          let s : slice_get (net_classes g gates) (n.inputs + j) ≡ Some c = subst (λ k. slice_get (net_classes g gates) (k + j) ≡ Some c) (sym is.inputs) (slice_get_right g.leaves gates j c e) in
-          let u = index_at (net_classes g gates) (n.inputs + j) c s in
-          let v = pins_of_nets m.pins gt.pins nets in
-          record {
-            pattern = p;
-            listed = listed_at pats m.pattern p t.listed;
-            cell_is = sym cell;
-            pins = rw (cell, v) t.pins;
-            stands = rw (u, v) t.stands;
-          };
+          gate_match g gates n is.inputs cost.pin_counts pats j c m p gt e chosen.supports.matches cell nets;
     }
 
 -- the cost of each net is the label of its class

@@ -36,6 +36,8 @@ pub mod MappingTests
 pub mod MappedDepths
 pub mod MappedNames
 pub mod MarkLaws
+pub mod MatchLists
+pub mod MatchNetlists
 pub mod Masks
 pub mod NameExamples
 pub mod NameLaws

@@ -8,8 +8,6 @@ use Rattle.lw_laws.specs.Networks.{Network}
 use Rattle.lw_laws.specs.Forms.Form.{var_form}
 use Rattle.lw_laws.specs.Signals.{Signal, signal_of_input, input_signals, signals_of, sop_at}
 use Rattle.lw_laws.specs.Covers.{Timing, Pattern}
-use Rattle.lw_laws.specs.Rounds.{labels_in}
-use Rattle.lw_laws.specs.Delays.{delay_cost}
 use Rattle.lw_laws.specs.Netlists.{Netlist}
 use Rattle.lw_laws.specs.Extracts.{IsNetOf}
 use Rattle.lw_laws.specs.Forms.{Form}
@@ -18,13 +16,14 @@ use Rattle.lw_laws.specs.SignalValues.{IsSoundListing}
 use Rattle.lw_laws.specs.Classes.{class_in}
 use Rattle.lw_laws.specs.Names.{AreDifferent, AreNameable, free_names, gate_names, output_name}
 use Rattle.lw_laws.specs.Headline.{Port, Ports}
-use Rattle.lw_laws.specs.MappedNetlists.{form_classes, IsNetlistOfForms, IsNetlistOf, ArePortNames, AreNetNames}
+use Rattle.lw_laws.specs.MappedNetlists.{form_classes, IsMatchNetlistOfForms, IsMatchNetlistOf, IsNetlistOf, ArePortNames, AreNetNames}
 use Rattle.lw_laws.proofs.InputClasses.{forms_leaves_differ}
-use Rattle.lw_laws.proofs.ExtractLaws.{gate_once, net_once}
+use Rattle.lw_laws.proofs.MatchLists.{class_net_once}
+use Rattle.lw_laws.proofs.MatchNetlists.{mapping_is_matches}
 use Rattle.lw_laws.proofs.NameLaws.{names_differ, names_owned}
 use Rattle.lw_laws.proofs.Numbers.{slice_get_map, slice_get_map_back}
 use Rattle.lw_laws.proofs.Listed.{come_first}
-use Rattle.lw_laws.proofs.Sound.{network_is_sound, netlist_of_sops}
+use Rattle.lw_laws.proofs.Sound.{network_is_sound}
 
 length_both : {X : Type 0} (xs ys : List X) → length (xs ++ ys) ≡ length xs + length ys
 length_both [] ys = omega arith
@@ -68,7 +67,7 @@ paired_at R (p ∷ ps) [] a k q e = absurd a
 paired_at R (p ∷ ps) (r ∷ qs) ((s, t), a) zero q e = let same : r ≡ q = cc in (p, refl, s ∙ ap (λ z. z.name) same, subst (R p) same t)
 paired_at R (p ∷ ps) (r ∷ qs) (b, a) (suc k) q e = paired_at R ps qs a k q e
 
-module _ (mode : Mode) (inputs : ℕ) (o : Listing) (form : ℕ → Form) (sound : IsSoundListing inputs o) (net : Network) (same_inputs : net.inputs ≡ inputs) (input_forms : (i : ℕ) → i < inputs → form i ≡ var_form i) (ports : Ports) (pats : List Pattern) (timing : Timing) (cap : ℕ) (n : Netlist) (names : List (List ℕ)) (mapped : Ports) (is : IsNetlistOfForms mode inputs o form ports pats timing cap n names mapped) (named : ArePortNames net ports) (few : 1 + (length n.gates + (length ports.inputs + length ports.outputs)) < 2 ^ 64) where
+module _ (mode : Mode) (inputs : ℕ) (o : Listing) (form : ℕ → Form) (sound : IsSoundListing inputs o) (net : Network) (same_inputs : net.inputs ≡ inputs) (input_forms : (i : ℕ) → i < inputs → form i ≡ var_form i) (ports : Ports) (pats : List Pattern) (pin_counts : List ℕ) (n : Netlist) (names : List (List ℕ)) (mapped : Ports) (is : IsMatchNetlistOfForms mode inputs o form ports pats pin_counts n names mapped) (named : ArePortNames net ports) (few : 1 + (length n.gates + (length ports.inputs + length ports.outputs)) < 2 ^ 64) where
   abbrev roots : List ℕ
   roots = form_classes o form is.graph ports.outputs
 
@@ -90,15 +89,15 @@ module _ (mode : Mode) (inputs : ℕ) (o : Listing) (form : ℕ → Form) (sound
   nameable : AreNameable ports.inputs output_names is.graph.leaves roots is.gates
   nameable = record {
     few =
-        let a = is.extracted.one_each in
+        let a = is.matches.one_each in
         let b = length_both ports.inputs output_names in
         let c = length-map ports.outputs (λ p. p.name) in
         omega arith;
     inputs_differ = named.inputs_differ;
     outputs_differ = named.outputs_differ;
     tied = tied;
-    once = gate_once is.graph (delay_cost timing cap) pats (labels_in is.labels) is.heights roots is.gates is.gate_classes;
-    no_leaf = λ i j c e f. (is.gate_classes.needed i c e).1 (j, f);
+    once = is.matches.apart.once;
+    no_leaf = λ i j c e f. is.matches.apart.no_leaf i c e (j, f);
   }
 
   owned : (j k : ℕ) (p : Port) → slice_get mapped.outputs k ≡ Some p → slice_get names j ≡ Some p.name → j ≡ p.net
@@ -109,14 +108,14 @@ module _ (mode : Mode) (inputs : ℕ) (o : Listing) (form : ℕ → Form) (sound
       let one_each : length is.graph.leaves ≡ length ports.inputs = omega arith in
       let here = names_owned ports.inputs output_names is.graph.leaves roots is.gates nameable one_each j k p.name (ap (λ ns. slice_get ns j) (sym is.names_are) ∙ e) (slice_get_map (λ p. p.name) ports.outputs k q bt ∙ ap Some same) in
       let root = slice_get_map (λ p. class_in o is.graph (form p.net)) ports.outputs k q bt in
-      net_once is.graph (delay_cost timing cap) pats (labels_in is.labels) is.heights roots is.gates is.gate_classes (forms_leaves_differ mode inputs o is.graph sound is.is_graph) (class_in o is.graph (form q.net)) j p.net (here ∙ root) net_of
+      class_net_once is.graph is.gates is.matches.apart (forms_leaves_differ mode inputs o is.graph sound is.is_graph) (class_in o is.graph (form q.net)) j p.net (here ∙ root) net_of
 
   -- the names of the nets and of the outputs tell them apart
   pub form_names_are : AreNetNames n names mapped
   form_names_are = record {
     one_each =
-        let a = is.extracted.one_each in
-        let b = is.extracted.inputs in
+        let a = is.matches.one_each in
+        let b = is.matches.inputs in
         let c = is.is_graph.written.leaf_count in
         let d = named.one_each in
         let e = length_both ports.inputs (gate_names output_names roots (free_names (ports.inputs ++ output_names) (length is.gates)) is.gates) in
@@ -127,7 +126,11 @@ module _ (mode : Mode) (inputs : ℕ) (o : Listing) (form : ℕ → Form) (sound
     owned = owned;
   }
 
--- the same for the netlist that a network is mapped to
+-- the same for the netlist of matches of a network, and for the one that it is mapped to
+pub match_names_are : (mode : Mode) (width : ℕ) (net : Network) (ports : Ports) (pats : List Pattern) (pin_counts : List ℕ) (n : Netlist) (names : List (List ℕ)) (mapped : Ports) → 2 ≤ width → IsMatchNetlistOf mode width net ports pats pin_counts n names mapped → ArePortNames net ports → 1 + (length n.gates + (length ports.inputs + length ports.outputs)) < 2 ^ 64 → AreNetNames n names mapped
+match_names_are mode width net ports pats pin_counts n names mapped wide is =
+    form_names_are mode net.inputs (listing_of width net) (sop_at (signals_of width net)) (network_is_sound width wide net) net refl (input_sop width net) ports pats pin_counts n names mapped is
+
 pub net_names_are : (mode : Mode) (width : ℕ) (net : Network) (ports : Ports) (pats : List Pattern) (timing : Timing) (cap : ℕ) (n : Netlist) (names : List (List ℕ)) (mapped : Ports) → 2 ≤ width → IsNetlistOf mode width net ports pats timing cap n names mapped → ArePortNames net ports → 1 + (length n.gates + (length ports.inputs + length ports.outputs)) < 2 ^ 64 → AreNetNames n names mapped
 net_names_are mode width net ports pats timing cap n names mapped wide is =
-    form_names_are mode net.inputs (listing_of width net) (sop_at (signals_of width net)) (network_is_sound width wide net) net refl (input_sop width net) ports pats timing cap n names mapped (netlist_of_sops mode width net ports pats timing cap n names mapped is)
+    match_names_are mode width net ports pats (map length timing.delays) n names mapped wide (mapping_is_matches mode width net ports pats timing cap n names mapped is).0

@@ -109,8 +109,7 @@ module _ (mode : Mode) (inputs : ℕ) (o : Listing) (form : ℕ → Form) (sound
       let c = length-append g.leaves is.gates in
       let d = slice_get_within (net_classes g is.gates) k (class_in o g f) at in
       record {
-        of_netlist = omega arith;
-        at_class = here;
+        at_form = record { of_netlist = omega arith; at_class = here };
         at_label = ap (labels_in is.labels) here ∙ extracted_arrivals g pats timing cap (labels_in is.labels) is.heights (form_classes o form g ports.outputs) is.gates n ds is.gate_classes is.extracted are form_leaf_labels low (class_in o g f) k at;
       }
 

@@ -77,14 +77,6 @@ unlabelled_has_no_cover mode forms g pats timing cap labels are encodes few patt
     let (l, e, le) = bounds_covers g pats (delay_cost timing cap) labels few once patterns (delay_cost_is timing cap) potential k (class_of g f) is_cover u in
     cc
 
--- the value of a net at a form's class is the form's
-pub certified_value : (mode : Mode) (forms : NumberedForms) (g : Graph) (pats : List Pattern) (timing : Timing) (cap : ℕ) (labels : List (Option ℕ)) (n : Netlist) (class arrivals : ℕ → ℕ) → IsCertified mode forms g pats timing cap labels n class arrivals → (truth : CellTruth) → ((p : Pattern) → Contains pats p → HasCellTruth (map length timing.delays) truth p) → (x values value : ℕ → Bool) → AreNetValues truth n x values → IsValuation (family_of mode forms) x value → (net f : ℕ) → NumberOccurs forms f → IsOutput g labels n class arrivals net f → values net ≡ value f
-certified_value mode forms g pats timing cap labels n class arrivals is truth true_patterns x values value are valuation net f o out =
-    let k = net_covered g (map length timing.delays) pats n class is.ordered is.mapped net out.in_range in
-    let v = StandsFor-value n (map length timing.delays) pats is.patterns truth true_patterns x values are k.by net k.is_cover k.stands in
-    let u = subst (λ c. Unfolds g (tree_of k.by) c) out.at_class k.unfolds in
-    v ∙ has_truth mode forms g x value is.forms_are is.encodes valuation f (tree_of k.by) o u
-
 pub same_labels : (g : Graph) (pats : List Pattern) (cost : Cost) (rounds settled : List (Option ℕ)) → length g.leaves < 2 ^ 32 → IsCost cost → IsPotentialOf g pats cost rounds → IsAttained (choices_of g cost.pin_counts pats) cost (labels_in rounds) → IsPotentialOf g pats cost settled → IsAttained (choices_of g cost.pin_counts pats) cost (labels_in settled) → (c : ℕ) → labels_in rounds c ≡ labels_in settled c
 same_labels g pats cost rounds settled few is_cost p a q b c =
     let M = choices_of g cost.pin_counts pats in

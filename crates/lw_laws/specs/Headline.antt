@@ -49,9 +49,9 @@ pub record Ports : Type 0 where
   pub outputs : List Port
 
 -- The mapped netlist is in order, its gates are cells of the library with a net for each pin, it has the network's ports,
--- each output has the network's value for all values of the inputs, each output's net stands for a cover of a tree of the
--- output's form, whose time is its arrival, and each output's arrival is the least.
-pub record MapsForms (mode : Mode) (width : ℕ) (signals : List Signal) (form : ℕ → Form) (net : Network) (ports : Ports) (pats : List Pattern) (timing : Timing) (truth : CellTruth) (n : Netlist) (mapped : Ports) : Type 0 where
+-- each output has the network's value for all values of the inputs, and each output's net stands for a cover of a tree of
+-- the output's form, whose time is its arrival.
+pub record CoversForms (mode : Mode) (width : ℕ) (signals : List Signal) (form : ℕ → Form) (net : Network) (ports : Ports) (pats : List Pattern) (timing : Timing) (truth : CellTruth) (n : Netlist) (mapped : Ports) : Type 0 where
   pub ordered : AreOrdered n
   pub cells : HaveCellPins (map length timing.delays) n
   pub inputs : n.inputs ≡ net.inputs
@@ -59,6 +59,10 @@ pub record MapsForms (mode : Mode) (width : ℕ) (signals : List Signal) (form :
   pub output_names : AllZip (λ p q. p.name ≡ q.name) ports.outputs mapped.outputs
   pub values : (x : ℕ → Bool) (vs ws : List Bool) → AreValues net x vs → AreNetlistValues truth n x ws → AllZip (λ p q. slice_get vs p.net ≡ slice_get ws q.net) ports.outputs mapped.outputs
   pub covers : (ds : List ℕ) → AreArrivals timing n ds → AllZip (λ p q. StandsForCoverOf mode width signals pats timing n (form p.net) q.net (slice_index_or ds q.net 0)) ports.outputs mapped.outputs
+
+-- It does so, and each output's arrival is the least.
+pub record MapsForms (mode : Mode) (width : ℕ) (signals : List Signal) (form : ℕ → Form) (net : Network) (ports : Ports) (pats : List Pattern) (timing : Timing) (truth : CellTruth) (n : Netlist) (mapped : Ports) : Type 0 where
+  pub covering : CoversForms mode width signals form net ports pats timing truth n mapped
   pub arrivals : (ds : List ℕ) → AreArrivals timing n ds → AllZip (λ p q. HasLeastTime mode width signals pats timing (form p.net) (slice_index_or ds q.net 0)) ports.outputs mapped.outputs
 
 -- The netlist is such a one for the sums of products of the network's nets, by the trees that the laws derive for them.

@@ -31,6 +31,8 @@ pub mod Flip
 pub mod HeightRounds
 pub mod Laws
 pub mod Mapped
+pub mod MatchLists
+pub mod InTime
 pub mod Marks
 pub mod NumberedForms
 pub mod NumberedValues

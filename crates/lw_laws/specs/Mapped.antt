@@ -52,10 +52,27 @@ pub record IsMappedOverForms (mode : Mode) (inputs : ℕ) (o : Listing) (g : Gra
   pub ordered : AreOrdered n
   pub mapped : IsMapped g (map length timing.delays) pats n class
 
--- Net k of the netlist is at the class of the form, and its arrival is the class's label.
-pub record IsRootedAtForm (o : Listing) (g : Graph) (labels : List (Option ℕ)) (n : Netlist) (class : ℕ → ℕ) (arrivals : List ℕ) (f : Form) (k : ℕ) : Type 0 where
+-- The graph encodes the listed forms, and the netlist's gates are matches over it.
+pub record IsCoveredOverForms (mode : Mode) (inputs : ℕ) (o : Listing) (g : Graph) (pats : List Pattern) (timing : Timing) (n : Netlist) (class : ℕ → ℕ) : Type 0 where
+  pub encodes : Encodes (family_of mode (numbered inputs o)) g
+  pub patterns : ArePatterns (map length timing.delays) pats
+  pub ordered : AreOrdered n
+  pub mapped : IsMapped g (map length timing.delays) pats n class
+
+-- Net k of the netlist is at the class of the form.
+pub record IsAtForm (o : Listing) (g : Graph) (n : Netlist) (class : ℕ → ℕ) (f : Form) (k : ℕ) : Type 0 where
   pub of_netlist : k < n.inputs + length n.gates
   pub at_class : class k ≡ class_in o g f
+
+-- The netlist has these ports over so many inputs, and each output's net is at the form of the network's net.
+pub record AreAtForms (inputs : ℕ) (o : Listing) (form : ℕ → Form) (g : Graph) (n : Netlist) (class : ℕ → ℕ) (ports mapped : Ports) : Type 0 where
+  pub inputs_are : n.inputs ≡ inputs
+  pub input_names : mapped.inputs ≡ ports.inputs
+  pub outputs : AllZip (λ p q. (p.name ≡ q.name) × IsAtForm o g n class (form p.net) q.net) ports.outputs mapped.outputs
+
+-- Net k of the netlist is at the class of the form, and its arrival is the class's label.
+pub record IsRootedAtForm (o : Listing) (g : Graph) (labels : List (Option ℕ)) (n : Netlist) (class : ℕ → ℕ) (arrivals : List ℕ) (f : Form) (k : ℕ) : Type 0 where
+  pub at_form : IsAtForm o g n class f k
   pub at_label : labels_in labels (class k) ≡ Some (slice_index_or arrivals k 0)
 
 -- The netlist has these ports over so many inputs, and each output's net is rooted at the form of the network's net.
@@ -73,6 +90,16 @@ pub record IsLabelledOver (mode : Mode) (width : ℕ) (net : Network) (g : Graph
 pub record IsMappedOver (mode : Mode) (width : ℕ) (net : Network) (g : Graph) (pats : List Pattern) (timing : Timing) (cap : ℕ) (labels : List (Option ℕ)) (n : Netlist) (class : ℕ → ℕ) : Type 0 where
   pub wide : 2 ≤ width
   pub over : IsMappedOverForms mode net.inputs (listing_of width net) g pats timing cap labels n class
+
+-- The graph encodes the network's forms, and the netlist's gates are matches over it.
+pub record IsCoveredOver (mode : Mode) (width : ℕ) (net : Network) (g : Graph) (pats : List Pattern) (timing : Timing) (n : Netlist) (class : ℕ → ℕ) : Type 0 where
+  pub wide : 2 ≤ width
+  pub over : IsCoveredOverForms mode net.inputs (listing_of width net) g pats timing n class
+
+-- Net k of the netlist is at the class of net s of the network.
+pub record IsAtNet (width : ℕ) (net : Network) (g : Graph) (n : Netlist) (class : ℕ → ℕ) (s k : ℕ) : Type 0 where
+  pub of_network : s < net.inputs + length net.nodes
+  pub at_form : IsAtForm (listing_of width net) g n class (sop_at (signals_of width net) s) k
 
 -- Net k of the netlist is at the class of net s of the network, and its arrival is the class's label.
 pub record IsRootedAt (width : ℕ) (net : Network) (g : Graph) (labels : List (Option ℕ)) (n : Netlist) (class : ℕ → ℕ) (arrivals : List ℕ) (s k : ℕ) : Type 0 where

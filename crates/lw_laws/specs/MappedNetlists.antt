@@ -15,6 +15,8 @@ use Rattle.lw_laws.specs.Delays.{delay_cost}
 use Rattle.lw_laws.specs.Netlists.{Netlist}
 use Rattle.lw_laws.specs.Extracts.{AreGateClasses, IsNetOf, IsExtracted}
 use Rattle.lw_laws.specs.Mapped.{root_class}
+use Rattle.lw_laws.specs.MatchLists.{IsMatchNetlist}
+use Rattle.lw_laws.specs.Signals.{sop_at, signals_of}
 use Rattle.lw_laws.specs.Names.{AreDifferent, net_names}
 use Rattle.lw_laws.specs.Headline.{Port, Ports}
 pub use Rattle.lw_laws.specs.Headline.{AreNetNames}
@@ -55,7 +57,23 @@ pub record IsNetlistOfForms (mode : Mode) (inputs : ℕ) (o : Listing) (form : �
   pub outputs : AllZip (λ p q. (p.name ≡ q.name) × IsNetOf graph gates (class_in o graph (form p.net)) q.net) ports.outputs mapped.outputs
   pub names_are : names ≡ net_names ports.inputs (map (λ p. p.name) ports.outputs) (form_classes o form graph ports.outputs) gates
 
--- The same for the sums of products of a network's nets: the graph of the network's forms, the least time and the height of each class, the
+-- A netlist of matches: over the graph of the listed forms, a gate for each of some classes, which is a match at the class. Each output is at
+-- the net of its form's class, and the nets have their names as in the netlist of the chosen matches.
+pub record IsMatchNetlistOfForms (mode : Mode) (inputs : ℕ) (o : Listing) (form : ℕ → Form) (ports : Ports) (pats : List Pattern) (pin_counts : List ℕ) (n : Netlist) (names : List (List ℕ)) (mapped : Ports) : Type 0 where
+  pub graph : Graph
+  pub is_graph : IsGraphOf mode inputs o graph
+  pub gates : List ℕ
+  pub matches : IsMatchNetlist graph pin_counts pats gates n
+  pub input_names : mapped.inputs ≡ ports.inputs
+  pub outputs : AllZip (λ p q. (p.name ≡ q.name) × IsNetOf graph gates (class_in o graph (form p.net)) q.net) ports.outputs mapped.outputs
+  pub names_are : names ≡ net_names ports.inputs (map (λ p. p.name) ports.outputs) (form_classes o form graph ports.outputs) gates
+
+-- the same for the sums of products of a network's nets
+abbrev pub IsMatchNetlistOf : Mode → ℕ → Network → Ports → List Pattern → List ℕ → Netlist → List (List ℕ) → Ports → Type 0
+IsMatchNetlistOf mode width net ports pats pin_counts n names mapped =
+    IsMatchNetlistOfForms mode net.inputs (listing_of width net) (sop_at (signals_of width net)) ports pats pin_counts n names mapped
+
+-- The netlist of the chosen matches for the sums of products of a network's nets: the graph of the network's forms, the least time and the height of each class, the
 -- classes that are needed for the outputs, by height and then class, and a gate for each.
 pub record IsNetlistOf (mode : Mode) (width : ℕ) (net : Network) (ports : Ports) (pats : List Pattern) (timing : Timing) (cap : ℕ) (n : Netlist) (names : List (List ℕ)) (mapped : Ports) : Type 0 where
   pub graph : Graph

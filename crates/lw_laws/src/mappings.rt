@@ -8,10 +8,12 @@ ghost use Rattle.lw_laws.specs.Encodings.{Encodes};
 ghost use Rattle.lw_laws.specs.Extracts.{AreDistinctLeaves, AreGateClasses, HaveLeafLabels, IsChosen, IsExtracted, IsNetOf, Match, class_at};
 ghost use Rattle.lw_laws.specs.Forms.{Form, form_value};
 ghost use Rattle.lw_laws.specs.Graphs.{Graph};
-ghost use Rattle.lw_laws.specs.Headline.{HasLeastArrival, HasLeastTime, HasNoCover, HasNoCoverOf, IsMapping, MapsForms, Ports, StandsForCover, StandsForCoverOf};
+ghost use Rattle.lw_laws.specs.Headline.{CoversForms, HasLeastArrival, HasLeastTime, HasNoCover, HasNoCoverOf, IsMapping, MapsForms, Ports, StandsForCover, StandsForCoverOf};
 ghost use Rattle.lw_laws.specs.Listings.{IsListed, IsListing, Listing};
-ghost use Rattle.lw_laws.specs.Mapped.{AreRooted, AreRootedAtForms, IsCoverAt, IsLabelledOver, IsLabelledOverForms, IsMapped, IsMappedOver, IsMappedOverForms, IsRootedAt, IsRootedAtForm, forms_of, root_class};
-ghost use Rattle.lw_laws.specs.MappedNetlists.{AreNetNames, ArePortNames, HasPorts, IsNetlistOf, IsNetlistOfForms};
+ghost use Rattle.lw_laws.specs.InTime.{AreLeastTimes, ArriveBy, CoversNetwork};
+ghost use Rattle.lw_laws.specs.Mapped.{AreAtForms, AreRooted, AreRootedAtForms, IsAtForm, IsAtNet, IsCoverAt, IsCoveredOver, IsCoveredOverForms, IsLabelledOver, IsLabelledOverForms, IsMapped, IsMappedOver, IsMappedOverForms, IsRootedAt, IsRootedAtForm, forms_of, root_class};
+ghost use Rattle.lw_laws.specs.MatchLists.{AreMatchesInOrder, Gated, IsMadeOf, IsMatchNetlist, gated_classes};
+ghost use Rattle.lw_laws.specs.MappedNetlists.{AreNetNames, ArePortNames, HasPorts, IsMatchNetlistOf, IsNetlistOf, IsNetlistOfForms};
 ghost use Rattle.lw_laws.specs.Matches.{IsLeastCover};
 ghost use Rattle.lw_laws.specs.Modes.{Mode};
 ghost use Rattle.lw_laws.specs.Names.{AreDifferent, AreNameable, net_names};
@@ -111,13 +113,21 @@ pub fn extracted_netlists_are_one()
 {}
 
 /// The netlist of the chosen matches is in order, and each gate is a match of its class with the
-/// classes of its pins.
+/// classes of its pins. No class has two gates, and no input's class has one.
 pub fn extracted_netlists_are_mapped()
     ensures { (g : Graph) (cost : Cost) (pats : List Pattern) (labels : ℕ → Option ℕ)
         (heights : ℕ → ℕ) (roots gates : List ℕ) →
         AreGateClasses g cost pats labels heights roots gates → (n : Netlist) →
         IsExtracted g cost pats labels heights gates n →
-        AreOrdered n × IsMapped g cost.pin_counts pats n (class_at g gates) }
+        IsMatchNetlist g cost.pin_counts pats gates n }
+{}
+
+/// The same holds of the netlist that any list of matches makes in which each pin's class is an
+/// input's or stands earlier, and no class stands twice.
+pub fn made_netlists_are_mapped()
+    ensures { (g : Graph) (pin_counts : List ℕ) (pats : List Pattern) (xs : List Gated)
+        (n : Netlist) → AreMatchesInOrder g pin_counts pats xs → IsMadeOf g pats xs n →
+        IsMatchNetlist g pin_counts pats (gated_classes xs) n }
 {}
 
 /// Each net of the netlist of the chosen matches costs the label of its class, where each input's
@@ -180,28 +190,39 @@ pub fn rooted_nets_are_least()
         HasLeastTime mode o.width o.signals pats timing f (slice_index_or arrivals k 0) }
 {}
 
-/// A net that is rooted at a form has the form's value.
+/// A net at the class of a form has the form's value, whatever it arrives at.
 pub fn rooted_nets_have_values()
     ensures { (mode : Mode) (inputs : ℕ) (o : Listing) (g : Graph) (pats : List Pattern)
-        (timing : Timing) (cap : ℕ) (labels : List (Option ℕ)) (n : Netlist) (class : ℕ → ℕ)
-        (arrivals : List ℕ) (truth : CellTruth) →
-        IsSoundListing inputs o → IsMappedOverForms mode inputs o g pats timing cap labels n class →
-        HaveCellTruths (map length timing.delays) truth pats → AreArrivals timing n arrivals →
+        (timing : Timing) (n : Netlist) (class : ℕ → ℕ) (truth : CellTruth) →
+        IsSoundListing inputs o → IsCoveredOverForms mode inputs o g pats timing n class →
+        HaveCellTruths (map length timing.delays) truth pats →
         (x : ℕ → Bool) (mapped : List Bool) → AreNetlistValues truth n x mapped →
-        (f : Form) (k : ℕ) → IsListed o f → IsRootedAtForm o g labels n class arrivals f k →
+        (f : Form) (k : ℕ) → IsListed o f → IsAtForm o g n class f k →
         slice_get mapped k ≡ Some (form_value x f) }
 {}
 
-/// A net that is rooted at a form stands for a cover of a tree that the laws derive for the form,
+/// A net at the class of a form stands for a cover of a tree that the laws derive for the form,
 /// and arrives at the cover's time.
 pub fn rooted_nets_stand_for_covers()
     ensures { (mode : Mode) (inputs : ℕ) (o : Listing) (g : Graph) (pats : List Pattern)
-        (timing : Timing) (cap : ℕ) (labels : List (Option ℕ)) (n : Netlist) (class : ℕ → ℕ)
-        (arrivals : List ℕ) →
-        IsSoundListing inputs o → IsMappedOverForms mode inputs o g pats timing cap labels n class →
+        (timing : Timing) (n : Netlist) (class : ℕ → ℕ) (arrivals : List ℕ) →
+        IsSoundListing inputs o → IsCoveredOverForms mode inputs o g pats timing n class →
         AreArrivals timing n arrivals → (f : Form) (k : ℕ) → IsListed o f →
-        IsRootedAtForm o g labels n class arrivals f k →
+        IsAtForm o g n class f k →
         StandsForCoverOf mode o.width o.signals pats timing n f k (slice_index_or arrivals k 0) }
+{}
+
+/// A netlist whose gates are matches, with each output at the class of its form, covers the forms:
+/// it computes the network's outputs, each as a cover of its form.
+pub fn covered_netlists_cover_forms()
+    ensures { (mode : Mode) (o : Listing) (form : ℕ → Form) (net : Network) (g : Graph)
+        (pats : List Pattern) (timing : Timing) (n : Netlist) (class : ℕ → ℕ) (truth : CellTruth)
+        (ports mapped : Ports) →
+        IsSoundListing net.inputs o → AreNetForms net o form → HasPorts net ports →
+        IsCoveredOverForms mode net.inputs o g pats timing n class →
+        HaveCellTruths (map length timing.delays) truth pats →
+        AreAtForms net.inputs o form g n class ports mapped →
+        CoversForms mode o.width o.signals form net ports pats timing truth n mapped }
 {}
 
 /// Where the class of a form has no label, no cover is of a tree that the laws derive for it.
@@ -283,28 +304,26 @@ pub fn mapped_outputs_are_least()
         HasLeastArrival mode width net pats timing s (slice_index_or arrivals k 0) }
 {}
 
-/// An output of a mapped netlist has the network's value for all values of the inputs.
+/// An output of a netlist of matches has the network's value for all values of the inputs.
 pub fn mapped_outputs_have_values()
     ensures { (mode : Mode) (width : ℕ) (net : Network) (g : Graph) (pats : List Pattern)
-        (timing : Timing) (cap : ℕ) (labels : List (Option ℕ)) (n : Netlist) (class : ℕ → ℕ)
-        (arrivals : List ℕ) (truth : CellTruth) →
-        IsInOrder net → IsMappedOver mode width net g pats timing cap labels n class →
-        HaveCellTruths (map length timing.delays) truth pats → AreArrivals timing n arrivals →
+        (timing : Timing) (n : Netlist) (class : ℕ → ℕ) (truth : CellTruth) →
+        IsInOrder net → IsCoveredOver mode width net g pats timing n class →
+        HaveCellTruths (map length timing.delays) truth pats →
         (x : ℕ → Bool) (values mapped : List Bool) → AreValues net x values →
         AreNetlistValues truth n x mapped → (s k : ℕ) →
-        IsRootedAt width net g labels n class arrivals s k →
+        IsAtNet width net g n class s k →
         slice_get values s ≡ slice_get mapped k }
 {}
 
-/// The net of an output of a mapped netlist stands for a cover of a tree that the laws derive for
-/// the output, and arrives at the cover's time.
+/// The net of an output of a netlist of matches stands for a cover of a tree that the laws derive
+/// for the output, and arrives at the cover's time.
 pub fn mapped_outputs_stand_for_covers()
     ensures { (mode : Mode) (width : ℕ) (net : Network) (g : Graph) (pats : List Pattern)
-        (timing : Timing) (cap : ℕ) (labels : List (Option ℕ)) (n : Netlist) (class : ℕ → ℕ)
-        (arrivals : List ℕ) →
-        IsMappedOver mode width net g pats timing cap labels n class →
+        (timing : Timing) (n : Netlist) (class : ℕ → ℕ) (arrivals : List ℕ) →
+        IsCoveredOver mode width net g pats timing n class →
         AreArrivals timing n arrivals → (s k : ℕ) →
-        IsRootedAt width net g labels n class arrivals s k →
+        IsAtNet width net g n class s k →
         StandsForCover mode width net pats timing n s k (slice_index_or arrivals k 0) }
 {}
 
@@ -382,6 +401,51 @@ pub fn mapped_gates_are_by_depth()
         (timing : Timing) (cap : ℕ) (n : Netlist) (names : List (List ℕ)) (mapped : Ports) →
         2 ≤ width → ArePatterns (map length timing.delays) pats →
         IsNetlistOf mode width net ports pats timing cap n names mapped → AreByDepth n }
+{}
+
+/// The netlist that a network is mapped to is one of matches over the same graph, with gates of the
+/// same classes.
+pub fn mapped_netlists_are_match_netlists()
+    ensures { (mode : Mode) (width : ℕ) (net : Network) (ports : Ports) (pats : List Pattern)
+        (timing : Timing) (cap : ℕ) (n : Netlist) (names : List (List ℕ)) (mapped : Ports) →
+        (is : IsNetlistOf mode width net ports pats timing cap n names mapped) →
+        (also : IsMatchNetlistOf mode width net ports pats (map length timing.delays) n names mapped)
+        × (also.graph ≡ is.graph) × (also.gates ≡ is.gates) }
+{}
+
+/// A netlist of matches over the graph of a network's forms covers the network: it has its ports
+/// and values, and each output stands for a cover of a tree that the laws derive for it, whose time
+/// is its arrival.
+pub fn match_netlists_cover_networks()
+    ensures { (mode : Mode) (width : ℕ) (net : Network) (ports : Ports) (pats : List Pattern)
+        (timing : Timing) (truth : CellTruth) (n : Netlist) (names : List (List ℕ))
+        (mapped : Ports) →
+        2 ≤ width → IsInOrder net → HasPorts net ports →
+        ArePatterns (map length timing.delays) pats →
+        HaveCellTruths (map length timing.delays) truth pats →
+        IsMatchNetlistOf mode width net ports pats (map length timing.delays) n names mapped →
+        CoversNetwork mode width net ports pats timing truth n mapped }
+{}
+
+/// The names of its nets differ, and a net with an output's name is that output's, where the names
+/// of the network's inputs and outputs tell them apart.
+pub fn match_nets_have_names()
+    ensures { (mode : Mode) (width : ℕ) (net : Network) (ports : Ports) (pats : List Pattern)
+        (pin_counts : List ℕ) (n : Netlist) (names : List (List ℕ)) (mapped : Ports) →
+        2 ≤ width → IsMatchNetlistOf mode width net ports pats pin_counts n names mapped →
+        ArePortNames net ports →
+        1 + (length n.gates + (length ports.inputs + length ports.outputs)) < 2 ^ 64 →
+        AreNetNames n names mapped }
+{}
+
+/// A netlist that covers a network with each output no later than its least time is a mapping of
+/// it.
+pub fn covers_in_time_are_mappings()
+    ensures { (mode : Mode) (width : ℕ) (net : Network) (ports : Ports) (pats : List Pattern)
+        (timing : Timing) (truth : CellTruth) (n : Netlist) (mapped : Ports) (times : List ℕ) →
+        CoversNetwork mode width net ports pats timing truth n mapped →
+        AreLeastTimes mode width net pats timing ports times → ArriveBy timing n mapped times →
+        IsMapping mode width net ports pats timing truth n mapped }
 {}
 
 /// A form has one least time.

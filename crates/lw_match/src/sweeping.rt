@@ -4,7 +4,7 @@ ghost use Rattle.lw_bounds.specs.Places.{IsFar};
 ghost use Rattle.lw_match.specs.Queries.{IsQuery, IsQueryBy, AreRootsIn, HasRootsListed};
 ghost use Rattle.lw_match.specs.Hunts.{HuntsOn, HasNoneAtAll, HasNoneByRoot, HasNoneInList, HasNoneLeft, IsNewHunt, IsWholeHunt};
 
-use crate::hunting::better_by;
+use crate::hunting::find_better_by;
 use crate::query::Query;
 use crate::target::Target;
 use crate::want::{Want, target_after, target_of};
@@ -70,7 +70,7 @@ pub(crate) fn hunt_by<C: Cost>(query: &Query<C>, pat: PatId, hunt: &mut Hunt)
     ensures goes_on { HuntsOn C.costs query.now hunt.old hunt.new }
     ensures none { IsWholeHunt hunt.new → HasNoneLeft C.costs query.now hunt.new pat.0 }
 {
-    if let Some(best) = better_by(query, pat, hunt.target, &mut hunt.unbound) {
+    if let Some(best) = find_better_by(query, pat, hunt.target, &mut hunt.unbound) {
         hunt.target = target_after(hunt.target, best.mark);
         hunt.found = Some(best);
     }

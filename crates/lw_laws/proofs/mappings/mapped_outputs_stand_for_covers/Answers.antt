@@ -1,6 +1,6 @@
 -- By the lemma.
-use Rattle.lw_laws.proofs.Mapping.{rooted_covered}
+use Rattle.lw_laws.proofs.Mapping.{covered_at}
 use Rattle.lw_laws.proofs.mappings.mapped_outputs_stand_for_covers.Goals as goal
 
 pub returns : goal.returns
-returns c = λ mode width net g pats timing cap labels n class arrivals over. rooted_covered mode width net g pats timing cap labels n class over arrivals
+returns c = λ mode width net g pats timing n class arrivals over are. covered_at mode width net g pats timing n class over arrivals are

@@ -14,25 +14,25 @@ leaves-leaves-requires g c = subst (IsSite g.C.Cost.CAP g.C.Cost.costs) (sym c.n
 pub query-requires-clause-site : goal.query-requires-clause-site
 query-requires-clause-site g c = subst (IsSite g.C.Cost.CAP g.C.Cost.costs) (sym c.new-site.ensures) (bounds_site g.C.Cost.costs g.C.Cost.CAP _ c.args.bounds.now c.requires.may c.cuts-cuts.ensures.state c.cuts-cuts.ensures.roots (last_floor c.args.graph.now (g.C.Cost.costs c.args.cost.now) c.args.pats.now (marks_in c.args.marks.now) c.args.class.0 c.args.bound c.requires.last))
 
-pub picked-requires-clause-asked : goal.picked-requires-clause-asked
-picked-requires-clause-asked g c =
+pub choose_least-requires-clause-asked : goal.choose_least-requires-clause-asked
+choose_least-requires-clause-asked g c =
     let known = subst (λ (cuts : CutsState). AreKnown (g.C.Cost.costs c.args.cost.now) c.args.pats.now cuts.gaps c.args.tops.now) (sym c.cuts-cuts.ensures.state) c.requires.known in
     sure_query g.C.Cost.costs g.C.Cost.CAP c.new-site.result c.query.result c.args.tops.now c.query.ensures.site c.query.ensures.query (subst (IsSite g.C.Cost.CAP g.C.Cost.costs) (sym c.new-site.ensures) (bounds_site g.C.Cost.costs g.C.Cost.CAP _ c.args.bounds.now c.requires.may c.cuts-cuts.ensures.state c.cuts-cuts.ensures.roots (last_floor c.args.graph.now (g.C.Cost.costs c.args.cost.now) c.args.pats.now (marks_in c.args.marks.now) c.args.class.0 c.args.bound c.requires.last))) (subst (λ s. AreKnownAt g.C.Cost.costs s c.args.tops.now) (sym c.new-site.ensures) known)
 
-pub picked-requires-clause-bounds : goal.picked-requires-clause-bounds
-picked-requires-clause-bounds g c =
+pub choose_least-requires-clause-bounds : goal.choose_least-requires-clause-bounds
+choose_least-requires-clause-bounds g c =
     let bounds = subst (λ (cuts : CutsState). AreCutsOf cuts c.args.pats.now c.args.graph.now c.args.marks.now) (sym c.cuts-cuts.ensures.state) (bounds_cut_well c.args.bounds.now c.args.pats.now c.args.graph.now c.args.marks.now c.requires.may.fits c.requires.bounds) in
     subst AreTrueAt (sym (c.query.ensures.site ∙ c.new-site.ensures)) bounds
 
-pub picked-requires-clause-last : goal.picked-requires-clause-last
-picked-requires-clause-last g c =
+pub choose_least-requires-clause-last : goal.choose_least-requires-clause-last
+choose_least-requires-clause-last g c =
     last_at g.C.Cost.costs _ c.query.result c.args.bound (c.query.ensures.site ∙ c.new-site.ensures) c.requires.last
 
 pub returns-clause-known : goal.returns-clause-known
 returns-clause-known g c =
-    let there = subst (λ s. AreKnownAt g.C.Cost.costs s c.picked.new.tops) (c.query.ensures.site ∙ c.new-site.ensures) c.picked.ensures.known in
-    subst (λ (cuts : CutsState). AreKnown (g.C.Cost.costs c.args.cost.now) c.args.pats.now cuts.gaps c.picked.new.tops) c.cuts-cuts.ensures.state there
+    let there = subst (λ s. AreKnownAt g.C.Cost.costs s c.choose_least.new.tops) (c.query.ensures.site ∙ c.new-site.ensures) c.choose_least.ensures.known in
+    subst (λ (cuts : CutsState). AreKnown (g.C.Cost.costs c.args.cost.now) c.args.pats.now cuts.gaps c.choose_least.new.tops) c.cuts-cuts.ensures.state there
 
 pub returns-clause-least : goal.returns-clause-least
 returns-clause-least g c =
-    least_at g.C.Cost.costs _ c.query.result c.args.bound c.picked.result (c.query.ensures.site ∙ c.new-site.ensures) c.picked.ensures.least
+    least_at g.C.Cost.costs _ c.query.result c.args.bound c.choose_least.result (c.query.ensures.site ∙ c.new-site.ensures) c.choose_least.ensures.least

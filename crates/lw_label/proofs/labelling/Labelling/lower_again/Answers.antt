@@ -2,12 +2,12 @@ use Rattle.std.proofs.Common.{false, refl, sym, true≢false}
 use Rattle.lw_label.proofs.OneVisit.{odd_of}
 use Rattle.lw_label.proofs.labelling.Labelling.lower_again.Goals as goal
 
-pub lower_bare-requires-clause-may : goal.lower_bare-requires-clause-may
-lower_bare-requires-clause-may g c = c.requires.may
+pub lower_without_nands-requires-clause-may : goal.lower_without_nands-requires-clause-may
+lower_without_nands-requires-clause-may g c = c.requires.may
 
 pub returns-then-is_ahead : goal.returns-then-is_ahead
 returns-then-is_ahead g c =
-    let bare = c.lower_bare.ensures in
+    let bare = c.lower_without_nands.ensures in
     record {
       search = bare.search;
       table = bare.table;

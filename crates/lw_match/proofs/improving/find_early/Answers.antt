@@ -1,0 +1,13 @@
+use Rattle.std.proofs.Common.{Bool, Some, None, ap, sym, subst, rules}
+use Rattle.lw_match.specs.Cutting.{bound_past}
+use Rattle.lw_match.specs.Queries.{FindsLeast}
+use Rattle.lw_match.proofs.improving.find_early.Goals as goal
+
+pub returns-clause-outcome : goal.returns-clause-outcome
+returns-clause-outcome g c =
+    let q = c.args.query.now in
+    record {
+      sound = search rules;
+      none = λ e. cc;
+      least = λ t bounds. subst (λ left. FindsLeast g.C.Cost.costs q left None) (sym (ap (λ (m : Bool). bound_past m (Some c.in_ok-best.best) c.args.want.bound) c.if-want.false)) (c.is_known_least-is_least.ensures.none t bounds);
+    }
