@@ -58,7 +58,8 @@ wrong_gate_is_found() {
 
 two_runs_agree() {
     adder 16 majority >ONE && adder 16 choice | sed 's/^1-1 1$/1-0 1/' >OTHER
-    run -s ONE OTHER && cp out first && cp err counted
+    run -s ONE OTHER
+    cp out first && cp err counted
     run -s ONE OTHER
     status $? 1 && same out first && same err counted
 }
