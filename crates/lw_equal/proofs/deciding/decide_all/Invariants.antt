@@ -1,0 +1,9 @@
+use Rattle.std.proofs.Common.{◌≡◌, take}
+use Rattle.lw_equal.specs.Cases.{AreJudged, one_of, other_of}
+use Rattle.lw_equal.proofs.deciding.decide_all.Given as goal
+
+abbrev pub invariant-pairs : goal.invariant-pairs
+invariant-pairs l = record {
+  same : l.sweep ≡ l.fn.sweep;
+  judged : AreJudged (one_of l.case) (other_of l.case) (take l.pair-index l.pairs) l.undecided;
+}
