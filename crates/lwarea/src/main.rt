@@ -1,15 +1,10 @@
 //! Maps a network to the cells of a library with little area.
 #![tactic(auto)]
 
-mod file_shelf;
-mod retrying;
-mod std_sink;
-
-use file_shelf::FileShelf;
 use lw_area::run;
+use lw_system::{FileShelf, StdSink};
 use std::process::ExitCode;
 use std::{env, io};
-use std_sink::StdSink;
 
 fn words(rt: &HostRuntime) -> io::Result<Vec<String>> {
     let mut words = Vec::new(rt.alloc());
