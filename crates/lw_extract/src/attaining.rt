@@ -1,6 +1,11 @@
 // Matches that attain the labels and the heights of all classes.
+ghost use Rattle.lw_bounds.specs.Bounds.{BoundsFit, AreBounds};
+ghost use Rattle.lw_extract.specs.Covers.{AreFit, AreLibraryLabels};
+ghost use Rattle.lw_extract.specs.Jobs.{AreJobBounds, CanCover};
+
 use crate::Ports;
 use crate::choosing::choice;
+use crate::extracting::first_uncovered;
 use crate::job::Job;
 use crate::nets::input_nets;
 use lw_bounds::Bounds;
@@ -50,22 +55,30 @@ impl ClassMatches {
     }
 }
 
-fn attain<C: Cost>(alloc: Global, job: &Job<C>, bounds: &Bounds) -> Result<ClassMatches, AllocError> {
+// The chosen matches of all classes.
+fn match_all<C: Cost>(
+    alloc: Global,
+    job: &Job<C>,
+    bounds: &Bounds,
+) -> Result<ClassMatches, AllocError>
+    requires ready { CanCover C.costs job.now }
+    requires bounds { AreJobBounds job.now bounds.now }
+{
     let nets = input_nets(alloc, job.graph)?;
     let mut tops = Tops::new(job.pats, job.cost, bounds);
-    let mut matches = ClassMatches::new(alloc);
-    for (number, net) in nets.iter().enumerate() {
-        let found = if net.is_none() {
-            choice(job, bounds, &mut tops, ClassId(number as u32))
-        } else {
-            None
-        };
-        matches.push(found)?;
+    let mut all = ClassMatches::new(alloc);
+    for number in 0..job.graph.classes() {
+        let mut found = None;
+        if nets[number as usize].is_none() {
+            found = choice(job, bounds, &mut tops, ClassId(number));
+        }
+        all.push(found)?;
     }
-    Ok(matches)
+    Ok(all)
 }
 
-/// The chosen matches of all classes that have a label and are no input's.
+/// The chosen matches of all classes that have a label and are no input's; none where the class of
+/// an output has no label.
 pub fn attaining_matches<C: Cost>(
     alloc: Global,
     graph: &Graph,
@@ -75,8 +88,16 @@ pub fn attaining_matches<C: Cost>(
     bounds: &Bounds,
     ports: &Ports,
     cost: &C,
-) -> Result<ClassMatches, AllocError> {
+) -> Result<ClassMatches, AllocError>
+    requires labels { AreLibraryLabels graph.now (C.costs cost.now) pats.now lib.now labels.now }
+    requires fits { BoundsFit bounds.now pats.now graph.now }
+    requires bounds { AreBounds bounds.now graph.now labels.now }
+    requires fit { AreFit graph.now ports.now }
+{
     let marks = labels.marks();
+    if first_uncovered(marks, ports.roots.as_slice()).is_some() {
+        return Ok(ClassMatches::new(alloc));
+    }
     let job = Job {
         graph,
         pats,
@@ -85,5 +106,5 @@ pub fn attaining_matches<C: Cost>(
         marks,
         ports,
     };
-    attain(alloc, &job, bounds)
+    match_all(alloc, &job, bounds)
 }
