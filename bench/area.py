@@ -7,9 +7,8 @@ For each circuit of bench/circuits and each effort (EFFORTS, 123 without the opt
 delay of ABC's 'strash; map', by a library of bench/libs (mcnc without the option). It prints a table of means of ratios to ABC's
 netlist, and one of processor time and memory beside 'lwmap map'. With -p every third circuit is taken, from PART on.
 
-With -t it is a test at effort 2: the means over the circuits may not be above what bench/record.csv has of area for 'each', 'max'
-and ABC's delay, which are lines 'lwarea,LIB,-t T,1,MEAN', and no area above that of 'lwmap map'. The last line is then
-'N passed, N failed'.
+With -t it is a test at effort 2: the means of area may not be above those of bench/area.csv, whose lines are 'LIB,DEADLINE,MEAN',
+and no area above that of 'lwmap map'. The last line is then 'N passed, N failed'.
 """
 import csv
 import getopt
@@ -22,7 +21,7 @@ from lib import program, script
 from measure import Library, Room, head, mean, row, said, tell
 
 HERE = os.path.dirname(os.path.realpath(__file__))
-RECORD = os.path.join(HERE, "record.csv")
+RECORD = os.path.join(HERE, "area.csv")
 SECONDS_EACH = 60
 
 
@@ -94,7 +93,7 @@ def show(found, efforts, deadlines):
 
 def recorded(library):
     with open(RECORD, encoding="ascii", newline="") as file:
-        return {line[2].removeprefix("-t "): float(line[4]) for line in csv.reader(file) if line[:2] == ["lwarea", library]}
+        return {deadline: float(mean_area) for name, deadline, mean_area in csv.reader(file) if name == library}
 
 
 def test(found, failed, most):
