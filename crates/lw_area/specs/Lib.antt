@@ -3,3 +3,4 @@ pub mod Plain
 pub mod Deadlines
 pub mod Refusals
 pub mod Recovered
+pub mod Answers

@@ -1,4 +1,15 @@
 // The top call.
+ghost use Rattle.std.specs.Prelude.{◌≡◌, ◌≢◌, ◌≤◌, ℕ, Some, List, map, string_bytes, Ok, Err};
+ghost use Rattle.lw_io.specs.declared.file.File.{File};
+ghost use Rattle.lw_io.specs.Files.{bytes_of};
+ghost use Rattle.lw_files.specs.Reading.{Known};
+ghost use Rattle.lw_top.specs.Outcome.{IsDone, IsCutShort};
+ghost use Rattle.lw_top.specs.Telling.{Told};
+ghost use Rattle.lw_area.specs.declared.refusal.Refusal.{Refusal};
+ghost use Rattle.lw_area.specs.Words.{Task, WrongWord, asked_of};
+ghost use Rattle.lw_area.specs.Answers.{AsksFor, HasReason, IsTaskAnswer};
+ghost use Rattle.lw_area.specs.Refusals.{refusal_line, status_of, wrong_line};
+
 use crate::mapping::map_smaller;
 use crate::refusal::Refusal;
 use crate::telling::{USAGE, VERSION, tell, tell_unwritten, tell_word};
@@ -104,7 +115,35 @@ pub fn run<F: Shelf, O: Sink, E: Sink>(
     shelf: &mut F,
     out: &mut O,
     err: &mut E,
-) -> u8 {
+) -> u8
+    // At 0 the whole text of a netlist went out, if one was asked for. Over known files it is of the
+    // library's cells with the network's values, each output arrives by its deadline, and its area
+    // is at most that of the netlist of `map`.
+    ensures done { (task : Task) → AsksFor (map string_bytes words.now.items) task → result ≡ 0 →
+        ((text : List ℕ) × Known (F.files shelf.old) (IsTaskAnswer task) (Ok text)
+        × IsDone O.taken O.is_finished out.old out.new text) }
+
+    // At 7 a prefix of such a text went out.
+    ensures cut_short { (task : Task) → AsksFor (map string_bytes words.now.items) task →
+        result ≡ 7 → ((text : List ℕ) × Known (F.files shelf.old) (IsTaskAnswer task) (Ok text)
+        × IsCutShort O.taken O.faults out.old out.new text) }
+
+    // Every other status is that of a refusal with its reason, whose line went to `err`; nothing
+    // went out.
+    ensures refused { (task : Task) → AsksFor (map string_bytes words.now.items) task →
+        result ≢ 0 → result ≢ 7 → ((r : Refusal) × (result ≡ status_of r)
+        × HasReason (F.files shelf.old) (F.faults shelf.old) (F.faults shelf.new) task r
+        × Told E.taken E.faults err.old err.new (refusal_line task r) × (out.new ≡ out.old)) }
+
+    // A word that is wrong is told, whatever the files.
+    ensures words { (wrong : WrongWord) → asked_of (map string_bytes words.now.items) ≡ Err wrong →
+        (result ≡ 1) × Told E.taken E.faults err.old err.new (wrong_line wrong)
+        × (out.new ≡ out.old) }
+
+    // The files stay, and no count of faults falls.
+    ensures files { F.files shelf.new ≡ F.files shelf.old }
+    ensures read { F.faults shelf.old ≤ F.faults shelf.new }
+{
     match asked_of(words) {
         Ok(Asked::Usage) => ending(write_page(USAGE, out), err),
         Ok(Asked::Version) => ending(write_page(VERSION, out), err),
