@@ -4,9 +4,7 @@ import glob
 import os
 import platform
 import re
-import resource
 import shutil
-import statistics
 import subprocess
 import tempfile
 import time
@@ -15,7 +13,7 @@ import maps
 import parts
 import record
 from lib import program, script
-from measure import ABC, LIMIT, RUNS, Library, Room, head, mean, row, said
+from measure import ABC, LIMIT, RUNS, Kept, Library, Room, head, mean, row, said
 
 HERE = os.path.dirname(os.path.realpath(__file__))
 LIBRARIES = os.environ.get("LIBS", "tiny mcnc rich").split()
@@ -41,7 +39,11 @@ def value_of(path, name):
 
 
 def machine(room):
-    head("what", "value")
+    """The rows of the table of the machine."""
+    rows = []
+
+    def row(*cells):
+        rows.append(cells)
     row("program", f"SHA-256 {first_line('sha256sum', room.program).split()[0][:16]}, {os.path.getsize(room.program)} bytes")
     row("date", time.strftime("%Y-%m-%d %H:%M"))
     row("processor", f"{value_of('/proc/cpuinfo', 'model name')}, {os.cpu_count()} processors, one used")
@@ -53,7 +55,7 @@ def machine(room):
     row("start of `lwmap`", f"{1000 * room.start([room.program]):.1f} ms")
     row("start of ABC", f"{1000 * room.start([ABC, '-s', '-q', 'quit']):.1f} ms" if ABC else "-")
     row("runs for a time; limit of a run, of `cec`", f"{RUNS}; {LIMIT} and {max(1, LIMIT // 5)} processor seconds")
-    print()
+    return rows
 
 
 def goal(said_of, figure, met):
@@ -64,7 +66,7 @@ def map_goals(library, figures):
     both = [f for f in figures.values() if f.get("given s") and f.get("map s")]
     if not both:
         return
-    ratios = [statistics.median(f["given s"]) / statistics.median(f["map s"]) for f in both]
+    ratios = [min(f["given s"]) / min(f["map s"]) for f in both]
     later = sum(f["given"] > f["map"] for f in both)
     goal(f"{library}: processor time at most {GOALS[library]} of ABC's `map`, starts included", said(mean(ratios)),
          mean(ratios) <= GOALS[library])
@@ -85,7 +87,14 @@ def verilog_goals(printed):
         goal("a text of one part in at most 6 times its memory", f"{largest:.1f}", largest <= 6)
 
 
-def goals(found, room, trades, printed):
+def deadline_goal(room):
+    """What 'trade 0' takes, and whether it ended."""
+    library = os.path.join(HERE, "libs", "rich.genlib")
+    run = room.lwmap(["trade", "0", library, os.path.join(HERE, "circuits", "i10_a.blif")])
+    return [run.ok(), run.seconds]
+
+
+def goals(found, room, kept, trades, printed):
     print("### Goals\n")
     head("goal", "measured", "met")
     for (folder, library), figures in found.items():
@@ -95,43 +104,44 @@ def goals(found, room, trades, printed):
         ratios = [f["trade none s"] / f["map s"] for f in figures.values() if f.get("trade none s")]
         goal(f"{library}: `trade none` in at most twice the time of `map`", said(mean(ratios), 1), ratios and mean(ratios) <= 2)
     if "rich" in LIBRARIES:
-        library = os.path.join(HERE, "libs", "rich.genlib")
-        run = room.lwmap(["trade", "0", library, os.path.join(HERE, "circuits", "i10_a.blif")])
-        goal("`trade 0` of `i10_a` with rich in 3 s", f"{run.seconds:.1f} s" if run.ok() else f"over {LIMIT} s",
-             run.ok() and run.seconds <= 3)
+        ended, seconds = kept.of("goals", "trade 0", make=lambda: deadline_goal(room))
+        goal("`trade 0` of `i10_a` with rich in 3 s", f"{seconds:.1f} s" if ended else f"over {LIMIT} s", ended and seconds <= 3)
     verilog_goals(printed.get("verilog", ""))
     print()
 
 
-def measure(room, wanted, sets, own):
+def measure(room, kept, wanted, sets, own):
     """Each part that is wanted, in order; own are those that need the repository's circuits."""
     libraries = [Library(room, name, os.path.join(HERE, "libs", name + ".genlib")) for name in LIBRARIES]
     first = next(iter(sets.values()))
     every = {circuit: path for circuits in sets.values() for circuit, path in circuits.items()}
     found, trades, printed = {}, {}, {}
     if "machine" in wanted:
-        machine(room)
+        head("what", "value")
+        for cells in kept.of("machine", make=lambda: machine(room)):
+            row(*cells)
+        print()
     if "maps" in wanted:
-        found, verdicts = maps.measure(room, libraries, sets)
+        found, verdicts = maps.measure(room, kept, libraries, sets)
         maps.report(found, verdicts)
     if "sizes" in wanted and ABC:
-        parts.sizes(room, next((library for library in libraries if library.name == "mcnc"), libraries[0]))
+        parts.sizes(room, kept, next((library for library in libraries if library.name == "mcnc"), libraries[0]))
     if "loads" in wanted and ABC:
-        parts.loads(room, every)
+        parts.loads(room, kept, every)
     if "trade" in wanted:
-        trades = parts.trade(room, libraries, first)
+        trades = parts.trade(room, kept, libraries, first)
     if "luts" in wanted and ABC:
-        parts.luts(room, first)
+        parts.luts(room, kept, first)
     if "widths" in wanted:
-        parts.options(room, libraries, first, "Widths", "-w 6", [f"-w {width}" for width in range(2, 9)])
+        parts.options(room, kept, libraries, first, "Widths", "-w 6", [f"-w {width}" for width in range(2, 9)])
     if "idempotence" in wanted:
-        parts.options(room, libraries, first, "The option `-i`", "-w 4", ["-w 4", "-w 3 -i", "-w 4 -i"])
+        parts.options(room, kept, libraries, first, "The option `-i`", "-w 4", ["-w 4", "-w 3 -i", "-w 4 -i"])
     if "certificates" in wanted:
-        parts.certificates(room, libraries, first)
+        parts.certificates(room, kept, libraries, first)
     if "texts" in wanted and own:
-        printed = parts.texts()
+        printed = parts.texts(kept)
     if "goals" in wanted:
-        goals(found, room, trades, printed)
+        goals(found, room, kept, trades, printed)
     if "record" in wanted and own:
         record.record(room, libraries, sets)
 
@@ -144,13 +154,10 @@ def main(words):
     sets = {os.path.basename(os.path.abspath(folder)): circuits_of(folder) for folder in folders}
     if not all(sets.values()):
         raise script.Fault(f"there is no .blif in {folders[0]}")
-    begun, used = time.time(), resource.getrusage(resource.RUSAGE_CHILDREN)
     with tempfile.TemporaryDirectory() as folder:
-        measure(Room(folder, program.path()), os.environ.get("PARTS", PARTS).split(), sets, not words)
-    after = resource.getrusage(resource.RUSAGE_CHILDREN)
-    took = after.ru_utime + after.ru_stime - used.ru_utime - used.ru_stime
-    print(f"All of this took {took / 60:.0f} processor minutes and {(time.time() - begun) / 60:.0f} minutes of clock; "
-          f"load average at the end {os.getloadavg()[0]:.1f}.")
+        kept = Kept(program.path())
+        measure(Room(folder, program.path()), kept, os.environ.get("PARTS", PARTS).split(), sets, not words)
+    print(f"All of this took {kept.seconds() / 60:.0f} processor minutes; load average at the end {os.getloadavg()[0]:.1f}.")
 
 
 if __name__ == "__main__":

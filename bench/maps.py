@@ -1,10 +1,9 @@
 """The part of bench/all.sh that maps each circuit with each library by both programs: as given, and after front ends of ABC."""
-import json
 import os
 import statistics
 
 from lib import fronts
-from measure import ABC, UNMAP, common, head, mean, plain, ratio, row, said, tell
+from measure import ABC, UNMAP, common, counted, head, mean, plain, ratio, row, said
 
 ROUNDS = fronts.rounds(3)
 SCRIPTS = {"map": "strash; map", "dch; map": "strash; dch; map", "three rounds": f"{ROUNDS}; map"}
@@ -16,17 +15,16 @@ AFTER = ["after " + name for name in [*FRONTS, *MAPPED]]
 class Circuit:
     """The figures of one circuit with one library. A time is a list of processor seconds, in order."""
 
-    def __init__(self, room, library, network, verdicts):
-        self.room, self.library, self.network, self.verdicts, self.figures = room, library, network, verdicts, {}
+    def __init__(self, room, library, network):
+        self.room, self.library, self.network, self.figures = room, library, network, {"verdicts": []}
 
     def ours(self, key, path):
         run, size = self.room.mapped(self.library, path, "map")
         if size:
             self.figures[key], self.figures[key + " area"] = size
             self.figures[key + " MB"] = run.memory
-            if self.verdicts is not None and key in ("given", "after three rounds"):
-                verdict = self.room.equivalent(self.network, self.library.plain(self.room, run.out))
-                self.verdicts[verdict] = self.verdicts.get(verdict, 0) + 1
+            if ABC and os.environ.get("CEC") and key in ("given", "after three rounds"):
+                self.figures["verdicts"].append(self.room.equivalent(self.network, self.library.plain(self.room, run.out)))
 
     def theirs(self, key, script, then=""):
         run, size = self.room.mapped_by_abc(self.library, self.network, script, then)
@@ -62,23 +60,15 @@ class Circuit:
                 self.ours("after " + name, self.room.path(front))
 
 
-def measure(room, libraries, sets):
-    """For each set and library the figures of each circuit. KEEP names a file that keeps them, so that a run can go on later."""
-    kept = os.environ.get("KEEP")
-    known = json.load(open(kept, encoding="ascii")) if kept and os.path.exists(kept) else {}
-    found, verdicts = {}, {} if ABC and os.environ.get("CEC") else None
+def measure(room, kept, libraries, sets):
+    """For each set and library the figures of each circuit, and what cec said of netlists."""
+    found, verdicts = {}, []
     for library in libraries:
         for folder, circuits in sets.items():
             figures = found[folder, library.name] = {}
             for circuit, network in circuits.items():
-                key = f"{folder} {library.name} {circuit}"
-                if key not in known:
-                    known[key] = Circuit(room, library, network, verdicts).measure()
-                    tell(key)
-                    if kept:
-                        with open(kept, "w", encoding="ascii") as out:
-                            json.dump(known, out)
-                figures[circuit] = known[key]
+                figures[circuit] = kept.of("maps", folder, library.name, circuit, make=Circuit(room, library, network).measure)
+                verdicts += figures[circuit]["verdicts"]
     return found, verdicts
 
 
@@ -95,9 +85,8 @@ def summary(found, verdicts):
             cells += [delay, order, ratio(figures, "given area", name + " area", 2)[0]]
         row(*cells)
     after(found)
-    if verdicts is not None:
-        said_of = ", ".join(f"{n} {name}" for name, n in sorted(verdicts.items()))
-        print(f"Netlists of `lwmap` compared with their circuits by `cec`: {said_of}.\n")
+    if verdicts:
+        print(f"Netlists of `lwmap` compared with their circuits by `cec`: {counted(verdicts)}.\n")
 
 
 def after(found):
@@ -134,7 +123,7 @@ def times(found):
         both = [f for f in figures.values() if f.get("given s") and f.get("map s")]
         if not both:
             continue
-        pairs = [(statistics.median(f["given s"]), statistics.median(f["map s"])) for f in both]
+        pairs = [(min(f["given s"]), min(f["map s"])) for f in both]
         less = [max(a - f["given start"], 1e-4) / max(b - f["map start"], 1e-4) for (a, b), f in zip(pairs, both)]
         row(f"{folder}, {library}", len(both), said(mean([a / b for a, b in pairs])), said(mean(less)), sum(a > b for a, b in pairs),
             said(sum(a for a, _ in pairs), 2), said(sum(b for _, b in pairs), 2),

@@ -1,6 +1,8 @@
 """What the scripts that measure share: runs of a command with their status, processor time and memory; libraries as both programs get
 them; means, counts and rows of tables. ABC gets a library with both block delays set to the larger one, and with constants and a
 buffer without delay."""
+import hashlib
+import json
 import math
 import os
 import resource
@@ -10,11 +12,12 @@ import sys
 import time
 
 import tables
-from lib import genlib
+from lib import genlib, script
 from lib.timing import Timing, unmap
 
 LIMIT = int(os.environ.get("LIMIT", "10"))
 RUNS = int(os.environ.get("RUNS", "3"))
+KEEP = os.environ.get("KEEP")
 ABC = shutil.which("berkeley-abc")
 UNMAP = "; unmap; sop"
 
@@ -101,6 +104,47 @@ class Room:
         return "different" if "NOT EQUIVALENT" in said_of else "equivalent" if "are equivalent" in said_of else "undecided"
 
 
+class Kept:
+    """What was measured, by the words that name it. KEEP names a file that keeps it, so that a run that was ended can go on; it is for
+    one program alone."""
+
+    def __init__(self, program):
+        with open(program, "rb") as file:
+            self.found = {"program": hashlib.sha256(file.read()).hexdigest()}
+        if KEEP and os.path.exists(KEEP):
+            with open(KEEP, encoding="ascii") as file:
+                known = json.load(file)
+            if known["program"] != self.found["program"]:
+                raise script.Fault(f"{KEEP} keeps figures of another program")
+            self.found = known
+
+    def of(self, *words, make):
+        """The figures of that name, measured by a call where they are not known."""
+        name = " ".join(words)
+        if name not in self.found:
+            before = spent()
+            figures = make()
+            self.found[name] = {"figures": figures, "seconds": spent() - before}
+            tell(name)
+            self.write()
+        return self.found[name]["figures"]
+
+    def write(self):
+        if KEEP:
+            with open(KEEP + ".new", "w", encoding="ascii") as out:
+                json.dump(self.found, out, indent=0)
+            os.replace(KEEP + ".new", KEEP)
+
+    def seconds(self):
+        return sum(part["seconds"] for name, part in self.found.items() if name != "program")
+
+
+def spent():
+    """The processor seconds of all calls so far."""
+    used = resource.getrusage(resource.RUSAGE_CHILDREN)
+    return used.ru_utime + used.ru_stime
+
+
 class Library:
     """A library as lwmap gets it, and as ABC gets it."""
 
@@ -147,6 +191,11 @@ def counts(pairs):
     """In how many pairs the first is lower, equal, higher."""
     return "/".join(str(sum(test(a, b) for a, b in pairs)) for test in
                     (lambda a, b: a < b, lambda a, b: a == b, lambda a, b: a > b))
+
+
+def counted(verdicts):
+    """How many there are of each verdict."""
+    return ", ".join(f"{verdicts.count(one)} {one}" for one in sorted(set(verdicts)))
 
 
 def ratio(figures, one, other, digits=3, among=None):

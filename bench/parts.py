@@ -2,13 +2,12 @@
 import math
 import os
 import re
-import statistics
 import subprocess
 import sys
 
 from lib.liberty import without
 from maps import ROUNDS, SCRIPTS
-from measure import ABC, LIMIT, UNMAP, Library, common, head, mean, ratio, row, said, table_size, tell
+from measure import ABC, LIMIT, UNMAP, Library, common, counted, head, mean, ratio, row, said, table_size
 
 HERE = os.path.dirname(os.path.realpath(__file__))
 ROOT = os.path.dirname(HERE)
@@ -32,7 +31,7 @@ def trade_circuit(room, library, network):
     if not size:
         return f
     f["map"], f["map area"] = size
-    f["map s"] = statistics.median(room.timed([room.program, "map", library.path, network]))
+    f["map s"] = min(room.timed([room.program, "map", library.path, network]))
     for name, part in TRADES.items():
         run, size = room.mapped(library, network, "trade", "none" if part is None else deadline(f["map"], part))
         if size:
@@ -44,15 +43,14 @@ def trade_circuit(room, library, network):
     return f
 
 
-def trade(room, libraries, circuits):
+def trade(room, kept, libraries, circuits):
     """Prints the table, and gives for each library the figures of each circuit."""
     print(f"### Area under a deadline\n\nRatios to `map` of `lwmap`. A run may take {HALF} s.\n")
     room.limit, found = HALF, {}
     for library in libraries:
         figures = found[library.name] = {}
         for circuit, network in circuits.items():
-            figures[circuit] = trade_circuit(room, library, network)
-            tell("trade", library.name, circuit)
+            figures[circuit] = kept.of("trade", library.name, circuit, make=lambda: trade_circuit(room, library, network))
     room.limit = LIMIT
     head("library", "way", "circuits that ended", "delay", "area", "in common", "delay", "area", "time", "greatest MB")
     for library, figures in found.items():
@@ -87,17 +85,16 @@ def mended(path, made):
             out.write(line)
 
 
-def lut_circuit(room, network, verdicts):
+def lut_circuit(room, network):
     """Depth and tables of each column."""
-    f = {}
+    f = {"verdicts": []}
 
     def ours(key, fanins, path):
         run = room.lwmap(["lut", fanins, path], "lut.blif")
         if run.ok():
             f[key], f[key + " tables"] = table_size(run.out)
             mended(run.out, room.path("mended.blif"))
-            verdict = room.equivalent(network, room.path("mended.blif"))
-            verdicts[verdict] = verdicts.get(verdict, 0) + 1
+            f["verdicts"].append(room.equivalent(network, room.path("mended.blif")))
     ours("`lut 4`", "4", network)
     ours("`lut 6`", "6", network)
     for name, script in LUTS.items():
@@ -109,26 +106,34 @@ def lut_circuit(room, network, verdicts):
     return f
 
 
-def luts(room, circuits):
+def luts(room, kept, circuits):
     print("### Lookup tables\n\nDepth and number of tables.\n")
     columns = ["`lut 4`", "`if -K 4`", "`lut 6`", "`if -K 6`", "`dch; if -K 6`", "rounds, `if -K 6`", "rounds, `lut 6`"]
     head("circuit", *columns)
-    figures, verdicts = {}, {}
+    figures = {}
     for circuit, network in circuits.items():
-        f = figures[circuit] = lut_circuit(room, network, verdicts)
+        f = figures[circuit] = kept.of("lut", circuit, make=lambda: lut_circuit(room, network))
         row(circuit, *[f"{f[name]}, {f[name + ' tables']}" if name in f else "-" for name in columns])
-        tell("lut", circuit)
     print()
     head("ratio", "circuits", "depth", "lower/equal/higher", "tables")
     for one, other in PAIRS:
         depth, number, order = ratio(figures, one, other, 2)
         row(f"{one} to {other}", number, depth, order, ratio(figures, one + " tables", other + " tables", 2)[0])
-    print(f"\nCompared with the circuits by `cec`: {', '.join(f'{n} {name}' for name, n in sorted(verdicts.items()))}.\n")
+    print(f"\nCompared with the circuits by `cec`: {counted([one for f in figures.values() for one in f['verdicts']])}.\n")
 
 
 # Options and certificates
 
-def options(room, libraries, circuits, title, base, tried):
+def option_circuit(room, library, network, tried):
+    f = {}
+    for words in tried:
+        run, size = room.mapped(library, network, "map", *words.split())
+        if size:
+            f[words], f[words + " s"] = size[0], run.seconds
+    return f
+
+
+def options(room, kept, libraries, circuits, title, base, tried):
     """Delay and time of `map` with several options, as ratios to one of them."""
     print(f"### {title}\n\nRatios to `{base}`. A run may take {HALF} s.\n")
     head("library", "options", "circuits that ended", "delay", "lower/equal/higher", "in common", "delay", "time", "greatest s")
@@ -136,12 +141,7 @@ def options(room, libraries, circuits, title, base, tried):
     for library in libraries:
         figures = {}
         for circuit, network in circuits.items():
-            f = figures[circuit] = {}
-            for words in tried:
-                run, size = room.mapped(library, network, "map", *words.split())
-                if size:
-                    f[words], f[words + " s"] = size[0], run.seconds
-            tell(title, library.name, circuit)
+            figures[circuit] = kept.of(title, library.name, circuit, make=lambda: option_circuit(room, library, network, tried))
         among = common(figures, tried)
         for words in tried:
             delay, number, order = ratio(figures, words, base)
@@ -152,27 +152,30 @@ def options(room, libraries, circuits, title, base, tried):
     print()
 
 
-def certificates(room, libraries, circuits):
+def certificate_circuit(room, library, network):
+    run = room.lwmap(["map", "-c", library.path, network], "mapped.blif")
+    if not run.ok():
+        return {}
+    f = {"yes": room.lwmap(["check", library.path, network, run.out], "answer").ok()}
+    f["map s"] = min(room.timed([room.program, "map", "-c", library.path, network]))
+    f["check s"] = min(room.timed([room.program, "check", library.path, network, run.out]))
+    with open(run.out, encoding="latin-1") as text:
+        lines = text.readlines()
+    marks = sum(len(line) for line in lines if line.startswith("#@"))
+    return {**f, "size": marks / max(sum(map(len, lines)) - marks, 1)}
+
+
+def certificates(room, kept, libraries, circuits):
     print("### Certificates\n")
     head("library", "circuits that got `yes`", "`check` to `map -c`, time", "greatest ratio", "greatest s of `check`",
          "bytes of certificate to netlist")
     for library in libraries:
-        ratios, seconds, sizes, accepted = [], [], [], 0
-        for circuit, network in circuits.items():
-            run = room.lwmap(["map", "-c", library.path, network], "mapped.blif")
-            if not run.ok():
-                continue
-            accepted += room.lwmap(["check", library.path, network, run.out], "answer").ok()
-            made = statistics.median(room.timed([room.program, "map", "-c", library.path, network]))
-            seconds.append(statistics.median(room.timed([room.program, "check", library.path, network, run.out])))
-            ratios.append(seconds[-1] / made)
-            with open(run.out, encoding="latin-1") as text:
-                lines = text.readlines()
-            marks = sum(len(line) for line in lines if line.startswith("#@"))
-            sizes.append(marks / max(sum(map(len, lines)) - marks, 1))
-            tell("certificates", library.name, circuit)
-        row(library.name, f"{accepted} of {len(circuits)}", said(mean(ratios), 2), said(max(ratios, default=None), 2),
-            said(max(seconds, default=None), 2), said(mean(sizes), 1))
+        found = [kept.of("certificates", library.name, circuit, make=lambda: certificate_circuit(room, library, network))
+                 for circuit, network in circuits.items()]
+        found = [f for f in found if f]
+        ratios = [f["check s"] / f["map s"] for f in found]
+        row(library.name, f"{sum(f['yes'] for f in found)} of {len(circuits)}", said(mean(ratios), 2), said(max(ratios, default=None), 2),
+            said(max((f["check s"] for f in found), default=None), 2), said(mean([f["size"] for f in found]), 1))
     print()
 
 
@@ -183,22 +186,26 @@ SIZES = [("multiplier of 32 bits", "gen -N 32 -m"), ("multiplier of 64 bits", "g
          ("sorter of 256", "gen -N 256 -s")]
 
 
-def sizes(room, library):
+def size_circuit(room, library, script):
+    """The cells of the row of a circuit."""
+    raw, network = room.path("raw.blif"), room.path("size.blif")
+    room.abc(f"{script} {raw}; read_blif {raw}; strash; write_blif {network}", "size.blif")
+    with open(network, encoding="latin-1") as text:
+        nodes = sum(line.startswith(".names") for line in text)
+    theirs, a = room.mapped_by_abc(library, network, SCRIPTS["map"])
+    ours, b = room.mapped(library, network, "map")
+    return [f"{nodes:,}", said(theirs.seconds, 2) if a else f"over {room.limit}", f"{theirs.memory:.0f}",
+            said(ours.seconds, 2) if b else f"over {room.limit}", f"{ours.memory:.0f}",
+            said(b[0] / a[0]) if a and b else "-", said(b[1] / a[1], 2) if a and b else "-"]
+
+
+def sizes(room, kept, library):
     """Circuits that ABC generates, so that they are the same for everybody."""
     room.limit = 6 * LIMIT
     print(f"### Size, with {library.name}\n\nCircuits of ABC's `gen`, as AIGs. One run each, of at most {room.limit} s.\n")
     head("circuit", "AND nodes", "ABC `map`: s", "MB", "`lwmap`: s", "MB", "delay to ABC", "area to ABC")
     for name, script in SIZES:
-        raw, network = room.path("raw.blif"), room.path("size.blif")
-        room.abc(f"{script} {raw}; read_blif {raw}; strash; write_blif {network}", "size.blif")
-        with open(network, encoding="latin-1") as text:
-            nodes = sum(line.startswith(".names") for line in text)
-        theirs, a = room.mapped_by_abc(library, network, SCRIPTS["map"])
-        ours, b = room.mapped(library, network, "map")
-        row(name, f"{nodes:,}", said(theirs.seconds, 2) if a else f"over {room.limit}", f"{theirs.memory:.0f}",
-            said(ours.seconds, 2) if b else f"over {room.limit}", f"{ours.memory:.0f}",
-            said(b[0] / a[0]) if a and b else "-", said(b[1] / a[1], 2) if a and b else "-")
-        tell("size", name)
+        row(name, *kept.of("size", name, make=lambda: size_circuit(room, library, script)))
     room.limit = LIMIT
     print()
 
@@ -236,7 +243,7 @@ def loads_circuit(room, library, liberty, network, script):
     return f
 
 
-def loads(room, circuits):
+def loads(room, kept, circuits):
     """With a library in Liberty, whose loads and slews ABC's 'stime' counts. Pads and buffers for clocks are left out."""
     liberty = os.environ.get("LIBERTY", "/usr/share/qflow/tech/osu035/osu035_stdcells.lib")
     print("### Real loads\n")
@@ -252,8 +259,8 @@ def loads(room, circuits):
     for kind, name in (("as given", "map"), ("after three rounds", "three rounds")):
         figures = {}
         for circuit, network in circuits.items():
-            figures[circuit] = loads_circuit(room, library, room.path("given.lib"), network, SCRIPTS[name])
-            tell("loads", kind, circuit)
+            figures[circuit] = kept.of("loads", kind, circuit, make=lambda: loads_circuit(room, library, room.path("given.lib"), network,
+                                                                                          SCRIPTS[name]))
         for step in ["own", *STEPS]:
             delay, number, order = ratio(figures, "lwmap " + step, "abc " + step)
             row(kind, {"own": "block delays"}.get(step, f"`stime`, {step}"), number, delay, order,
@@ -261,14 +268,17 @@ def loads(room, circuits):
     print()
 
 
-def texts():
+def printed_by(name, environment):
+    """What a script of this folder prints."""
+    run = subprocess.run(["sh", os.path.join(HERE, name + ".sh")], capture_output=True, text=True, env={**os.environ, **environment},
+                         check=False)
+    return run.stdout or f"failed: {run.stderr[:200]}\n"
+
+
+def texts(kept):
     """What the scripts for texts and limits print; gives it by script."""
     printed = {}
     for name, environment in (("layers", {}), ("blif", {}), ("verilog", {"RUNS": "1"}), ("sim", {})):
-        print(f"### `bench/{name}.sh`\n", flush=True)
-        run = subprocess.run(["sh", os.path.join(HERE, name + ".sh")], capture_output=True, text=True, env={**os.environ, **environment},
-                             check=False)
-        printed[name] = run.stdout
-        print(run.stdout or f"failed: {run.stderr[:200]}\n")
-        tell(name)
+        printed[name] = kept.of("texts", name, make=lambda: printed_by(name, environment))
+        print(f"### `bench/{name}.sh`\n\n{printed[name]}", flush=True)
     return printed

@@ -5,21 +5,22 @@
 
   -e EFFORTS  efforts of lwflow, in one word ('fast normal best')
   -l LIBS     libraries, in one word: names of bench/libs, files of genlib, 'osu035' for Debian's qflow-tech-osu035 by delays of
-              cells, 'osu035+loads' where the delay of the netlist that ABC has buffered and sized under loads counts
+              cells, 'osu035+loads' for the delays of netlists that ABC has buffered and sized under loads
               ('tiny mcnc rich osu035 osu035+loads')
-  -r RAW      the file of raw results, a line of CSV each (quality.csv); what stands there is not measured again
+  -r RAW      the file of raw results, a line of CSV each (quality.csv); what is there for the present program is not measured again
   -n          measures nothing, and prints the tables of what RAW has
   -t          the small circuits first
 
 Without words the circuits are those of bench/circuits and bench/further. For each library there is a table: for each flow the geometric means of
 delay and area to ABC's 'strash; map' of the circuit as given, the processor seconds of all its circuits, and how many circuits it
-has; 'ABC, best' is by circuit the best of ABC's flows. The means of two flows can be compared where both have all
+has; 'ABC, best' is by circuit the best of ABC's flows. The means of two flows can be compared if both have all
 circuits; the lines 'on the same circuits' compare each effort of lwflow with ABC's best on the circuits that both have. Netlists
-of lwflow are counted where every step was shown; how many were not is said. One step at a time is run.
+of lwflow count even if a step was not decided; how many have one is said. One step at a time is run.
 """
 import csv
 import getopt
 import glob
+import hashlib
 import json
 import math
 import os
@@ -35,7 +36,7 @@ from lib.script import Fault
 OSU = "/usr/share/qflow/tech/osu035/osu035_stdcells.lib"
 THEIRS = ["map", "dch; map", *(f"{k} round{'s' * (k > 1)}" for k in range(1, 5))]
 LIMIT = 120
-FIELDS = "library circuit flow delay area seconds status".split()
+FIELDS = "library circuit flow delay area seconds status program".split()
 
 
 def library_of(name):
@@ -48,18 +49,25 @@ def library_of(name):
     return (own if os.path.exists(own) else name), False
 
 
+def hash_of(path):
+    """The first digits of the SHA-256 of a file."""
+    with open(path, "rb") as file:
+        return hashlib.sha256(file.read()).hexdigest()[:16]
+
+
 class Raw:
-    """The file of raw results."""
+    """The file of raw results. What lwflow found with another program than the present one does not count."""
 
     def __init__(self, path):
-        self.path, self.rows = path, {}
+        self.path, self.rows, self.program = path, {}, hash_of(program.path())
         if os.path.exists(path):
             with open(path, encoding="utf-8", newline="") as file:
                 for row in csv.DictReader(file):
-                    self.rows[row["library"], row["circuit"], row["flow"]] = row
+                    if row["flow"].startswith("ABC") or row.get("program") == self.program:
+                        self.rows[row["library"], row["circuit"], row["flow"]] = row
 
     def add(self, *values):
-        row = dict(zip(FIELDS, values))
+        row = dict(zip(FIELDS, (*values, "" if values[2].startswith("ABC") else self.program)))
         fresh = not os.path.exists(self.path)
         with open(self.path, "a", encoding="utf-8", newline="") as file:
             writer = csv.DictWriter(file, FIELDS)
@@ -200,6 +208,7 @@ def main(words):
                 for effort in efforts:
                     ours(raw, name, circuit, circuits[circuit], effort)
             print(f"quality: {circuit}", file=sys.stderr, flush=True)
+    print(f"lwmap of SHA-256 {raw.program}\n")
     for name in names:
         print("\n".join(table(raw, name, efforts)) + "\n")
 

@@ -12,7 +12,6 @@ A time with more points than the program deals with is told, and left out. The p
 Example: python3 examples/curve.py bench/libs/mcnc.genlib bench/circuits/alu8_r.blif curve.svg
 """
 import getopt
-import math
 import os
 import subprocess
 import sys
@@ -62,12 +61,6 @@ def sizes(options, library, network, factors):
     return [one for one in found if one]
 
 
-def steps(least, most):
-    """Round numbers between two, eight or nine at most."""
-    step = next(part * 10.0 ** power for power in range(-6, 20) for part in (1, 2, 5) if most - least <= 8 * part * 10.0 ** power)
-    return [number * step for number in range(math.ceil(least / step), math.floor(most / step) + 1)]
-
-
 class Panel:
     """Delay against one of the areas."""
 
@@ -87,10 +80,10 @@ class Panel:
 
     def draw(self):
         parts = [svg.text(self.left, TOP - 10, self.title)]
-        for area in steps(0, self.most):
+        for area in svg.steps(0, self.most):
             parts += [svg.line(self.left, self.y(area), self.left + INNER, self.y(area), "axis" if area == 0 else "rule"),
                       svg.text(self.left - 6, self.y(area) + 4, f"{area:.10g}", "small", "end")]
-        for delay in steps(self.first, self.last):
+        for delay in svg.steps(self.first, self.last):
             parts += [svg.line(self.x(delay), HEIGHT - BOTTOM, self.x(delay), HEIGHT - BOTTOM + 5, "axis"),
                       svg.text(self.x(delay), HEIGHT - BOTTOM + 19, f"{delay:.10g}", "small", "middle")]
         traded = sorted((delay, area) for one, delay, area in self.found if one.kind != "map")

@@ -105,7 +105,7 @@ def network(draw):
 
 
 def options(draw):
-    """The further laws bring so many matches that they are tried at small widths alone."""
+    """The further rules bring so many matches that they are tried at small widths alone."""
     if draw.random() < 0.4:
         return ["-w", draw.choice("23"), "-i"]
     return draw.choice([[], ["-w", str(draw.randint(2, 8))]])

@@ -11,8 +11,8 @@
 #
 # With words it takes these alone (a file's name without its ending). It needs Yosys and ABC, and says 'skipped' where they are
 # not there; without Icarus Verilog nothing is simulated, which is said too. The program is the one that release/program.sh
-# finds. LIBRARY names the library (mcnc), EFFORT the effort (fast), LIMIT the seconds that one step of the second opinion may
-# take (120). The last line is 'N passed, N failed'.
+# finds. LIBRARY names the library (mcnc), EFFORT the effort (fast), LIMIT the processor seconds that one step of the second
+# opinion may take (120). The last line is 'N passed, N failed'.
 set -u
 export LC_ALL=C
 root=$(dirname -- "$(dirname -- "$(readlink -f -- "$0")")")
@@ -90,11 +90,11 @@ flow() { # FILE TOP
 # Both sides by Yosys: nets of one name are taken for equal at some steps, and have to be equal at the next. A clock is a
 # signal there, so that its edges count.
 opinion() { # FILE TOP MADE WHAT
-    timeout "$LIMIT" yosys -q -p "read_verilog \"$verilog/$1\"; hierarchy -check -top $2; proc; flatten; memory -nordff -nomap
+    (ulimit -t "$LIMIT" && exec yosys -q -p "read_verilog \"$verilog/$1\"; hierarchy -check -top $2; proc; flatten; memory -nordff -nomap
         opt_clean; memory_map; opt_clean; splitnets; rename $2 given; design -stash given
         read_verilog \"$room/$2/cells.v\" \"$3\"; hierarchy -check -top $2; proc; flatten; opt_clean; splitnets; rename $2 made; design -stash made
         design -copy-from given given; design -copy-from made made; equiv_make given made both; hierarchy -top both
-        clk2fflogic; opt_clean; equiv_simple -undef -seq 2; equiv_induct -undef; equiv_status -assert" >"$room/out" 2>"$room/err"
+        clk2fflogic; opt_clean; equiv_simple -undef -seq 2; equiv_induct -undef; equiv_status -assert") >"$room/out" 2>"$room/err"
     verdict "$2, by Yosys alone: $4" $?
 }
 

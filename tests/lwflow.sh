@@ -91,6 +91,8 @@ run "version" 0 '^lwflow [0-9]' --version
 run "an empty design" 1 'is empty' -q -l $library "$room/empty.blif"
 printf 'GATE inv 1 O=!a;\n PIN * INV 1 999 1 0 1 0\nGATE nd 2 O=~(a*b);\n PIN * INV 1 999 1 0 1 0\n' >"$room/tilde.genlib"
 run "a tilde in a library" 1 'a complement is written !' -q -l "$room/tilde.genlib" bench/circuits/rca8_y.blif
+printf ' \n\n' >"$room/blank.v"
+run "a blank design" 1 'is empty' -q -l $library "$room/blank.v"
 run "what is no library" 1 'README.md: GATE expected' -q -l README.md bench/circuits/rca8_y.blif
 mkdir "$room/here" && cp examples/verilog/adder.v "$room/here/mapped.v"
 python3 lwflow -q -o "$room/here" -l $library "$room/here/mapped.v" >"$room/out" 2>"$room/err"
@@ -104,8 +106,30 @@ run "models in models, with a clock" 0 'models in models by Yosys' -q -l $librar
 run "a mapped netlist" 0 '.gate as the function of its cell' -q --effort fast -l $library "$room/gates.blif"
 berkeley-abc -q "read_blif bench/circuits/rca8_y.blif; strash; write_aiger $room/x.aig" >/dev/null 2>&1
 run "AIGER" 0 'every step was shown' -q --effort fast -l $library "$room/x.aig"
+printf '\357\273\277.model people\n.inputs a b\n.cname x\n.outputs f g\n.conn a t\n.names t $true b f\n111 1\n.names b g\n0 1\n.end\n' >"$room/people.blif"
+run "BLIF as people have it" 0 'rewritten: .*byte order mark.*\.cname.*\.conn.*\$true' -q --effort fast -l $library "$room/people.blif"
+printf '.i 3\n.o 1\n1-1 1\n01- 1\n.e\n' >"$room/two.pla"
+run "what ABC reads by its ending" 0 'shown: file to network, as ABC reads it, by cec' -q --effort fast -l $library "$room/two.pla"
+printf 'aag 7 2 1 3 4\n2\n4\n6 14 1\n6\n15\n0\n8 2 4\n10 3 5\n12 9 11\n14 12 7\ni0 x\ni1 y\nl0 q\no0 q\no1 y\nc\nno symbol\n' >"$room/x.aag"
+run "AIGER's text format" 0 "shown: file to network, beside Yosys's reading" -q --effort fast -l $library "$room/x.aag"
+grep -q '^\.outputs q y_2 o2$' "$room/made/mapped.blif" && grep -q '^\.latch .* q 1$' "$room/made/mapped.blif"
+verdict "AIGER's text format: names and first values" $?
+sed 's/^14 12 7/14 12 16/' "$room/x.aag" >"$room/y.aag"
+run "AIGER without sense" 1 'y.aag: line 11: 3 literals of at most 15 expected' -q -l $library "$room/y.aag"
+printf '.model k\n.inputs d c\n.outputs q\n.latch d q re c 0\n.end\n' >"$room/latch.blif"
+run "a latch alone" 0 'every step was shown' -q --effort fast -l $library "$room/latch.blif"
+! grep -q '^left out' "$room/out"
+verdict "a latch alone: nothing is left out" $?
 python3 lwflow -q -o "$room/made" --effort fast -l $library - <bench/circuits/rca8_y.blif >"$room/out" 2>"$room/err"
 verdict "standard input" $?
+(cd "$room" && python3 "$root/lwflow" -q --effort fast -l "$root/$library" two.pla >out 2>err && [ -s two.lwflow/mapped.v ])
+verdict "the folder without -o" $?
+run "a limit that is too low names its option" 0 'note: --limit SECONDS gives a step more time' -q --limit 0.01 -l $library bench/circuits/div16_a.blif
+run "an area within a time" 0 'every step was shown' -q --effort fast --area 18.5 -l $library bench/circuits/rca8_y.blif
+run "a time that nothing reaches" 1 'no netlist is as early as --area asks' -q --effort fast --area 1 -l $library bench/circuits/rca8_y.blif
+awk 'BEGIN { print ".model large\n.inputs a b\n.outputs n263000\n.names a b n0\n11 1"
+    for (i = 1; i <= 263000; i++) print ".names n" i - 1 " " (i % 2 ? "a" : "b") " n" i "\n11 1"; print ".end" }' >"$room/large.blif"
+run "more signals than lwmap takes" 1 'large.blif: the network has more than 262144 signals, .*tools/yosys-lwmap' -q -l $library "$room/large.blif"
 run "an area within 110% of the least delay" 0 'every step was shown' -q --area 110% -l $library bench/circuits/rca8_y.blif
 
 # Liberty.
@@ -114,6 +138,9 @@ if [ -r "$osu" ]; then
     run "Liberty, judged by loads" 0 'netlist to sized netlist' -q --effort fast -l "$osu" examples/verilog/alu.v
     grep -q 'sized delay' "$room/out" && grep -q 'pads and buffers for clocks): CLKBUF1' "$room/out"
     verdict "Liberty: what was left out" $?
+    run "Liberty, judged by the delays of its cells" 0 'every step was shown' -q --no-loads --effort fast -l "$osu" bench/circuits/rca8_y.blif
+    ! grep -q 'sized' "$room/out"
+    verdict "--no-loads sizes nothing" $?
 else
     echo "skipped: there is no $osu"
 fi
@@ -167,6 +194,22 @@ verdict "in ABC's place inside Yosys" $?
 yosys -q -l "$room/log" -p "read_verilog examples/verilog/five.v; synth -flatten -noabc -top five; abc -exe $root/tools/yosys-lwmap -genlib $root/README.md" >"$room/out" 2>"$room/err"
 [ $? -ne 0 ] && grep -q 'ABC: lwmap: no netlist: .*GATE expected' "$room/log"
 verdict "in Yosys with what is no library" $?
+yosys -p "read_verilog examples/verilog/five.v; synth -flatten -noabc -top five; abc -exe $root/tools/yosys-lwmap -genlib $root/README.md" 2>"$room/err" | cat >"$room/out"
+grep -q '^ABC: lwmap: no netlist: .*GATE expected' "$room/out"
+verdict "in Yosys with what is no library, through a pipe" $?
+
+LWMAP_EFFORT=fast yosys -q -l "$room/log" -p "read_verilog examples/verilog/adder.v; synth -noabc -top adder; abc -exe $root/tools/yosys-lwmap -genlib $root/$library" \
+    >"$room/out" 2>"$room/err"
+[ $? -eq 0 ] && [ "$(grep -c 'ABC: lwmap: delay .*each shown' "$room/log")" -eq 1 ] && grep -q '^     full_adder ' "$room/log"
+verdict "in Yosys, module by module" $?
+yosys_calls() { # LIB BLIF TEXT
+    printf 'read_blif "%s"\nread_library %s\nwrite_blif %s\n' "$2" "$1" "$room/never.blif" >"$room/abc.script"
+    ! python3 tools/yosys-lwmap -s -f "$room/abc.script" >"$room/out" 2>"$room/err" && grep -q "lwmap: no netlist: .*$3" "$room/out" && [ ! -e "$room/never.blif" ]
+}
+yosys_calls "$room/tilde.genlib" bench/circuits/rca8_y.blif 'a complement is written !'
+verdict "in Yosys with a tilde in the library" $?
+yosys_calls $library "$room/large.blif" 'more than 262144 signals'
+verdict "in Yosys with a module that is too large" $?
 
 echo "$passed passed, $failed failed"
 [ "$failed" -eq 0 ] && [ "$passed" -gt 0 ]

@@ -13,6 +13,7 @@ none failed.
 import itertools
 import os
 import re
+import resource
 import shutil
 import subprocess
 import sys
@@ -50,13 +51,18 @@ def lacks(page):
     return missing + ([LIBERTY] if LIBERTY in text and not os.path.exists(LIBERTY) else [])
 
 
+def bounded():
+    """Bounds the processor time of each process, so that a busy machine changes no result."""
+    resource.setrlimit(resource.RLIMIT_CPU, (SECONDS, SECONDS))
+
+
 def run(commands, folder):
     """The status of commands, and what they print on both streams."""
     try:
         done = subprocess.run(["sh", "-c", commands], cwd=folder, stdout=subprocess.PIPE, stderr=subprocess.STDOUT,
-                              stdin=subprocess.DEVNULL, timeout=SECONDS, text=True, errors="replace", check=False)
+                              stdin=subprocess.DEVNULL, timeout=30 * SECONDS, text=True, errors="replace", check=False, preexec_fn=bounded)
     except subprocess.TimeoutExpired:
-        return 1, f"over {SECONDS} s"
+        return 1, f"over {30 * SECONDS} s by the clock"
     return done.returncode, done.stdout
 
 

@@ -1,8 +1,9 @@
 """ABC: scripts in a folder, whether two networks are the same, and netlists under a library of Liberty."""
+import filecmp
 import os
 import re
 
-from . import runs
+from . import blif, runs
 
 TOOL = "berkeley-abc"
 
@@ -27,8 +28,29 @@ def said(path):
         return file.read()
 
 
+def same(one, other):
+    """Whether two files hold the same text."""
+    return os.path.getsize(one) == os.path.getsize(other) and filecmp.cmp(one, other, shallow=False)
+
+
+def swept(one, other, room, log, limit):
+    """Whether ABC's '&cec' shows two networks equal. It goes by the order of inputs and outputs, so both have to name the same ones
+    in one order, and none may have latches. It is several times as fast as 'cec', and names no output that differs."""
+    if not (one.endswith(".blif") and other.endswith(".blif")):
+        return False
+    ends = [blif.ends_of(os.path.join(room, file)) for file in (one, other)]
+    if ends[0] is None or ends[0] != ends[1] or not all(ends[0]):
+        return False
+    made = [f"{log}.{k}.aig" for k in (0, 1)]
+    steps = [f"read_blif {file}; strash; write_aiger {aig}" for file, aig in zip((one, other), made)]
+    call("; ".join(steps + ["&cec " + " ".join(made)]), room, log, limit)
+    return "Networks are equivalent." in said(os.path.join(room, log))
+
+
 def cec(one, other, room, log, limit):
     """Whether two networks in a folder compute the same: 'equal', 'different' or 'undecided', and why."""
+    if same(os.path.join(room, one), os.path.join(room, other)) or swept(one, other, room, log + ".swept", limit / 2):
+        return "equal", ""
     path = os.path.join(room, log)
     if os.path.exists(path):
         os.remove(path)

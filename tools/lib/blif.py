@@ -42,6 +42,21 @@ def ports_of(path):
     return found
 
 
+def ends_of(path):
+    """The inputs and the outputs that stand before the first node; None if it has latches or several models."""
+    inputs, outputs, models = [], [], 0
+    for words in lines(path):
+        if words[0] == ".inputs":
+            inputs += words[1:]
+        elif words[0] == ".outputs":
+            outputs += words[1:]
+        elif words[0] == ".model":
+            models += 1
+        else:
+            break
+    return (inputs, outputs) if models == 1 and words[0] in (".names", ".end") else None
+
+
 def text(lists):
     """The file of some lists of words."""
     return "".join(" ".join(words) + "\n" for words in lists) + ".end\n"
@@ -58,6 +73,18 @@ def cut(path):
     roots = dict.fromkeys(whole.outputs + [net for latch in whole.latches for net in roots_of(latch)])
     ports = [whole.model, [".inputs"] + whole.inputs + [latch[2] for latch in whole.latches], [".outputs"] + list(roots)]
     return text(ports + whole.rest)
+
+
+def numbered(path):
+    """The network without its latches, as 'cut' has it, but with its inputs as i0, i1, .. and its outputs as o0, o1, .. in order."""
+    whole = ports_of(path)
+    inputs, outputs = whole.inputs + [latch[2] for latch in whole.latches], whole.outputs + [latch[1] for latch in whole.latches]
+    lines = [[".model", "numbered"], [".inputs"] + [f"i{k}" for k in range(len(inputs))], [".outputs"] + [f"o{k}" for k in range(len(outputs))]]
+    for k, net in enumerate(inputs):
+        lines += [[".names", f"i{k}", "@" + net], ["1", "1"]]
+    for k, net in enumerate(outputs):
+        lines += [[".names", "@" + net, f"o{k}"], ["1", "1"]]
+    return text(lines + [[".names"] + ["@" + net for net in words[1:]] if words[0] == ".names" else words for words in whole.rest])
 
 
 def restore(path, cut_path):

@@ -6,11 +6,11 @@ import signal
 import sys
 import tempfile
 
-from . import blif, genlib, library, networks, options, program, proof, report, runs, search, simulate, timing, verilog
+from . import blif, genlib, library, networks, options, page, program, proof, report, runs, search, simulate, timing, verilog
 from .script import Fault
 
 SHOWN, FAILED, UNDECIDED, DIFFERENT, NO_PROGRAM, INTERRUPTED = 0, 1, 3, 4, 69, 130
-RESULTS = ("mapped.blif", "mapped.v", "cells.v", "report.json", "log.txt")
+RESULTS = ("mapped.blif", "mapped.v", "cells.v", "report.html", "report.json", "log.txt")
 
 
 class Flow:
@@ -145,7 +145,7 @@ class Flow:
 
     def timed(self):
         """The figures of the netlist once more, by the timer of the scripts."""
-        found = timing.Timing(self.library.cells, self.path(self.best.file))
+        found = self.timing = timing.Timing(self.library.cells, self.path(self.best.file))
         if (found.max, found.area) != (self.best.delay, self.best.area):
             raise Fault(f"the figures of the netlist differ: {genlib.show(found.max)}, {genlib.show(found.area)} by tools/lib/timing.py, and "
                         f"{genlib.show(self.best.delay)}, {genlib.show(self.best.area)} by lwmap time")
@@ -189,11 +189,13 @@ def perform(chosen, room):
         data = report.data(flow)
         with open(flow.path("report.json"), "w", encoding="utf-8") as out:
             json.dump(data, out, indent=1)
+        with open(flow.path("report.html"), "w", encoding="utf-8") as out:
+            out.write(page.page(data))
         text = report.text(data)
         flow.log.write(text)
         flow.log.flush()
         made = [name for name in RESULTS if os.path.exists(flow.path(name))]
-        flow.place(made if flow.status != DIFFERENT else ["report.json", "log.txt"])
+        flow.place(made if flow.status != DIFFERENT else ["report.html", "report.json", "log.txt"])
     print(json.dumps(data, indent=1) if chosen.json else text, end="\n" if chosen.json else "")
     return flow.status
 

@@ -2,6 +2,7 @@
 library that ABC has read."""
 
 ROUND = "if -g -K 6; strash; dch"
+QUICK = "if -g -K 6; strash; dch -f -C 100"
 BACK = "map; unmap; sop"
 FRONTS = {
     "given": "",

@@ -69,6 +69,13 @@ def without(patterns, text, every=False):
     return "".join(kept) + text[at:], asked, alone
 
 
+def areas(text):
+    """The area of each cell that gives one, by name."""
+    plain = bare(text)
+    found = {name: re.search(r"\barea\s*:\s*\"?([0-9.]+(?:[eE][+-]?[0-9]+)?)", plain[start:end]) for name, start, end in groups(plain, "cell")}
+    return {name: float(area[1]) for name, area in found.items() if area}
+
+
 def functions(text):
     """The cells with one output and a function, by name, with area 0 and delays of 0."""
     plain, found = bare(text), {}

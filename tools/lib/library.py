@@ -84,6 +84,9 @@ def size(work, netlist):
     except Fault as fault:
         work.lost.append(f"sizing of {netlist.said()}: {fault}")
         return None
+    if not blif.first_word(work.path(stem + ".flat"), (".gate",)):
+        netlist.sized = (0.0, 0.0, stem + ".flat")
+        return netlist
     buffers = any(len(cell.pins) == 1 and genlib.truth(cell.funs[0], cell.pins) == 2 for cell in work.library.sizes.values())
     found = abc.sized(stem + ".flat", "lib.scl", stem + ".sized", work.room, stem + ".log", work.search, buffers)
     if found is None:

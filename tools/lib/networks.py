@@ -3,12 +3,11 @@ import os
 import re
 import shutil
 
-from . import abc, blif, genlib, program, runs, timing, yosys
+from . import abc, aiger, blif, genlib, program, runs, search, timing, yosys
 from .proof import Step, same
 from .script import Fault
 
 BY_ABC = (".aig", ".pla", ".bench", ".eqn", ".baf", ".truth")
-BY_YOSYS = (".aag",)
 IDLE = (".cname", ".attr", ".param", ".area", ".delay", ".wire_load_slope", ".input_drive", ".output_load", ".default_input_drive",
         ".default_output_load", ".default_max_input_load", ".max_input_load", ".input_required", ".output_required",
         ".default_output_required", ".default_input_required", ".clock_event", ".cycle", ".search")
@@ -32,9 +31,8 @@ class Network:
         ending = os.path.splitext(self.given)[1].lower()
         if ending in BY_ABC:
             self.by_abc(ending)
-        elif ending in BY_YOSYS:
-            self.by_yosys("read_aiger", self.given, ending)
-            self.renamed = True
+        elif ending == ".aag":
+            self.by_aiger()
         else:
             self.by_lwmap()
         self.canonical()
@@ -62,25 +60,41 @@ class Network:
         self.notes.append("read by ABC")
         self.renamed = True
 
-    def by_yosys(self, reader, file, ending):
+    def by_aiger(self):
+        """AIGER's text format. Yosys reads it too, with each latch as an input and an output, so that neither reader is trusted alone."""
+        for file, text in (("read.blif", aiger.blif_of(self.given)), ("plain.aag", aiger.plain(self.given))):
+            with open(self.path(file), "w", encoding="latin-1") as out:
+                out.write(text)
+        self.renamed = True
+        what = "file to network, beside Yosys's reading of it, by cec"
+        if not runs.has("yosys"):
+            self.steps.append(Step(what, "undecided", "there is no yosys; apt-get install yosys"))
+            return
+        yosys.call(f"read_aiger {self.path('plain.aag')}; opt_clean; write_blif {self.path('theirs.blif')}", self.room, "read_yosys.log", self.limit)
+        with open(self.path("ours.blif"), "w", encoding="latin-1") as out:
+            out.write(blif.numbered(self.path("read.blif")))
+        self.steps.append(Step(what, *abc.cec("ours.blif", "theirs.blif", self.room, "read_cec.log", self.limit)))
+
+    def by_yosys(self, file):
+        """Models in models, by Yosys."""
         runs.need("yosys")
-        shutil.copyfile(file, self.path("given" + ending))
-        yosys.call(f"{reader} {self.path('given' + ending)}; hierarchy -check -auto-top; flatten; simplemap; opt_clean -purge; splitnets -ports; "
+        shutil.copyfile(file, self.path("given.blif"))
+        yosys.call(f"read_blif {self.path('given.blif')}; hierarchy -check -auto-top; flatten; simplemap; opt_clean -purge; splitnets -ports; "
                    f"write_blif {self.path('read.blif')}", self.room, "read_yosys.log", self.limit)
-        if reader != "read_blif":
-            self.notes.append("read by Yosys")
 
     def by_lwmap(self):
-        """BLIF as it stands where lwmap reads it; else rewritten; models in models go through Yosys."""
+        """BLIF as it is if lwmap reads it, else rewritten; models in models go through Yosys."""
         shutil.copyfile(self.given, self.path("read.blif"))
         if not blif.first_word(self.given, (".model", "\xef\xbb\xbf.model", ".inputs", ".outputs", ".names")):
             raise Fault(f"{self.given} is no BLIF: it has no .model, .inputs or .names; Verilog ends in .v or .sv, AIGER in .aig or .aag")
         why = self.refused("read.blif")
         if why is None:
             return
+        if why.endswith(f"more than {search.SIGNALS} signals"):
+            raise Fault(f"{self.given}: {search.TOO_LARGE}")
         changes = rewrite(self.given, self.path("rewritten.blif"), self.library.cells)
         if blif.first_word(self.path("rewritten.blif"), (".subckt",)):
-            self.by_yosys("read_blif", self.path("rewritten.blif"), ".blif")
+            self.by_yosys(self.path("rewritten.blif"))
             changes.append("models in models by Yosys")
             verdict = abc.cec("given.blif", "read.blif", self.room, "read_cec.log", self.limit)
             self.steps.append(Step("models in models to network, by Yosys and cec", *verdict))

@@ -12,13 +12,14 @@ DESIGN is Verilog or SystemVerilog (.v, .sv: several files are one design), BLIF
 reads by its ending (.pla, .bench, .eqn). '-' is standard input: BLIF or Verilog, by its first words. LIB is a library in
 genlib, or in Liberty (.lib).
 
-The best netlist is the one of least greatest arrival, and of these the one of least area. With Liberty, ABC buffers and sizes
-each netlist under its loads, and the sized delay judges; --no-loads has the delays of the cells alone judge.
+The best netlist has the smallest delay, and among these the smallest area. With a Liberty library, ABC buffers and sizes each
+netlist under its loads, and the delay of the sized one counts; with --no-loads the delays of the cells count.
 """
 MORE = """
-The folder gets mapped.blif (the mapper's netlist, with its certificate where lwmap made it), mapped.v (that netlist, or with
-Liberty the sized one, as Verilog with the design's ports), cells.v (its cells), report.json and log.txt. Files are moved into
-place at the end; what was there before stays where nothing was found.
+The folder gets mapped.blif (the mapper's netlist, with its certificate if lwmap made it), mapped.v (that netlist, or with
+Liberty the sized one, as Verilog with the design's ports), cells.v (its cells), report.html and report.json (every try, what was
+shown, the critical path, arrivals and cells) and log.txt. Files are moved into place at the end; if no netlist was found, nothing
+changes.
 
 status  0  a netlist, and every step from the design to it was shown
         1  no netlist: standard error says why
@@ -29,11 +30,11 @@ status  0  a netlist, and every step from the design to it was shown
       130  interrupted; nothing was written
 
 what --area means today
-  max    of the netlists of least delay the one of least area (the default)
-  each   our netlist of least delay, in which each output comes as early as it can behind its front end
-  N%     the least area among netlists within N percent (from 100 on) of the least delay; 'lwmap trade' at that time is one of
-         them, where loads do not judge, the network has up to 5000 nodes, and it comes to an end
-  T      the same within a delay of T, in the library's unit
+  max    among the netlists of the smallest delay the smallest one (the default)
+  each   lwmap's netlist of the smallest delay, in which every output is as early as its front end allows
+  N%     the smallest netlist within N percent of the smallest delay, N from 100; up to 5,000 nodes, and if loads do not count,
+         'lwmap trade' with that deadline is tried too
+  T      the smallest netlist within the delay T, in the library's unit
 
 example: ./lwflow -l bench/libs/mcnc.genlib examples/verilog/uart.v
 """
@@ -73,7 +74,7 @@ def version():
 
 
 def parse(words):
-    """The options; argparse ends with status 2 where the words are not understood."""
+    """The options; argparse ends with status 2 if the words are not understood."""
     it = parser()
     options = it.parse_args(words)
     options.parameters = [tuple(word.split("=", 1)) for word in options.parameters]

@@ -1,5 +1,5 @@
 """The report of a run of lwflow: as data, and as the text of the summary."""
-from . import genlib
+from . import details, genlib, options
 from .search import GIVEN, Netlist
 
 OF_VERDICTS = {"equal": "shown", "undecided": "NOT DECIDED", "different": "DIFFERENT"}
@@ -26,6 +26,7 @@ def data(flow):
               "abc": least([one for one in work.netlists if not one.ours()]),
               "abc_as_given": least([one for one in work.netlists if not one.ours() and one.where == GIVEN])}
     return {
+        "version": options.version(),
         "design": {"files": chosen.files, "top": flow.design.top, "kind": flow.design.kind, "registers": len(flow.design.registers),
                    "nodes": work.size},
         "library": {"file": chosen.library, "cells": len(flow.library.cells), "loads": loads},
@@ -35,6 +36,7 @@ def data(flow):
         "netlists": [row(one, loads) for one in sorted(work.netlists, key=Netlist.rank)],
         "steps": [{"what": step.what, "verdict": step.verdict, "why": step.why} for step in flow.steps],
         "notes": flow.library.notes + flow.design.notes, "left_out": list(dict.fromkeys(work.lost)),
+        **details.data(flow),
     }
 
 

@@ -103,6 +103,37 @@ def declarations(path, module):
     return {name: port for _, name, port in sorted(found)}
 
 
+PINS = {"D": "", "E": ", enable", "R": ", reset", "S": ", set", "C": ", clock", "L": ", load", "AD": ", loaded value"}
+
+
+def around(path, module):
+    """What a module of RTLIL has around its part lwmap_logic: for each port of that what reads it, the module's outputs and registers
+    with their pins, and the ports that registers give."""
+    ports, pins, registers, kind = {}, {}, [], ""
+    for line in lines_of(path, module):
+        opened = re.fullmatch(r"  cell (\S+) \S+\n", line)
+        joined = re.fullmatch(r"    connect \\(\S+) (.+)\n", line)
+        if opened:
+            kind, pins = opened[1], {}
+        elif joined:
+            pins[joined[1]] = joined[2].replace(" ", "")
+        elif line == "  end\n" and kind == "\\lwmap_logic":
+            ports = pins
+        elif line == "  end\n" and "Q" in pins:
+            registers.append(pins)
+    outputs = {"\\" + name for name, (_, way, _) in declarations(path, module).items() if way == "output"}
+    reading = {}
+    for name, net in ports.items():
+        if net.split("[")[0] in outputs and net not in {pins["Q"] for pins in registers}:
+            reading.setdefault(net, []).append((net.lstrip("\\"), False))
+    for pins in registers:
+        for pin, net in pins.items():
+            if pin != "Q":
+                reading.setdefault(net, []).append((pins["Q"].lstrip("\\") + PINS.get(pin, f", {pin}"), True))
+    given = {pins["Q"] for pins in registers}
+    return {name: reading.get(net, []) for name, net in ports.items()}, {name for name, net in ports.items() if net in given}
+
+
 def sets_before_resets(text):
     """The signals of a text of RTLIL behind proc_arst that an asynchronous rule sets, or gives a value that is no constant,
     before another asynchronous rule."""

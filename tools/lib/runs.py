@@ -31,9 +31,9 @@ def need(*tools):
 
 
 def run(command, log, cwd=None, limit=None, out=None, feed=None):
-    """Runs a command, for at most so many seconds of processor time (and, should it wait for something, some thirty times as
-    long by the clock: a busy machine changes no result). What it says goes to the file log, what it prints to the file out, or
-    to log too. Gives its status, its seconds, and whether it was ended."""
+    """Runs a command, for at most so many seconds of processor time, so that a busy machine changes no result; it is ended, too, if it
+    waits and uses none. What it says goes to the file log, what it prints to the file out, or to log too. Gives its status, its
+    seconds, and whether it was ended."""
     if stopped.is_set():
         return Ended(1, 0, True, log)
     with open(log, "ab") as said, open(out or os.devnull, "wb") as printed, open(feed or os.devnull, "rb") as given:
@@ -66,29 +66,47 @@ def stop():
 
 
 class Guard:
-    """Ends a process that takes too long by the clock."""
+    """Ends a process that uses no processor time in so many seconds by the clock, since it waits for something."""
 
     def __init__(self, process, seconds):
-        self.over = False
-        self.process = process
-        self.timer = threading.Timer(seconds, self.end) if seconds else None
-        if self.timer:
+        self.over, self.ended, self.used = False, False, -1
+        self.process, self.seconds = process, seconds
+        self.arm()
+
+    def arm(self):
+        if self.seconds and not self.ended:
+            self.timer = threading.Timer(self.seconds, self.look)
             self.timer.daemon = True
             self.timer.start()
 
-    def end(self):
-        self.over = True
-        kill(self.process)
+    def look(self):
+        used = ticks(self.process.pid)
+        if used > self.used:
+            self.used = used
+            self.arm()
+        elif not self.ended:
+            self.over = True
+            kill(self.process)
 
     def stop(self):
         """Whether the process was ended."""
-        if self.timer:
+        self.ended = True
+        if self.seconds:
             self.timer.cancel()
         return self.over
 
 
+def ticks(process):
+    """The processor time that a process has used, in ticks of the clock; -1 if it is no more."""
+    try:
+        with open(f"/proc/{process}/stat", encoding="latin-1") as file:
+            return sum(int(word) for word in file.read().rpartition(")")[2].split()[11:13])
+    except (OSError, ValueError):
+        return -1
+
+
 def guard(process, limit):
-    """Bounds the processor time of a process that has just begun, and its time by the clock."""
+    """Bounds the processor time of a process that has just begun, and the time that it may wait."""
     if limit is None:
         return Guard(process, None)
     whole = max(1, int(limit + 0.999))
@@ -96,7 +114,7 @@ def guard(process, limit):
         resource.prlimit(process.pid, resource.RLIMIT_CPU, (whole, whole + 1))
     except (ProcessLookupError, OSError):
         pass
-    return Guard(process, 30 * limit + 60)
+    return Guard(process, 300)
 
 
 def tail(path, count=1):

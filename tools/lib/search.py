@@ -18,6 +18,10 @@ EFFORTS = {
     "best": Effort(("if4", "dch+map"), 4, 20, (6, 8), 30, 40),
 }
 GIVEN = "as given"
+LARGE = 1500
+SIGNALS = 262144
+TOO_LARGE = (f"the network has more than {SIGNALS} signals, the most that lwmap takes; map its modules one by one, as tools/yosys-lwmap "
+             "in Yosys does for a design that is not flattened")
 
 
 class Network:
@@ -29,7 +33,7 @@ class Network:
 
 class Netlist:
     """A netlist of cells: its file with latches, the network that it covers, who made it (by) and behind what (where), the
-    width where it is ours, and its figures in millionths. Where loads judge, sized has delay, area and file of the sized one."""
+    width if it is ours, and its figures in millionths. If loads count, sized has delay, area and file of the sized one."""
 
     def __init__(self, file, network, by, where, width, figures):
         self.file, self.network, self.by, self.where, self.width = file, network, by, where, width
@@ -61,6 +65,7 @@ class Work:
         self.ports = blif.ports_of(self.path(design))
         self.bare = not self.ports.latches and not self.ports.starts
         self.size = sum(words[0] == ".names" for words in self.ports.rest)
+        self.quick = effort == "fast" and self.size > LARGE
         scale = 1 + self.size / 2500
         self.search = limit or self.effort.search * scale
         self.proof = limit or self.effort.proof * scale
@@ -119,11 +124,11 @@ def cheap_script(names):
     return "; ".join(commands)
 
 
-def rounds_script(count):
+def rounds_script(count, one):
     """ABC's commands for some rounds: for each the network of nodes of two inputs (s1, s2, ..), ABC's netlist, and the
     front, which has the functions of that netlist's cells as its nodes."""
     commands = ["read_genlib padded.genlib", "read_blif cut.blif", "strash"]
-    first, choices = fronts.ROUND.rsplit("; ", 1)
+    first, choices = one.rsplit("; ", 1)
     for k in range(1, count + 1):
         commands += [first, f"write_blif s{k}.blif", choices, "backup", "map", f"write_blif abc.round{k}.blif", "unmap", "sop",
                      f"write_blif round{k}.blif", "restore"]
@@ -131,8 +136,9 @@ def rounds_script(count):
 
 
 def cheap_fronts(work, base):
-    """The networks of the fronts that ABC makes at once, and ABC's netlists: file, network, and what is said of it."""
-    names = work.effort.fronts
+    """The networks of the fronts that ABC makes at once, and ABC's netlists: file, network, and what is said of it. The least effort
+    leaves them out for a large network: a round is nearly always better."""
+    names = () if work.quick else work.effort.fronts
     ended = abc.call(cheap_script(names), work.room, "fronts.log", work.search)
     made = [Network(f"{name}.blif", f"behind {name}", base) for name in names if abc.whole(work.path(f"{name}.blif"))]
     if len(made) < len(names):
@@ -144,7 +150,7 @@ def cheap_fronts(work, base):
 def rounds(work, base):
     """The same behind rounds of restructuring. Of several each is a step of its own, which cec decides more easily."""
     count = work.effort.rounds
-    ended = abc.call(rounds_script(count), work.room, "rounds.log", work.search)
+    ended = abc.call(rounds_script(count, fronts.QUICK if work.quick else fronts.ROUND), work.room, "rounds.log", work.search)
     made, netlists, before = [], [], base
     for k in range(1, count + 1):
         if not all(abc.whole(work.path(f"{part}{k}.blif")) for part in ("s", "abc.round", "round")):
@@ -156,6 +162,16 @@ def rounds(work, base):
         made.append(one)
         netlists.append((f"abc.round{k}.blif", before, one.said))
     return made, netlists
+
+
+def fronts_of(work, base):
+    """All networks and ABC's netlists behind them. Without nodes there is nothing to restructure, and ABC ends in an assertion."""
+    if not work.size:
+        work.told("no nodes")
+        return [], []
+    work.told(f"{work.size} nodes; front ends by ABC")
+    (made, netlists), (more, others) = work.each(lambda step: step(work, base), [cheap_fronts, rounds])
+    return made + more, netlists + others
 
 
 def again(work, netlist, turn):
@@ -252,16 +268,17 @@ def keep_theirs(work, found):
 
 def search(work):
     """All netlists that were found, ours and ABC's."""
+    if work.size + len(work.ports.inputs) + len(work.ports.latches) > SIGNALS:
+        raise Fault(TOO_LARGE)
     work.write("cut.blif", blif.cut(work.path(work.design)))
     base = Network("cut.blif", GIVEN)
-    work.told(f"{work.size} nodes; front ends by ABC")
-    (made, netlists), (more, others) = work.each(lambda step: step(work, base), [cheap_fronts, rounds])
-    last_step(work, [base] + made + more)
-    keep_theirs(work, netlists + others)
+    made, netlists = fronts_of(work, base)
+    last_step(work, [base] + made)
+    keep_theirs(work, netlists)
     if not work.netlists:
         why = "; ".join(dict.fromkeys(work.lost))
         why += "; --no-loads sizes nothing" if "sizing" in why else ""
-        raise Fault("no netlist: " + why + ("; tools/yosys-lwmap in Yosys maps a large design module by module" if "signals" in why else ""))
+        raise Fault("no netlist: " + why)
     loop(work)
     return work.netlists
 

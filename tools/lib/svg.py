@@ -1,4 +1,6 @@
-"""What plot.py and and3.py draw with: shapes of SVG, in colours that read on light and on dark grounds."""
+"""What the pictures of bench/, examples/ and lwflow's report are drawn with: shapes of SVG, in colours that read on light and on dark
+grounds."""
+import math
 from xml.sax.saxutils import escape
 
 STYLE = """<style>
@@ -29,9 +31,31 @@ STYLE = """<style>
 </style>
 """
 
+# What the pictures of a netlist have beside these.
+MORE = """<style>
+  .ring { fill: none; stroke: #24292f; stroke-width: 2; }
+  .plain { stroke: none; }
+  .wire { stroke: #57606a; stroke-width: 1.1; fill: none; }
+  .late { stroke: #b54708; stroke-width: 2.6; fill: none; }
+  .register { fill: none; stroke: #0969da; stroke-width: 1.4; }
+  @media (prefers-color-scheme: dark) {
+    .ring { stroke: #e6edf3; }
+    .wire { stroke: #9198a1; }
+    .late { stroke: #f0883e; }
+    .register { stroke: #58a6ff; }
+  }
+</style>
+"""
+
 
 def number(value):
     return f"{value:.1f}".rstrip("0").rstrip(".")
+
+
+def steps(least, most):
+    """Round numbers between two, eight or nine at most."""
+    step = next(part * 10.0 ** power for power in range(-6, 20) for part in (1, 2, 5) if most - least <= 8 * part * 10.0 ** power)
+    return [turn * step for turn in range(math.ceil(least / step), math.floor(most / step) + 1)]
 
 
 def text(x, y, said, kind="", anchor="start"):
@@ -56,7 +80,45 @@ def sign(shape, x, y, kind):
     return f'<polygon points="{points}" class="{kind}"/>\n'
 
 
-def picture(width, height, name, parts):
+def ring(x, y):
+    """What marks a sign as the chosen one."""
+    return f'<circle cx="{number(x)}" cy="{number(y)}" r="8" class="ring"/>\n'
+
+
+def curve(points, kind):
+    """A line through points that leaves and reaches each of them level."""
+    x, y = points[0]
+    parts = [f"M{number(x)} {number(y)}"]
+    for to_x, to_y in points[1:]:
+        middle = number((x + to_x) / 2)
+        parts.append(f"C{middle} {number(y)} {middle} {number(to_y)} {number(to_x)} {number(to_y)}" if y != to_y else f"H{number(to_x)}")
+        x, y = to_x, to_y
+    return f'<path d="{" ".join(parts)}" class="{kind}"/>\n'
+
+
+def group(name, parts):
+    """Shapes that belong together, and what they are."""
+    return f"<g>\n<title>{escape(name)}</title>\n{''.join(parts)}</g>\n"
+
+
+def bar(start, length, kind):
+    """A bar in a row of a table, as wide as its cell; start and length are parts of it."""
+    return (f'<svg class="bar" width="100%" height="12" aria-hidden="true"><rect x="{number(100 * start)}%" y="1" '
+            f'width="{number(max(100 * length, 0.7))}%" height="10" class="{kind}"/></svg>')
+
+
+def inline(width, height, name, parts, kind=""):
+    """A picture within a page, which has the style."""
+    size = f'viewBox="0 0 {number(width)} {number(height)}" width="{number(width)}" height="{number(height)}"'
+    return f'<svg {size} class="{kind}" role="img">\n<title>{escape(name)}</title>\n{"".join(parts)}</svg>\n'
+
+
+def picture(width, height, name, parts, more=""):
     size = f'width="{width}" height="{height}"'
     head = f'<svg xmlns="http://www.w3.org/2000/svg" viewBox="0 0 {width} {height}" {size} role="img">\n'
-    return f'{head}<title>{escape(name)}</title>\n{STYLE}<rect {size} class="ground"/>\n{"".join(parts)}</svg>\n'
+    return f'{head}<title>{escape(name)}</title>\n{STYLE}{more}<rect {size} class="ground"/>\n{"".join(parts)}</svg>\n'
+
+
+def whole(width, height, name, parts):
+    """A picture of a netlist as a file of its own."""
+    return picture(number(width), number(height), name, parts, MORE)

@@ -169,16 +169,21 @@ class Timing:
             net = self.wires[net]
         return net
 
-    def report(self):
-        """The arrival of each output, the greatest, the area, and a critical path: it ends at the first output with the
-        greatest arrival and goes back through the first pin that gives the gate's arrival."""
-        t = [f"arrival {o} {show(self.at[o])}" for o in self.outputs]
-        t += [f"max {show(self.max)}", f"area {show(self.area)}"]
+    def path(self):
+        """A critical path from its first gate on, as net, cell, pin (None at a gate without pins) and arrival. It ends at the first
+        output with the greatest arrival, and goes back through the first pin that gives the gate's arrival."""
         steps = []
         net = next((self.root(o) for o in self.outputs if self.at[o] == self.max), None)
         while net in self.gates:
             c, fan = self.gates[net]
             k = next((k for k in range(len(fan)) if self.at[fan[k]] + c.delays[k] == self.at[net]), None)
-            steps.append(f"step {net} {c.name} {'-' if k is None else c.pins[k]} {show(self.at[net])}")
+            steps.append((net, c, k, self.at[net]))
             net = None if k is None else self.root(fan[k])
-        return "\n".join(t + steps[::-1]) + "\n"
+        return steps[::-1]
+
+    def report(self):
+        """The arrival of each output, the greatest, the area, and a critical path."""
+        t = [f"arrival {o} {show(self.at[o])}" for o in self.outputs]
+        t += [f"max {show(self.max)}", f"area {show(self.area)}"]
+        t += [f"step {net} {c.name} {'-' if k is None else c.pins[k]} {show(at)}" for net, c, k, at in self.path()]
+        return "\n".join(t) + "\n"

@@ -157,8 +157,10 @@ module _ (mode : Mode) (width : ℕ) (truth : CellTruth) (k : Claim) (kept : IsK
         record {
           of_network = (let a = kept.network.named in let b = length-map k.net.nodes network.plain_node in let c = within k.net.outputs (length k.net.names) kept.network.outputs j output at in omega arith);
           rooted = record {
-            of_netlist = (let a = kept.netlist.named in let b = length-map k.mapped.netlist.gates netlist.plain_gate in let c = port_within j port here in omega arith);
-            at_class = at_root ∙ same;
+            at_form = record {
+              of_netlist = (let a = kept.netlist.named in let b = length-map k.mapped.netlist.gates netlist.plain_gate in let c = port_within j port here in omega arith);
+              at_class = at_root ∙ same;
+            };
             at_label = ap (labels_in (plain_labels k.mapped.cert)) at_time ∙ (plain_label time.class time.label time.has_label ∙ ap Some (sym (arrives_then port.net time.label.0 time.arrives)));
           };
         }

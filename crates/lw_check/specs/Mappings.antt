@@ -1,17 +1,21 @@
 -- What a verdict says of a claim over the graph of a network's forms.
-use Rattle.std.specs.Prelude.{ℕ, ◌≤◌, ◌≡◌, length, map}
+use Rattle.std.specs.Prelude.{ℕ, ◌≤◌, ◌≡◌, List, length, map, Option, Some, option_map, slice_index_or}
+use Rattle.std.specs.List.{AllZip}
 use Rattle.lw_pool.specs.declared.id.NetId.{NetId}
 use Rattle.lw_laws.specs.Classes.{IsGraphOf}
 use Rattle.lw_laws.specs.Covers.{ArePatterns}
 use Rattle.lw_laws.specs.Listings.{listing_of}
 use Rattle.lw_laws.specs.Encodings.{Encodes}
-use Rattle.lw_laws.specs.Headline.{IsMapping}
+use Rattle.lw_laws.specs.Headline.{HasLeastArrival, IsMapping}
 use Rattle.lw_laws.specs.Mapped.{forms_of, root_class}
-use Rattle.lw_laws.specs.MappedNetlists.{IsNetlistOf}
+use Rattle.lw_laws.specs.MappedNetlists.{IsMatchNetlistOf, IsNetlistOf}
+use Rattle.lw_laws.specs.Matches.{IsLeastCover}
 use Rattle.lw_laws.specs.Modes.{Mode}
-use Rattle.lw_laws.specs.Netlists.{CellTruth}
+use Rattle.lw_laws.specs.Netlists.{AreArrivals, CellTruth}
 use Rattle.lw_laws.specs.Networks.{IsInOrder}
 use Rattle.lw_laws.specs.NumberedForms.{family_of}
+use Rattle.lw_laws.specs.Rounds.{labels_in}
+use Rattle.lw_genlib.specs.Tables.{millionths}
 use Rattle.lw_net.specs.Networks.{IsNetwork}
 use Rattle.lw_net.specs.Plain.{plain as plain_network}
 use Rattle.lw_graph.specs.Graphs.{IsGraph}
@@ -22,7 +26,7 @@ use Rattle.lw_mapped.specs.declared.certificate.Certificate.{Certificate}
 use Rattle.lw_mapped.specs.declared.closing.Mapped.{Mapped}
 use Rattle.lw_mapped.specs.Certified.{IsCertificateOf, AreSameCertificates}
 use Rattle.lw_mapped.specs.Standing.{AreLabels}
-use Rattle.lw_check.specs.Claims.{Claim, timing_in, cost_in}
+use Rattle.lw_check.specs.Claims.{Claim, class_number, label_of_class, timing_in, cost_in}
 use Rattle.lw_pool.specs.Numbers.{numbers}
 use Rattle.lw_net.specs.Ports.{ports_of}
 
@@ -68,6 +72,18 @@ pub record IsMappingOf (mode : Mode) (width : ℕ) (k : Claim) : Type 0 where
   pub of_mapping : IsCertificateOf is certificate
   pub same : AreSameCertificates k.mapped.cert certificate
   pub labels : AreLabels k.mapped.cert
+
+-- The netlist is one of matches of the network, with its frame. The certificate has the least time of each class and the class of each
+-- gate, and each output arrives at its least time.
+pub record IsTimelyNetlist (mode : Mode) (width : ℕ) (k : Claim) : Type 0 where
+  pub is : IsMatchNetlistOf mode width (plain_network k.net) (ports_of k.net) k.pats (cost_in k).pin_counts (plain_netlist k.mapped.netlist) k.mapped.netlist.names (mapped_ports k.mapped.netlist)
+  pub frame : k.mapped.frame ≡ k.frame
+  pub labels : List (Option ℕ)
+  pub least : (c : ℕ) → IsLeastCover is.graph k.pats (cost_in k) c (labels_in labels c)
+  pub labels_are : (c : ℕ) → option_map millionths (label_of_class k c) ≡ labels_in labels c
+  pub classes_are : map (option_map class_number) k.mapped.cert.nets ≡ map Some is.gates
+  pub limits : AreLabels k.mapped.cert
+  pub timely : (ds : List ℕ) → AreArrivals (timing_in k) (plain_netlist k.mapped.netlist) ds → AllZip (λ p q. HasLeastArrival mode width (plain_network k.net) k.pats (timing_in k) p.net (slice_index_or ds q.net 0)) (ports_of k.net).outputs (mapped_ports k.mapped.netlist).outputs
 
 -- one netlist with one frame, and certificates that are the same
 pub record AreAlike (a b : Mapped) : Type 0 where

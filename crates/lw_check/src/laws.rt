@@ -6,7 +6,7 @@ ghost use Rattle.lw_mapped.specs.declared.closing.Mapped.{Mapped};
 ghost use Rattle.lw_check.specs.declared.verdict.Verdict.{Verdict};
 ghost use Rattle.lw_check.specs.declared.verdict.Verdict.TheVariants.{Yes};
 ghost use Rattle.lw_check.specs.Claims.{Claim, cost_in};
-ghost use Rattle.lw_check.specs.Mappings.{AreAlike, IsFastestMapping, IsKept, IsMappingOf, IsOverForms, IsOverGraph};
+ghost use Rattle.lw_check.specs.Mappings.{AreAlike, IsFastestMapping, IsKept, IsMappingOf, IsOverForms, IsOverGraph, IsTimelyNetlist};
 ghost use Rattle.lw_check.specs.Verdicts.{IsVerdictOn};
 
 /// A netlist that is accepted is a fastest mapping, whoever wrote it: it has the network's frame,
@@ -22,6 +22,13 @@ pub fn yes_is_a_mapping()
 pub fn mappings_are_accepted()
     ensures { (mode : Mode) (width : ℕ) (k : Claim) → IsKept k → IsOverGraph mode width k →
         IsMappingOf mode width k → IsVerdictOn k Yes }
+{}
+
+/// So is any netlist of matches of the network whose outputs arrive at their least times, with its
+/// frame, and with the least times of the classes and the classes of its gates as certificate.
+pub fn timely_netlists_are_accepted()
+    ensures { (mode : Mode) (width : ℕ) (k : Claim) → IsKept k → IsOverGraph mode width k →
+        IsTimelyNetlist mode width k → IsVerdictOn k Yes }
 {}
 
 /// A claim has one verdict, and the same with a certificate that is the same up to places past its

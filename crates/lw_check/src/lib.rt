@@ -19,4 +19,5 @@ mod verdict;
 
 pub use bounding::bound;
 pub use checking::check;
+pub use standing::class_of_pattern;
 pub use verdict::{Reason, Verdict};

@@ -77,8 +77,9 @@ impl Placed<'_> {
     }
 }
 
-// The class at which a pattern stands with its pins at these classes, where there is one.
-pub(crate) fn class_of_pattern(graph: &Graph, nodes: &PatNodes, pins: &[ClassId]) -> Option<ClassId>
+/// The class at which a pattern stands with its pins at these classes, if there is one. The graph's
+/// index makes it fast.
+pub fn class_of_pattern(graph: &Graph, nodes: &PatNodes, pins: &[ClassId]) -> Option<ClassId>
     requires kept { IsKept nodes.now }
     requires pins { AreWithin graph.now pins.now }
     ensures { StandsAlone graph.now (numbers pins.now) (tree_of nodes.now) result }

@@ -3,7 +3,7 @@ mod Descent
 mod Picking
 mod Sorting
 pub mod Assembly
-mod Chosen
+mod ChosenMatches
 mod ClassNets
 mod GateLists
 mod Places

@@ -45,7 +45,8 @@ fn cover<C: Cost>(alloc: Global, job: &Job<C>, bounds: &Bounds) -> Result<Cover,
     let mut nets = input_nets(alloc, job.graph)?;
     let chosen = choose(alloc, job, bounds, &nets)?;
     add_gates(&mut nets, job.graph.inputs(), &chosen);
-    assemble_over(alloc, job.graph, job.pats, job.ports, &nets, &chosen)
+    let cover = assemble_over(alloc, job.graph, job.pats, job.ports, &nets, &chosen)?;
+    Ok(cover)
 }
 
 // The netlist of the chosen matches, by a table of bounds that is at hand or is made here.

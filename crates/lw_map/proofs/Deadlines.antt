@@ -23,11 +23,12 @@ use Rattle.lw_genlib.specs.Cells.{CellParts, IsLibrary}
 use Rattle.lw_genlib.specs.Tables.{timing_of}
 use Rattle.lw_pattern.specs.Libraries.{library_patterns}
 use Rattle.lw_extract.specs.declared.ports.Ports.{Ports}
-use Rattle.lw_trade.specs.declared.point.Point.{Point}
-use Rattle.lw_trade.specs.declared.targets.Targets.{Targets}
-use Rattle.lw_trade.specs.Points.{Task, task, timing, IsPoint, AreCurves, BoundCovers, point_count, most_points}
-use Rattle.lw_trade.specs.Groups.{CurveLists, HaveWays}
-use Rattle.lw_trade.specs.Targets.{AreTargets, AreCurvesFor, HasPointBy}
+use Rattle.lw_curves.specs.declared.point.Point.{Point}
+use Rattle.lw_backtrace.specs.declared.targets.Targets.{Targets}
+use Rattle.lw_choices.specs.Tasks.{Task, task, timing}
+use Rattle.lw_curves.specs.Points.{IsPoint, AreCurves, BoundCovers, point_count, most_points}
+use Rattle.lw_curves.specs.CurveTables.{CurveLists, HaveWays}
+use Rattle.lw_backtrace.specs.Targets.{AreTargets, AreCurvesFor, HasPointBy}
 use Rattle.lw_map.specs.declared.choices.Choices.{Choices}
 use Rattle.lw_map.specs.Options.{plain_options}
 use Rattle.lw_map.specs.Choices.{AreChoicesOf}

@@ -12,9 +12,10 @@ use Rattle.lw_net.specs.Plain.{plain}
 use Rattle.lw_genlib.specs.Cells.{CellParts}
 use Rattle.lw_genlib.specs.Tables.{timing_of}
 use Rattle.lw_pattern.specs.Libraries.{library_patterns}
-use Rattle.lw_trade.specs.declared.point.Point.{Point}
-use Rattle.lw_trade.specs.Points.{Task, task, ArePoints, AreCurves, AreTooMany, BoundCovers, point_count, most_points}
-use Rattle.lw_trade.proofs.Lists.{contained_at, at_contained}
+use Rattle.lw_curves.specs.declared.point.Point.{Point}
+use Rattle.lw_choices.specs.Tasks.{Task, task}
+use Rattle.lw_curves.specs.Points.{ArePoints, AreCurves, AreTooMany, BoundCovers, point_count, most_points}
+use Rattle.lw_choices.proofs.Lists.{contained_at, at_contained}
 use Rattle.lw_map.specs.declared.choices.Choices.{Choices}
 use Rattle.lw_map.specs.Choices.{AreChoicesOf}
 use Rattle.lw_map.specs.Options.{Options, plain_options}

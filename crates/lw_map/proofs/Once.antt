@@ -57,7 +57,7 @@ module _ (options : Options) (cells : List CellParts) (net : NetworkParts) (star
     pub covered : base_count options net ≤ most_bases → (n : NetlistParts) → IsMappedNetlist options cells net starts n → (place : ℕ) (output : NetId) → slice_get net.outputs place ≡ Some output → IsUncovered options cells net starts output → ⊥
     covered few n is place output at lacks =
         let mapping = mapped_is_mapping options cells net starts wide kept early lib few n is in
-        let (ds, are) = some_arrivals (netlist.plain n) mapping.ordered (timing_of cells starts) in
+        let (ds, are) = some_arrivals (netlist.plain n) mapping.covering.ordered (timing_of cells starts) in
         let (q, least) = zip_at (λ (p q : PlainPort). HasLeastArrival options.mode options.width (network.plain net) (library_patterns cells) (timing_of cells starts) p.net (slice_index_or ds q.net 0)) (map (output_port net) net.outputs) (map plain_port n.outputs) place (output_port net output) (mapping.arrivals ds are) (slice_get_map (output_port net) net.outputs place output at) in
         let (k, k_is, tree, time) = least.attained in
         lacks k k_is tree

@@ -5,7 +5,7 @@ use Rattle.lw_cost.specs.declared.mark.Mark.{Mark}
 use Rattle.lw_label.specs.Delays.{time_cost}
 use Rattle.lw_cost.specs.Labels.{AreLeastMarks}
 use Rattle.lw_netlist.specs.Netlists.{IsNetlist}
-use Rattle.lw_trade.specs.Areas.{area_cost}
+use Rattle.lw_choices.specs.Areas.{area_cost}
 use Rattle.lw_extract.specs.declared.fault.ExtractFault.{ExtractFault}
 use Rattle.lw_extract.specs.declared.fault.ExtractFault.TheVariants.{NoCover, Memory}
 use Rattle.lw_map.specs.declared.covering.Mapping.{Mapping}

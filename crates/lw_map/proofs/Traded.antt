@@ -31,7 +31,7 @@ use Rattle.lw_genlib.specs.Tables.{delays_of_cells, timing_of, truth_of_cells}
 use Rattle.lw_pattern.specs.Libraries.{library_patterns}
 use Rattle.lw_netlist.specs.Netlists.{NetlistParts}
 use Rattle.lw_netlist.specs.Plain as netlist
-use Rattle.lw_trade.specs.Areas.{area_cost}
+use Rattle.lw_choices.specs.Areas.{area_cost}
 use Rattle.lw_map.specs.declared.choices.Choices.{Choices}
 use Rattle.lw_map.specs.Options.{Options, plain_options}
 use Rattle.lw_map.specs.Choices.{AreChoicesOf}

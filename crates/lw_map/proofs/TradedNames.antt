@@ -20,7 +20,7 @@ use Rattle.lw_netlist.specs.declared.gate.Port.{Port}
 use Rattle.lw_netlist.specs.Netlists.{NetlistParts, IsNetlist}
 use Rattle.lw_netlist.specs.Plain as netlist
 use Rattle.lw_extract.specs.declared.ports.Ports.{Ports}
-use Rattle.lw_trade.specs.Areas.{area_cost}
+use Rattle.lw_choices.specs.Areas.{area_cost}
 use Rattle.lw_trade.specs.Traded.{IsTraded}
 use Rattle.lw_map.specs.declared.choices.Choices.{Choices}
 use Rattle.lw_map.specs.Options.{plain_options}

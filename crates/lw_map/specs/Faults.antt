@@ -13,8 +13,8 @@ use Rattle.lw_map.specs.declared.fault.MapFault.TheVariants.{Forms, Splits, NoCo
 use Rattle.lw_map.specs.Options.{Options, plain_options}
 use Rattle.lw_map.specs.Mapped.{HasTooManyForms, HasTooManySplits, LacksCover}
 use Rattle.lw_map.specs.Trading.{HasTooManyPoints}
-use Rattle.lw_trade.specs.declared.point.CurveFault.{CurveFault}
-use Rattle.lw_trade.specs.declared.point.CurveFault.TheVariants as curve
+use Rattle.lw_curves.specs.declared.point.CurveFault.{CurveFault}
+use Rattle.lw_curves.specs.declared.point.CurveFault.TheVariants as curve
 
 abbrev pub form_fault : FormFault → MapFault
 form_fault form.Limit = Forms

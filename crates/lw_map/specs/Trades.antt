@@ -4,7 +4,7 @@ use Rattle.lw_pool.specs.declared.id.ClassId.{ClassId}
 use Rattle.lw_fixed.specs.declared.micro.Micro.{Micro}
 use Rattle.lw_cost.specs.declared.mark.Mark.{Mark}
 use Rattle.lw_netlist.specs.Netlists.{NetlistParts}
-use Rattle.lw_trade.specs.declared.targets.Targets.{Targets}
+use Rattle.lw_backtrace.specs.declared.targets.Targets.{Targets}
 use Rattle.lw_map.specs.declared.fault.MapFault.{MapFault}
 use Rattle.lw_map.specs.declared.problem.Problem.{Problem}
 use Rattle.lw_map.specs.Faults.{IsTradeFault}

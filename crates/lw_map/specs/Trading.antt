@@ -24,8 +24,9 @@ use Rattle.lw_genlib.specs.Tables.{delays_of_cells, timing_of, truth_of_cells}
 use Rattle.lw_pattern.specs.Libraries.{library_patterns}
 use Rattle.lw_netlist.specs.Netlists.{NetlistParts, IsNetlist}
 use Rattle.lw_netlist.specs.Plain as netlist
-use Rattle.lw_trade.specs.Areas.{area_cost}
-use Rattle.lw_trade.specs.Points.{task, AreTooMany}
+use Rattle.lw_choices.specs.Areas.{area_cost}
+use Rattle.lw_choices.specs.Tasks.{task}
+use Rattle.lw_curves.specs.Points.{AreTooMany}
 use Rattle.lw_cost.specs.declared.mark.Mark.{Mark}
 use Rattle.lw_cost.specs.Least.{AreOfCells}
 use Rattle.lw_extract.specs.declared.fault.ExtractFault.{ExtractFault}

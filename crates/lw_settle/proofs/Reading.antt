@@ -9,7 +9,7 @@ use Rattle.lw_pool.specs.declared.id.ClassId.{ClassId}
 use Rattle.lw_laws.specs.Costs.{Cost}
 use Rattle.lw_laws.specs.Covers.{HasPins}
 use Rattle.lw_laws.specs.Marks.{Mark as PlainMark, Marks, HaveMarks, costs_in, greatest_height, price}
-use Rattle.lw_settle.specs.declared.row.Row.{Row}
+use Rattle.lw_settle.specs.declared.store.Row.{Row}
 use Rattle.lw_settle.specs.declared.store.Found.{Found}
 use Rattle.lw_settle.specs.Stores.{Stored, Placed, placed, pins_of, pin_total, uses_of, uses_from, AreKeptLists, IsFound, IsHeadOf, IsPriceOf, HasMarkedPins, AreOfStoredCells}
 use Rattle.lw_settle.specs.Kept.{cell_numbers, placed_row, placed_rows, grouped, start_at, IsKeptStore}

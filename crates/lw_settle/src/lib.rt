@@ -1,13 +1,26 @@
 //! Stored matches, and marks of classes by them.
 //!
-//! A store lists the matches of each class once, in flat arrays, with the uses of each class as a
-//! pin. First a column is made for each NAND that occurs in a pattern, which says in how many ways
-//! it stands at each class. Where no pin of a pattern stands at two leaves, the ways of its root
-//! are no more than its matches, and where they alone are too many, nothing is listed. Else each
-//! pattern is walked through at each class, and a pair is entered only where both its sides may
-//! stand. Settling takes the classes in the order of their marks: when a class is taken, each of
-//! its uses is read once, and a match is priced once, when its last pin is taken. A class whose
-//! mark is taken never gets another.
+//! In come a graph and patterns. Out come a store of all matches, each once, with the uses of each
+//! class as a pin; and by a store and a cost the marks of the classes. The modules in order:
+//!
+//! * `pins`: how many pins each pattern has, and whether one stands at two leaves;
+//! * `side`, `tally`: a column for each NAND that occurs in a pattern, which says in how many ways
+//!   it stands at each class. Where no pin of a pattern stands at two leaves, the ways of its root
+//!   are no more than its matches, and where they alone are too many, nothing is listed;
+//! * `goals`, `job`, `walk`: each pattern is walked through at each class, and a pair is entered
+//!   only where both its sides may stand;
+//! * `listing`: the matches class by class (`store_matches`), or why there are none (`fault`);
+//! * `uses`: the uses of each class, by counting;
+//! * `store`: the matches and their uses in flat arrays (`Store`);
+//! * `entry`, `queue`: the classes that wait with a mark, the least first;
+//! * `settling`: the classes in the order of their marks (`settle`). When a class is taken, each of
+//!   its uses is read once, and a match is priced once, when its last pin is taken. A class whose
+//!   mark is taken never gets another;
+//! * `laws`: theorems on stores and marks.
+//!
+//! The definitions to read are `IsStoreOf` in `specs/Stores.antt` and `AreSettledMarks` in
+//! `specs/Settled.antt`. `lw_map` calls both for `big` and `trade none`, and `lw_choices` lists the
+//! choices of `trade` by a store.
 #![tactic(auto)]
 
 mod entry;
@@ -18,7 +31,6 @@ mod laws;
 mod listing;
 mod pins;
 mod queue;
-mod row;
 mod settling;
 mod side;
 mod store;

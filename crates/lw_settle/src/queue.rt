@@ -38,31 +38,6 @@ impl Model for Queue {
     ghost invariant = { λ q. IsTree q.classes q.tree.items };
 }
 
-// Finds anew the lesser entries above a place.
-fn renew(tree: &mut [Entry], classes: usize, place: usize)
-    requires place { place < 2 * classes }
-    requires tree { IsWonBut classes tree.old (place / 2) }
-    ensures tree { IsWonBut classes tree.new 0 }
-    ensures leaves { drop classes tree.new ≡ drop classes tree.old }
-{
-    let mut at = place / 2;
-    while at > 0 {
-        tree[at] = lesser(tree[2 * at], tree[2 * at + 1]);
-        at /= 2;
-    }
-}
-
-// Puts an entry at the leaf of a class.
-fn set_leaf(tree: &mut [Entry], classes: usize, class: usize, entry: Entry)
-    requires class { class < classes }
-    requires tree { IsWonBut classes tree.old 0 }
-    ensures tree { IsWonBut classes tree.new 0 }
-    ensures leaves { drop classes tree.new ≡ slice_set (drop classes tree.old) class entry }
-{
-    tree[classes + class] = entry;
-    renew(tree, classes, classes + class);
-}
-
 impl Queue {
     /// No class of so many waits.
     pub(crate) fn new(alloc: Global, classes: usize) -> Result<Queue, AllocError>
@@ -111,4 +86,29 @@ impl Queue {
             },
         })
     }
+}
+
+// Finds anew the lesser entries above a place.
+fn renew(tree: &mut [Entry], classes: usize, place: usize)
+    requires place { place < 2 * classes }
+    requires tree { IsWonBut classes tree.old (place / 2) }
+    ensures tree { IsWonBut classes tree.new 0 }
+    ensures leaves { drop classes tree.new ≡ drop classes tree.old }
+{
+    let mut at = place / 2;
+    while at > 0 {
+        tree[at] = lesser(tree[2 * at], tree[2 * at + 1]);
+        at /= 2;
+    }
+}
+
+// Puts an entry at the leaf of a class.
+fn set_leaf(tree: &mut [Entry], classes: usize, class: usize, entry: Entry)
+    requires class { class < classes }
+    requires tree { IsWonBut classes tree.old 0 }
+    ensures tree { IsWonBut classes tree.new 0 }
+    ensures leaves { drop classes tree.new ≡ slice_set (drop classes tree.old) class entry }
+{
+    tree[classes + class] = entry;
+    renew(tree, classes, classes + class);
 }

@@ -14,6 +14,33 @@ use lw_graph::Graph;
 use lw_pool::ClassId;
 use std::alloc::{AllocError, Global};
 
+/// Marks each class by the stored matches: the least cost of its covers, and its height. Classes
+/// are taken by rising cost and height; each use of a class that is taken is read once, and each
+/// match whose pins are all taken is priced once. The memory is taken first.
+pub fn settle<C: Cost>(
+    alloc: Global,
+    store: &mut Store,
+    graph: &Graph,
+    cost: &C,
+) -> Result<Labels, AllocError>
+    requires of_cells { AreOfStoredCells (C.costs cost.now).pin_counts store.old.lists }
+    requires one_each { length store.old.lists ≡ length graph.now.pairs }
+    requires leaves { HaveLeafCosts graph.now (C.costs cost.now) store.old.lists }
+    requires fresh { store.old.done < 2 ^ 62 }
+    ensures marks { IfOk result (AreSettledMarks graph.now (C.costs cost.now) store.old.lists) }
+    ensures lists { store.new.lists ≡ store.old.lists }
+    ensures done { IfOk result (λ labels. store.new.done
+        ≡ store.old.done + settle_steps (labels_in (costs_of labels)) store.old.lists) }
+    ensures err { OnErr result (store.new ≡ store.old) }
+{
+    let classes = graph.classes() as usize;
+    let mut marks = vec![in alloc; None; classes]?;
+    let mut queue = Queue::new(alloc, classes)?;
+    let mut left = vec![in alloc; 0u8; store.matches() as usize]?;
+    settle_all(store, graph, cost, &mut marks, &mut queue, &mut left);
+    Ok(Labels::from_marks(marks))
+}
+
 // Offers a mark to a class, unless its own is taken.
 fn offer(queue: &mut Queue, marks: &[Option<Mark>], class: ClassId, mark: Mark)
     requires { MayOffer marks.now queue.old class.0 mark }
@@ -168,31 +195,4 @@ fn settle_all<C: Cost>(
     count_pins(store, left);
     offer_pinless(store, cost, marks, queue, left);
     settle_classes(store, cost, marks, queue, left);
-}
-
-/// Marks each class by the stored matches: the least cost of its covers, and its height. Classes
-/// are taken by rising cost and height; each use of a class that is taken is read once, and each
-/// match whose pins are all taken is priced once. The memory is taken first.
-pub fn settle<C: Cost>(
-    alloc: Global,
-    store: &mut Store,
-    graph: &Graph,
-    cost: &C,
-) -> Result<Labels, AllocError>
-    requires of_cells { AreOfStoredCells (C.costs cost.now).pin_counts store.old.lists }
-    requires one_each { length store.old.lists ≡ length graph.now.pairs }
-    requires leaves { HaveLeafCosts graph.now (C.costs cost.now) store.old.lists }
-    requires fresh { store.old.done < 2 ^ 62 }
-    ensures marks { IfOk result (AreSettledMarks graph.now (C.costs cost.now) store.old.lists) }
-    ensures lists { store.new.lists ≡ store.old.lists }
-    ensures done { IfOk result (λ labels. store.new.done
-        ≡ store.old.done + settle_steps (labels_in (costs_of labels)) store.old.lists) }
-    ensures err { OnErr result (store.new ≡ store.old) }
-{
-    let classes = graph.classes() as usize;
-    let mut marks = vec![in alloc; None; classes]?;
-    let mut queue = Queue::new(alloc, classes)?;
-    let mut left = vec![in alloc; 0u8; store.matches() as usize]?;
-    settle_all(store, graph, cost, &mut marks, &mut queue, &mut left);
-    Ok(Labels::from_marks(marks))
 }

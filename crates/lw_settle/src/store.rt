@@ -8,10 +8,20 @@ ghost use Rattle.lw_settle.specs.Kept.{start_at};
 ghost use Rattle.lw_settle.specs.Stores.{AreKeptLists, AreMarkedPins, IsFound, IsHeadOf, IsPriceable, IsPriceOf, IsReadOnce, pin_total, placed, uses_of};
 ghost use Rattle.lw_pool.specs.Numbers.{numbers};
 
-use crate::row::Row;
 use lw_cost::{Cost, Mark, Pins};
-use lw_pool::{CellId, ClassId};
+use lw_pool::{CellId, ClassId, PatId};
 use std::marker::Model;
+
+/// A stored match as the store keeps it.
+#[derive(Clone, Copy)]
+pub(crate) struct Row {
+    pub class: ClassId,
+    pub pat: PatId,
+    /// The place of its first pin among all pins.
+    pub start: u32,
+    /// How many pins it has.
+    pub pins: u8,
+}
 
 /// The class at which a stored match stands, and its number of pins.
 #[derive(Clone, Copy, PartialEq, Eq)]
@@ -36,13 +46,17 @@ pub struct Found {
 /// `read` alone, which count their readings. No call takes memory.
 #[derive(Drop)]
 pub struct Store {
+    // the matches, by class
     rows: Vec<Row>,
+    // their pins, one match behind another
     pins: Vec<ClassId>,
     // the cell of each pattern
     cells: Vec<CellId>,
     // where the uses of each class end
     ends: Vec<u32>,
+    // the match of each use
     uses: Vec<u32>,
+    // how many pins and cells were read
     done: u64,
 }
 

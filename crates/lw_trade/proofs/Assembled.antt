@@ -19,20 +19,21 @@ use Rattle.lw_netlist.specs.declared.gate.Gate.{Gate as NetGate}
 use Rattle.lw_netlist.specs.declared.gate.Port.{Port}
 use Rattle.lw_netlist.specs.Netlists.{NetlistParts, IsGateAt}
 use Rattle.lw_netlist.specs.Plain.{plain, plain_gate, HasCell, IsOver}
-use Rattle.lw_trade.specs.declared.targets.Targets.{Targets}
-use Rattle.lw_trade.specs.Backing.{Held}
-use Rattle.lw_trade.specs.Groups.{CurveLists}
+use Rattle.lw_backtrace.specs.declared.targets.Targets.{Targets}
+use Rattle.lw_curves.specs.Backing.{Held}
+use Rattle.lw_curves.specs.CurveTables.{CurveLists}
 use Rattle.lw_trade.specs.Placed.{ArePlaces, IsByHeight, placed_gate, placed_net}
-use Rattle.lw_trade.specs.Points.{Task, timing}
-use Rattle.lw_trade.specs.Targets.{AreCurvesFor, AreTargets}
+use Rattle.lw_choices.specs.Tasks.{Task, timing}
+use Rattle.lw_backtrace.specs.Targets.{AreCurvesFor, AreTargets}
 use Rattle.lw_trade.specs.Traded.{HasLeastAreaBy, IsNeeded, output_nets, port_net}
 use Rattle.lw_trade.specs.Traded.IsNeeded.{by_output, by_pin}
-use Rattle.lw_trade.specs.Trades.{Site, IsBuilt, IsGateOfPoint, IsNetOfPoint}
-use Rattle.lw_trade.specs.Walks.{IsRootNet, IsUsed, IsWalk}
-use Rattle.lw_trade.specs.Walks.IsUsed.{by_root, by_pin as used_pin}
-use Rattle.lw_trade.proofs.Cells.{cell_in}
-use Rattle.lw_trade.proofs.Grouped.{get_map, map_get}
-use Rattle.lw_trade.proofs.Lists.{at_contained, contained_at, get_some, got}
+use Rattle.lw_backtrace.specs.Sites.{Site, IsGateOfPoint, IsNetOfPoint}
+use Rattle.lw_trade.specs.Trades.{IsBuilt}
+use Rattle.lw_backtrace.specs.Walks.{IsRootNet, IsUsed, IsWalk}
+use Rattle.lw_backtrace.specs.Walks.IsUsed.{by_root, by_pin as used_pin}
+use Rattle.lw_curves.proofs.Cells.{cell_in}
+use Rattle.lw_curves.proofs.Grouped.{get_map, map_get}
+use Rattle.lw_choices.proofs.Lists.{at_contained, contained_at, get_some, got}
 use Rattle.lw_trade.proofs.Lowest.{root_net}
 use Rattle.lw_trade.proofs.Moved.{placed_low, root_at, pin_count, no_site, moved_sites, site_in, root_placed, pins_placed}
 use Rattle.lw_trade.proofs.Places.{order_length, order_low, stands_there}
@@ -247,7 +248,7 @@ module _ (s : Task) (t : Targets) (curves : CurveLists) (c : AreCurvesFor s t cu
             let (h, at) = get_some sites i low in
             let is = made_of_point i h at in
             let cell = (made_gate i).cell in
-            let may = c.ways.choices.each h.point.choice (record { class = is.class; part = Rattle.lw_trade.specs.Choices.Part.gate cell is.pins }) is.chosen in
+            let may = c.ways.choices.each h.point.choice (record { class = is.class; part = Rattle.lw_choices.specs.Choices.Part.gate cell is.pins }) is.chosen in
             let (parts, bt) = get_some s.cells cell (cell_in s.cells cell (length is.pins) may.pins) in
             let a = pins_at s.cells cell (length is.pins) parts bt may.pins in
             let b = pin_count s held in_order h.exact h.point.spot.time (delays_of (timing s).delays cell) is.pins (made_gate i).pins is.nets in

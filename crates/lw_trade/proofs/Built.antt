@@ -12,15 +12,17 @@ use Rattle.lw_laws.specs.Mapped.{IsMapped}
 use Rattle.lw_laws.specs.Matches.{IsMatchAt}
 use Rattle.lw_laws.specs.Netlists.{Gate, Netlist, IsGate, StandsFor, StandForAll}
 use Rattle.lw_laws.proofs.Netlists.{net_covered}
-use Rattle.lw_trade.specs.Areas.{most_area, area_at, total, area_cost}
-use Rattle.lw_trade.specs.Backing.{Held, IsHeld, IsPinOf, held_times, held_areas, IsGivenBy, AreBacked}
-use Rattle.lw_trade.specs.Choices.{Part, Choice, AreListedChoices}
-use Rattle.lw_trade.specs.Choices.Part.{gate as by_gate}
-use Rattle.lw_trade.specs.Groups.{CurveLists, HaveWays, point_in}
-use Rattle.lw_trade.specs.Points.{Task, timing, IsCoverBy, IsPoint, AreCurves}
-use Rattle.lw_trade.specs.Trades.{Site, IsNetOfPoint, IsGateOfPoint, HavePinNets, IsBuilt, IsCoverOfPoint, BuiltNetsAreCovers}
-use Rattle.lw_trade.proofs.Grouped.{get_map}
-use Rattle.lw_trade.proofs.Lists.{get_some, got, at_contained}
+use Rattle.lw_choices.specs.Areas.{most_area, area_at, total, area_cost}
+use Rattle.lw_curves.specs.Backing.{Held, IsHeld, IsPinOf, held_times, held_areas, IsGivenBy, AreBacked}
+use Rattle.lw_choices.specs.Choices.{Part, Choice, AreListedChoices}
+use Rattle.lw_choices.specs.Choices.Part.{gate as by_gate}
+use Rattle.lw_curves.specs.CurveTables.{CurveLists, HaveWays, point_in}
+use Rattle.lw_choices.specs.Tasks.{Task, timing, IsCoverBy}
+use Rattle.lw_curves.specs.Points.{IsPoint, AreCurves}
+use Rattle.lw_backtrace.specs.Sites.{Site, IsNetOfPoint, IsGateOfPoint, HavePinNets}
+use Rattle.lw_trade.specs.Trades.{IsBuilt, IsCoverOfPoint, BuiltNetsAreCovers}
+use Rattle.lw_curves.proofs.Grouped.{get_map}
+use Rattle.lw_choices.proofs.Lists.{get_some, got, at_contained}
 
 abbrev tail : List ℕ → List ℕ
 tail [] = []

@@ -3,10 +3,11 @@ use Rattle.std.proofs.Common.{◌≡◌, ℕ, zero, suc, ◌+◌, ◌<◌, ◌�
 use Rattle.std.proofs.lemmas.Bool.{cases_lt}
 use Rattle.std.proofs.lemmas.Option.{slice_get_within}
 use Rattle.lw_dag.specs.Graphs.{AreHeights, fanins_at, height_at}
-use Rattle.lw_trade.specs.Backing.{Held, IsHeld, IsBefore}
-use Rattle.lw_trade.specs.Points.{Task}
-use Rattle.lw_trade.specs.Trades.{Site, IsPointBy, IsLastBy, IsNetOfPoint, HavePinNets, HaveLastPins}
-use Rattle.lw_trade.proofs.Lists.{contained_at, get_some}
+use Rattle.lw_curves.specs.Backing.{Held, IsHeld, IsBefore}
+use Rattle.lw_choices.specs.Tasks.{Task}
+use Rattle.lw_backtrace.specs.Sites.{Site, IsPointBy, IsLastBy, IsNetOfPoint, HavePinNets}
+use Rattle.lw_trade.specs.Trades.{HaveLastPins}
+use Rattle.lw_choices.proofs.Lists.{contained_at, get_some}
 
 module _ (s : Task) (held : List Held) (sites : List Site) (h : Held) where
   -- a pin's net is an input's, or that of a point that comes before

@@ -6,16 +6,18 @@ use Rattle.std.proofs.lemmas.Bool.{cases_lt}
 use native.Mathlib.Decide.{ℕ_discrete}
 use Rattle.lw_laws.specs.Covers.{latest, delays_of}
 use Rattle.lw_laws.proofs.Delays.{length-delays_of}
-use Rattle.lw_trade.specs.Areas.{most_area, area_at, total}
-use Rattle.lw_trade.specs.Backing.{Held, IsHeld, IsBefore, IsPinOf, held_times, held_areas, IsGivenBy}
-use Rattle.lw_trade.specs.Choices.{Choice}
-use Rattle.lw_trade.specs.Choices.Part.{gate}
-use Rattle.lw_trade.specs.Groups.{CurveLists, HaveWays}
-use Rattle.lw_trade.specs.Points.{Task, timing, AreCurves}
-use Rattle.lw_trade.specs.Trades.{IsLastBy, HaveLastPins, PinsComeBefore}
+use Rattle.lw_choices.specs.Areas.{most_area, area_at, total}
+use Rattle.lw_curves.specs.Backing.{Held, IsHeld, IsBefore, IsPinOf, held_times, held_areas, IsGivenBy}
+use Rattle.lw_choices.specs.Choices.{Choice}
+use Rattle.lw_choices.specs.Choices.Part.{gate}
+use Rattle.lw_curves.specs.CurveTables.{CurveLists, HaveWays}
+use Rattle.lw_choices.specs.Tasks.{Task, timing}
+use Rattle.lw_curves.specs.Points.{AreCurves}
+use Rattle.lw_backtrace.specs.Sites.{IsLastBy}
+use Rattle.lw_trade.specs.Trades.{HaveLastPins, PinsComeBefore}
 use Rattle.lw_trade.proofs.Built.{held_point, held_falls}
-use Rattle.lw_trade.proofs.Joint.{area_low}
-use Rattle.lw_trade.proofs.Lists.{get_some}
+use Rattle.lw_curves.proofs.Joint.{area_low}
+use Rattle.lw_choices.proofs.Lists.{get_some}
 
 -- one of them comes by the time, and then a last one does
 module _ (c d t : ℕ) where
@@ -98,7 +100,7 @@ module _ (s : Task) (horizon : ℕ) (curves : CurveLists) (ways : HaveWays s cur
   less_later : (k l : Held) → IsHeld ways.held k → IsHeld ways.held l → k.spot.class ≡ l.spot.class → k.spot.time < l.spot.time → l.spot.area < k.spot.area
   less_later k l in' also e lt =
       let least = (held_point s horizon curves ways are k in').least in
-      (held_point s horizon curves ways are l also).falls k.spot.time k.spot.area lt (subst (λ c. Rattle.lw_trade.specs.Points.IsLeastAreaBy s c k.spot.time (Some k.spot.area)) e least)
+      (held_point s horizon curves ways are l also).falls k.spot.time k.spot.area lt (subst (λ c. Rattle.lw_choices.specs.Tasks.IsLeastAreaBy s c k.spot.time (Some k.spot.area)) e least)
 
   held_low : (k : Held) → IsHeld ways.held k → k.spot.area ≤ most_area
   held_low k in' =

@@ -4,18 +4,20 @@ use Rattle.std.proofs.lemmas.Bool.{cases_lt}
 use Rattle.lw_laws.specs.Covers.{Cover, time_of, tree_of}
 use Rattle.lw_laws.specs.Graphs.{Unfolds}
 use Rattle.lw_laws.specs.Netlists.{Netlist}
-use Rattle.lw_trade.specs.declared.point.Point.{Point}
-use Rattle.lw_trade.specs.Areas.{most_area}
-use Rattle.lw_trade.specs.Backing.{Held, IsHeld}
-use Rattle.lw_trade.specs.Groups.{CurveLists, HaveWays, point_in}
-use Rattle.lw_trade.specs.Points.{Task, timing, IsCoverBy, area_of, IsPoint, AreCurves}
+use Rattle.lw_curves.specs.declared.point.Point.{Point}
+use Rattle.lw_choices.specs.Areas.{most_area}
+use Rattle.lw_curves.specs.Backing.{Held, IsHeld}
+use Rattle.lw_curves.specs.CurveTables.{CurveLists, HaveWays, point_in}
+use Rattle.lw_choices.specs.Tasks.{Task, timing, IsCoverBy, area_of}
+use Rattle.lw_curves.specs.Points.{IsPoint, AreCurves}
 use Rattle.lw_trade.specs.Traded.{HasLeastAreaBy}
-use Rattle.lw_trade.specs.Trades.{Site, IsLastBy, IsPinNet, IsNetOfPoint, IsBuilt}
-use Rattle.lw_trade.specs.Walks.{IsRootNet}
+use Rattle.lw_backtrace.specs.Sites.{Site, IsLastBy, IsPinNet, IsNetOfPoint}
+use Rattle.lw_trade.specs.Trades.{IsBuilt}
+use Rattle.lw_backtrace.specs.Walks.{IsRootNet}
 use Rattle.lw_trade.proofs.Built.{built_nets, held_point, net_cover}
-use Rattle.lw_trade.proofs.Grouped.{map_get}
-use Rattle.lw_trade.proofs.Joint.{area_low}
-use Rattle.lw_trade.proofs.Lists.{contained_at, get_some}
+use Rattle.lw_curves.proofs.Grouped.{map_get}
+use Rattle.lw_curves.proofs.Joint.{area_low}
+use Rattle.lw_choices.proofs.Lists.{contained_at, get_some}
 
 module _ (s : Task) (horizon : ℕ) (curves : CurveLists) (ways : HaveWays s curves) (are : AreCurves s horizon curves.points) where
   -- a point of a class is among those that are held

@@ -7,13 +7,13 @@ use Rattle.std.proofs.lemmas.Option.{get_or_from_slice_get, same_Some, slice_get
 use Rattle.std.proofs.lemmas.Bool.{cases_lt}
 use Rattle.lw_pool.specs.declared.id.ClassId.{ClassId}
 use Rattle.lw_fixed.specs.declared.micro.Micro.{Micro}
-use Rattle.lw_trade.specs.Backing.{Held}
+use Rattle.lw_curves.specs.Backing.{Held}
 use Rattle.lw_trade.specs.Placed.{ArePlaces, placed_net}
-use Rattle.lw_trade.specs.Points.{Task}
-use Rattle.lw_trade.specs.Trades.{Site, IsNetOfPoint, IsPinNet, HavePinNets}
-use Rattle.lw_trade.specs.Walks.{IsRootNet, HaveRootNets}
-use Rattle.lw_trade.proofs.Grouped.{get_map, map_get}
-use Rattle.lw_trade.proofs.Lists.{got}
+use Rattle.lw_choices.specs.Tasks.{Task}
+use Rattle.lw_backtrace.specs.Sites.{Site, IsNetOfPoint, IsPinNet, HavePinNets}
+use Rattle.lw_backtrace.specs.Walks.{IsRootNet, HaveRootNets}
+use Rattle.lw_curves.proofs.Grouped.{get_map, map_get}
+use Rattle.lw_choices.proofs.Lists.{got}
 use Rattle.lw_trade.proofs.Places.{order_length, order_low, stands_there}
 use Rattle.lw_trade.proofs.Standing.{placed_input, placed_node}
 

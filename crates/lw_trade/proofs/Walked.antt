@@ -8,17 +8,17 @@ use Rattle.lw_pool.specs.declared.id.CellId.{CellId}
 use Rattle.lw_pool.specs.declared.id.ClassId.{ClassId}
 use Rattle.lw_fixed.specs.declared.micro.Micro.{Micro}
 use Rattle.lw_dag.specs.Graphs.{IsGraph, fanins_at}
-use Rattle.lw_trade.specs.declared.targets.Targets.{Targets}
-use Rattle.lw_trade.specs.Backing.{Held, IsHeld}
-use Rattle.lw_trade.specs.Groups.{CurveLists, HaveWays}
+use Rattle.lw_backtrace.specs.declared.targets.Targets.{Targets}
+use Rattle.lw_curves.specs.Backing.{Held, IsHeld}
+use Rattle.lw_curves.specs.CurveTables.{CurveLists, HaveWays}
 use Rattle.lw_trade.specs.Placed.{HaveHeights}
-use Rattle.lw_trade.specs.Points.{Task, timing}
-use Rattle.lw_trade.specs.Targets.{AreCurvesFor}
-use Rattle.lw_trade.specs.Trades.{Site, IsNetOfPoint, HavePinNets, IsGateOfPoint}
-use Rattle.lw_trade.specs.Walks.{HaveRootNets, IsWalk}
+use Rattle.lw_choices.specs.Tasks.{Task, timing}
+use Rattle.lw_backtrace.specs.Targets.{AreCurvesFor}
+use Rattle.lw_backtrace.specs.Sites.{Site, IsNetOfPoint, HavePinNets, IsGateOfPoint}
+use Rattle.lw_backtrace.specs.Walks.{HaveRootNets, IsWalk}
 use Rattle.lw_trade.proofs.Heights.{IsEarlier, pins_earlier, all_high}
 use Rattle.lw_trade.proofs.Lasting.{pins_before}
-use Rattle.lw_trade.proofs.Lists.{get_some}
+use Rattle.lw_choices.proofs.Lists.{get_some}
 
 -- a class has one point of a time
 pub one_held : (s : Task) (curves : CurveLists) (ways : HaveWays s curves) (k l : Held) → IsHeld ways.held k → IsHeld ways.held l → k.spot.class ≡ l.spot.class → k.spot.time ≡ l.spot.time → k ≡ l

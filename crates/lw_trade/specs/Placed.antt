@@ -7,9 +7,9 @@ use Rattle.lw_dag.specs.Graphs.{AreHeights, fanins_at, height_at, most_signals}
 use Rattle.lw_netlist.specs.declared.gate.Gate.{Gate}
 use Rattle.lw_netlist.specs.declared.gate.Port.{Port}
 use Rattle.lw_netlist.specs.Plain.{port_name}
-use Rattle.lw_trade.specs.declared.targets.Targets.{Targets}
-use Rattle.lw_trade.specs.declared.walking.Walk.{Walk}
-use Rattle.lw_trade.specs.declared.ordering.Placing.{Placing}
+use Rattle.lw_backtrace.specs.declared.targets.Targets.{Targets}
+use Rattle.lw_backtrace.specs.declared.trail.Walk.{Walk}
+use Rattle.lw_trade.specs.declared.assembly.Placing.{Placing}
 use Rattle.lw_trade.specs.Traded.{port_net}
 
 -- no cycle is behind a node

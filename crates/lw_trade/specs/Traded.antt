@@ -9,8 +9,9 @@ use Rattle.lw_laws.specs.Netlists.{Netlist, IsGate, Gate, StandsFor, AreByDepth}
 use Rattle.lw_netlist.specs.declared.gate.Port.{Port}
 use Rattle.lw_netlist.specs.Netlists.{NetlistParts}
 use Rattle.lw_netlist.specs.Plain.{plain, IsOver, port_name}
-use Rattle.lw_trade.specs.declared.targets.Targets.{Targets}
-use Rattle.lw_trade.specs.Points.{Task, IsCoverBy, IsLeastAreaBy, area_of, most_points}
+use Rattle.lw_backtrace.specs.declared.targets.Targets.{Targets}
+use Rattle.lw_choices.specs.Tasks.{Task, IsCoverBy, IsLeastAreaBy, area_of}
+use Rattle.lw_curves.specs.Points.{most_points}
 
 abbrev pub port_net : Port → ℕ
 port_net port = port.net.0

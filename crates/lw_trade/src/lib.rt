@@ -1,41 +1,24 @@
-//! Least area under a deadline: the area of covers, and the points of each class at which more time
-//! buys less area, settled by rising time.
+//! A netlist of least area under a deadline.
+//!
+//! In come a graph, its curves and the targets. Out comes a netlist whose outputs arrive by their
+//! times, each with the least area of all covers of its class. `lw_choices` has what may stand at a
+//! class, `lw_curves` the points at which more time buys less area, and `lw_backtrace` the way from
+//! the roots down; their public calls are given on here. The modules in order:
+//!
+//! * `trading`: from curves to a netlist (`trade`);
+//! * `assembly`: the gates that the way down found, by depth and with their names;
+//! * `laws`: theorems on netlists that are built from points.
+//!
+//! The one definition to read is `IsTraded` in `specs/Traded.antt`. `lw_map` calls `curves` and
+//! `trade`, and for `trade none` it finds labels by `AreaCost`.
 #![tactic(auto)]
 
-mod area;
-mod bisecting;
-mod checking;
-mod choices;
-mod found;
-mod fronts;
-mod grouping;
-mod job;
-mod lane;
-mod lanes;
+mod assembly;
 mod laws;
-mod links;
-mod looking;
-mod looks;
-mod making;
-mod ordering;
-mod plan;
-mod point;
-mod pricing;
-mod queue;
-mod seeing;
-mod settling;
-mod sharing;
-mod starting;
-mod tallies;
-mod targets;
 mod trading;
-mod uses;
-mod walking;
 
-pub use area::AreaCost;
-pub use grouping::Curves;
 pub use laws::{built_nets_are_covers, pins_come_before};
-pub use making::curves;
-pub use point::{CurveFault, Point};
-pub use targets::Targets;
+pub use lw_backtrace::Targets;
+pub use lw_choices::AreaCost;
+pub use lw_curves::{CurveFault, Curves, Point, curves};
 pub use trading::trade;

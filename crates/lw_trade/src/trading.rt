@@ -1,15 +1,14 @@
 // The netlist of least area under a deadline.
 ghost use Rattle.std.specs.Prelude.{IfOk};
 ghost use Rattle.lw_cost.specs.Least.{AreOfCells};
-ghost use Rattle.lw_trade.specs.Areas.{area_cost};
-ghost use Rattle.lw_trade.specs.Points.{task};
-ghost use Rattle.lw_trade.specs.Targets.{AreCurvesFor, AreTargets};
+ghost use Rattle.lw_choices.specs.Areas.{area_cost};
+ghost use Rattle.lw_choices.specs.Tasks.{task};
+ghost use Rattle.lw_backtrace.specs.Targets.{AreCurvesFor, AreTargets};
 ghost use Rattle.lw_trade.specs.Traded.{IsTraded};
 
-use crate::grouping::Curves;
-use crate::ordering::assemble;
-use crate::targets::Targets;
-use crate::walking::walk_down;
+use crate::assembly::assemble;
+use lw_backtrace::{Targets, walk_down};
+use lw_curves::Curves;
 use lw_fixed::Micros;
 use lw_genlib::Library;
 use lw_graph::Graph;

@@ -1,5 +1,5 @@
 use Rattle.std.proofs.Common.{refl, sym}
-use Rattle.lw_trade.specs.Points.{task}
+use Rattle.lw_choices.specs.Tasks.{task}
 use Rattle.lw_facts.proofs.Results.{ok_both}
 use Rattle.lw_trade.proofs.trading.trade.Goals as goal
 

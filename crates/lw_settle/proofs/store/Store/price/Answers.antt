@@ -6,7 +6,7 @@ use Rattle.lw_pool.specs.declared.id.ClassId.{ClassId}
 use Rattle.lw_laws.specs.Covers.{HasPins}
 use Rattle.lw_laws.specs.Marks.{Mark, HaveMarks, price}
 use Rattle.lw_cost.specs.Values.{marks_in, plain_mark}
-use Rattle.lw_settle.specs.declared.row.Row.{Row}
+use Rattle.lw_settle.specs.declared.store.Row.{Row}
 use Rattle.lw_settle.specs.Kept.{cell_numbers}
 use Rattle.lw_settle.specs.Stores.{StoreState, placed, HasMarkedPins, AreOfStoredCells, IsPriceOf}
 use Rattle.lw_settle.proofs.Reading.{count, list_count, within, row_classes, part_length, cell_is, cell_pins, marked_row, priced}

@@ -2,7 +2,7 @@ use Rattle.std.proofs.Common.{◌+◌, ◌<◌, ◌∙◌, length, refl, sym, ap
 use Rattle.std.specs.List.{slice_range}
 use Rattle.std.proofs.lemmas.Option.{slice_get_read}
 use Rattle.lw_facts.proofs.Lists.{all_at}
-use Rattle.lw_settle.specs.declared.row.Row.{Row}
+use Rattle.lw_settle.specs.declared.store.Row.{Row}
 use Rattle.lw_settle.specs.declared.store.Found.{Found}
 use Rattle.lw_settle.specs.Kept.{cell_numbers}
 use Rattle.lw_settle.specs.Stores.{StoreState, placed, IsFound}

@@ -1,0 +1,4 @@
+pub mod SecondLook
+pub mod Sites
+pub mod Targets
+pub mod Walks

@@ -1,0 +1,10 @@
+use Rattle.std.proofs.Common.{List}
+use Rattle.lw_laws.specs.Covers.{Pattern}
+use Rattle.lw_fixed.specs.declared.micro.Micro.{Micro}
+use Rattle.lw_genlib.specs.Cells.{CellParts}
+use Rattle.lw_choices.specs.Tasks.{task}
+use Rattle.lw_choices.specs.Rows.{IsListing, plain_rows}
+use Rattle.lw_choices.proofs.choices.list_inputs.Given as goal
+
+abbrev pub invariant-loop-input : goal.invariant-loop-input
+invariant-loop-input l = (pats : List Pattern) (cells : List CellParts) (starts : List Micro) → IsListing (task l.graph pats cells starts) l.input 0 (plain_rows l.rows.items)

@@ -1,0 +1,11 @@
+use Rattle.std.proofs.Common.{◌≡◌}
+use Rattle.lw_choices.specs.Rows.{plain_rows}
+use Rattle.lw_choices.specs.PinGroups.{AreGroupsTo, AreUsesTo}
+use Rattle.lw_choices.proofs.pin_groups.add_all.Given as goal
+
+abbrev pub invariant-loop-choice : goal.invariant-loop-choice
+invariant-loop-choice l = record {
+  count : l.uses.links.count ≡ l.initial.uses.links.count;
+  of : AreGroupsTo l.choice l.uses;
+  uses : AreUsesTo l.lib (plain_rows l.rows) l.choice 0 l.uses;
+}

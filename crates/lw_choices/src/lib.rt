@@ -1,0 +1,29 @@
+//! The choices of each class: an input, or a cell by a match, and what they cost.
+//!
+//! In come a graph, the patterns and the cells of a library. Out come the list of all choices, the
+//! pins of these in groups, and the area of covers as a cost. The modules in order:
+//!
+//! * `area`: the area of a cell with those of its pins, cut at 2^62 (`AreaCost`);
+//! * `choices`: the inputs, and behind them the matches of a store, or of a search at each class
+//!   where there are too many to store (`list_choices`);
+//! * `chains`: an array of numbers, each place linked to the last one before it with the same
+//!   number;
+//! * `pin_groups`: the pins of all choices in groups by class and delay, since those of a group
+//!   come at the same times (`pin_groups_of`);
+//! * `group_choices`: the choices of each group, one group behind another.
+//!
+//! The one definition to read is `AreListedChoices` in `specs/Choices.antt`: each that may stand at
+//! a class, and no other. `lw_curves` calls `list_choices` and `pin_groups_of`, and `lw_backtrace`
+//! reads the choice of a point.
+#![tactic(auto)]
+
+mod area;
+mod chains;
+mod choices;
+mod group_choices;
+mod pin_groups;
+
+pub use area::{AreaCost, MOST_AREA, joined};
+pub use chains::Chains;
+pub use choices::{Gate, Row, Stand, list_choices};
+pub use pin_groups::{PinGroups, lane_of, pin_groups_of};

@@ -1,0 +1,11 @@
+pub mod Backing
+pub mod CurveTables
+pub mod Fronts
+pub mod Lasts
+pub mod Points
+pub mod Pricing
+pub mod SeenAreas
+pub mod Settling
+pub mod Setups
+pub mod Tallies
+pub mod Turns

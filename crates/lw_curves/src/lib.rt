@@ -1,0 +1,42 @@
+//! The points of each class at which more time buys less area, by rising time.
+//!
+//! In come a graph, patterns, a library, the starts of the inputs and a horizon. Out come the curve
+//! of each class up to the horizon and the choice behind each point, or `Limit` where there are too
+//! many points. Time passes from 0 to the horizon. When a class gains a point, each group of pins at
+//! it comes later by the delay of the group. When a group comes, the choices with a pin in it wait
+//! to be priced. The modules in the order in which points are found:
+//!
+//! * `point`: what is known of a point;
+//! * `finding`: from a graph to its curves, by all that follows (`curves`);
+//! * `setup`: what stays the same meanwhile;
+//! * `first_choices`: the choices that wait at the start: inputs, and cells without pins;
+//! * `settling`: from one time to the next, until nothing waits up to the horizon;
+//! * `waking`: the groups that come, and which of their choices may give less area;
+//! * `seen_areas`: the least area that each group has seen;
+//! * `tallies`: from that, a lower bound of the area of each choice;
+//! * `choice_area`: the least area that a choice gives by a time;
+//! * `pareto_fronts`: the points so far, and searches among those of a class;
+//! * `curve_table`: the points by class, with their choices (`Curves`);
+//! * `last_point`: the last point of a class by a time.
+//!
+//! The one definition to read is `AreCurves` in `specs/Points.antt`. `lw_map` calls `curves` through
+//! `lw_trade`, and `lw_backtrace` reads what comes out.
+#![tactic(auto)]
+
+mod choice_area;
+mod curve_table;
+mod finding;
+mod first_choices;
+mod last_point;
+mod pareto_fronts;
+mod point;
+mod seen_areas;
+mod settling;
+mod setup;
+mod tallies;
+mod waking;
+
+pub use curve_table::Curves;
+pub use finding::curves;
+pub use last_point::last_by;
+pub use point::{CurveFault, Point, Way};

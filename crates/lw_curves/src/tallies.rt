@@ -1,0 +1,117 @@
+// What is known of each choice while points are found: its class, and no more than its area by what
+// the groups of its pins have seen.
+ghost use Rattle.std.specs.Prelude.{◌≡◌, ◌+◌, ◌^◌, ◌<◌, ℕ, List, All, IfOk};
+ghost use Rattle.lw_genlib.specs.Cells.{CellParts};
+ghost use Rattle.lw_choices.specs.Choices.{Choice, IsOfLibrary};
+ghost use Rattle.lw_choices.specs.GroupChoices.{AreGroupChoices};
+ghost use Rattle.lw_choices.specs.Rows.{plain_part, plain_row, plain_rows};
+ghost use Rattle.lw_curves.specs.Tallies.{AreFirstTallies, AreTallies, HasFallen, IsBoundOf, IsFirstTally, IsLowered, bound_of};
+ghost use Rattle.lw_choices.specs.PinGroups.{AreUses};
+
+use lw_choices::{MOST_AREA, PinGroups, Row, Stand};
+use lw_genlib::Library;
+use lw_pool::ClassId;
+use std::alloc::{AllocError, Global};
+
+/// The class of a choice, and no more than the area of its cell and what the groups of its pins
+/// have seen together: a bound below 2^96, in two parts, since a `u128` would double the size.
+#[derive(Clone, Copy)]
+pub(crate) struct Tally {
+    low: u64,
+    high: u32,
+    pub class: ClassId,
+}
+
+// There is one for each choice, so it is kept small.
+const _: () = prove!(size_of::<Tally>() == 16);
+
+// What the upper part of a bound counts in.
+const HIGH_UNIT: u128 = 1 << 64;
+
+impl Tally {
+    /// The tally of a class with a bound.
+    pub(crate) fn new(bound: u128, class: ClassId) -> Self
+        requires { bound < 2 ^ 96 }
+        ensures bound { bound_of result ≡ bound }
+        ensures class { result.class ≡ class }
+    {
+        Tally {
+            low: (bound % HIGH_UNIT) as u64,
+            high: (bound / HIGH_UNIT) as u32,
+            class,
+        }
+    }
+
+    /// Its bound.
+    pub(crate) fn bound(&self) -> u128
+        ensures { IsBoundOf self.now result }
+    {
+        self.high as u128 * HIGH_UNIT + self.low as u128
+    }
+}
+
+// What stands for a group that has seen no point: more than a cell and 16 pins have together that
+// have seen some.
+pub(crate) const UNSEEN: u128 = 147_573_952_589_676_412_928;
+
+/// The tallies of choices whose groups have seen nothing.
+pub(crate) fn first_tallies(
+    alloc: Global,
+    rows: &[Row],
+    lib: &Library,
+) -> Result<Vec<Tally>, AllocError>
+    requires { All (λ (r : Row). IsOfLibrary lib.now (plain_part r.stand)) rows.now }
+    ensures { IfOk result (λ tallies. AreFirstTallies lib.now (plain_rows rows.now)
+        tallies.items) }
+{
+    let mut tallies = Vec::with_capacity(alloc, rows.len())?;
+    for row in rows {
+        tallies.push(first_tally(lib, row))?;
+    }
+    Ok(tallies)
+}
+
+/// Lets the bounds of the choices with a pin in a group fall by what the area fell that it has
+/// seen.
+pub(crate) fn lower_tallies(uses: &PinGroups, tallies: &mut [Tally], group: u32, fall: u128)
+    requires group { group < uses.now.members.count }
+    requires by_group { AreGroupChoices uses.now }
+    ensures { (cells : List CellParts) (xs : List Choice) (seen fallen : List ℕ) →
+        AreUses cells xs uses.now → HasFallen group fall seen fallen →
+        AreTallies cells xs uses.now seen tallies.old →
+        AreTallies cells xs uses.now fallen tallies.new }
+{
+    let first = uses.by_group.starts[group as usize];
+    let end = uses.by_group.starts[group as usize + 1];
+    for at in first..end {
+        lower_tally(tallies, uses.by_group.numbers[at], fall);
+    }
+}
+
+// The tally of a choice whose groups have seen nothing.
+fn first_tally(lib: &Library, row: &Row) -> Tally
+    requires { IsOfLibrary lib.now (plain_part row.now.stand) }
+    ensures { IsFirstTally lib.now (plain_row row.now) result }
+{
+    let class = row.class;
+    match &row.stand {
+        Stand::Input(_) => Tally::new(0, class),
+        Stand::Gate(gate) => {
+            let area = lib.cell(gate.cell).area().0.min(MOST_AREA);
+            let bound = area as u128 + gate.pins.len() as u128 * UNSEEN;
+            Tally::new(bound, class)
+        }
+    }
+}
+
+// Lets the bound of a choice fall.
+fn lower_tally(tallies: &mut [Tally], number: u32, fall: u128)
+    ensures { IsLowered tallies.old tallies.new number fall }
+{
+    let number = number as usize;
+    if number >= tallies.len() {
+        return;
+    }
+    let tally = tallies[number];
+    tallies[number] = Tally::new(tally.bound().saturating_sub(fall), tally.class);
+}

@@ -1,0 +1,105 @@
+// The groups that come at a time, and which of their choices wait from then on to be priced.
+ghost use Rattle.std.specs.Prelude.{◌≡◌, ◌<◌, ◌≤◌, IsFalse, IsTrue, OnOk, length};
+ghost use Rattle.lw_curves.specs.Setups.{AreGroupsOver, AreTalliedIn, GivesNoMoreIn, IsGroupLookedAtIn, IsLookedAtIn, IsReadyAt, IsReadyFor, IsUnderWay};
+
+use crate::pareto_fronts::Fronts;
+use crate::seen_areas::{Seen, see};
+use crate::setup::Setup;
+use crate::tallies::UNSEEN;
+use lw_choices::MOST_AREA;
+use lw_queue::Queue;
+use std::alloc::AllocError;
+
+/// What choices are looked at by.
+#[derive(Drop)]
+pub(crate) struct View<'a, 'b, 'c, 'd> {
+    pub setup: &'a Setup<'b>,
+    /// What the groups have seen.
+    pub seen: &'c Seen,
+    /// The points that were found.
+    pub fronts: &'d Fronts,
+}
+
+/// Whether by what its groups have seen a choice may give more at a time than what is had.
+pub(crate) fn may_give(at: &View, number: u32, time: u64) -> bool
+    requires { IsReadyFor at.now.setup.now time at.now.seen.now at.now.fronts.now }
+    ensures listed { IsTrue result → number < length at.now.setup.now.rows.now }
+    ensures no_more { IsFalse result → GivesNoMoreIn at.now time number }
+{
+    let place = number as usize;
+    if place >= at.seen.tallies.len() {
+        return false;
+    }
+    let tally = at.seen.tallies[place];
+    let bound = tally.bound();
+    if bound >= UNSEEN {
+        return false;
+    }
+    let area = bound.min(MOST_AREA as u128) as u64;
+    at.fronts.is_less(tally.class, time, area)
+}
+
+/// GroupChoices at the choices of the groups that come at a time.
+pub(crate) fn look_at_groups(
+    setup: &Setup,
+    seen: &mut Seen,
+    fronts: &Fronts,
+    coming: &mut Queue,
+    queue: &mut Queue,
+    time: u64,
+) -> Result<(), AllocError>
+    requires { IsUnderWay setup.now time seen.old fronts.now coming.old queue.old }
+    ensures horizon { coming.new.horizon ≡ coming.old.horizon }
+    ensures tallied { AreTalliedIn setup.now seen.new }
+    ensures over { OnOk result (AreGroupsOver setup.now time seen.new fronts.now.spots coming.old
+        coming.new queue.old queue.new) }
+{
+    while let Some((place, group)) = coming.take_hinted_at(time) {
+        see(setup.uses, fronts, seen, group, time, place);
+        look_at_group(
+            &View {
+                setup,
+                seen,
+                fronts,
+            },
+            queue,
+            group,
+            time,
+        )?;
+    }
+    Ok(())
+}
+
+// Lets a choice wait at a time, unless by what its groups have seen it gives no more then than what
+// is had.
+fn look_at(at: &View, queue: &mut Queue, number: u32, time: u64) -> Result<(), AllocError>
+    requires time { time ≤ queue.old.horizon }
+    requires ready { IsReadyFor at.now.setup.now time at.now.seen.now at.now.fronts.now }
+    ensures horizon { queue.new.horizon ≡ queue.old.horizon }
+    ensures looked { OnOk result (IsLookedAtIn at.now time number queue.old queue.new) }
+{
+    if may_give(at, number, time) {
+        queue.push(0, time, 0, number)?;
+        return Ok(());
+    }
+    Ok(())
+}
+
+// Lets the choices wait at a time that have a pin in a group, but for those that give no more then
+// than what is had.
+fn look_at_group(at: &View, queue: &mut Queue, group: u32, time: u64) -> Result<(), AllocError>
+    requires time { time ≤ queue.old.horizon }
+    requires ready { IsReadyAt at.now.setup.now time at.now.seen.now at.now.fronts.now group }
+    ensures horizon { queue.new.horizon ≡ queue.old.horizon }
+    ensures looked { OnOk result (IsGroupLookedAtIn at.now time group queue.old queue.new) }
+{
+    let uses = at.setup.uses;
+    let _ = uses.members.len();
+    let first = uses.by_group.starts[group as usize];
+    let end = uses.by_group.starts[group as usize + 1];
+    for place in first..end {
+        let number = uses.by_group.numbers[place];
+        look_at(at, queue, number, time)?;
+    }
+    Ok(())
+}

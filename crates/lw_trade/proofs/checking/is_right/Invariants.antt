@@ -1,6 +1,0 @@
-use Rattle.std.proofs.Common.{◌<◌, ℕ}
-use Rattle.lw_trade.specs.Checks.{IsGateRight}
-use Rattle.lw_trade.proofs.checking.is_right.Given as goal
-
-abbrev pub invariant-loop-j : goal.invariant-loop-j
-invariant-loop-j l = (i : ℕ) → i < l.j → IsGateRight l.plan l.trail i

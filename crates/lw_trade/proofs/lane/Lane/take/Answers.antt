@@ -1,5 +1,0 @@
-use Rattle.lw_trade.proofs.Laning.{lane_rest}
-use Rattle.lw_trade.proofs.lane.Lane.take.Goals as goal
-
-pub invariant_of-self-2 : goal.invariant_of-self-2
-invariant_of-self-2 c = lane_rest c.self.inside.queue.items c.pop_front.new.self.items c.in_ok-taken.taken c.self.inside.last c.in_ok-taken.ensures.items c.self.invariant

@@ -1,6 +1,0 @@
-use Rattle.std.proofs.Common.{List, ◌++◌, take}
-use Rattle.lw_trade.specs.Queues.{Item, IsMostLeft, flat}
-use Rattle.lw_trade.proofs.lanes.most_left.Given as goal
-
-abbrev pub invariant-loop-lane : goal.invariant-loop-lane
-invariant-loop-lane l = (xs : List Item) → IsMostLeft xs l.fn.others → IsMostLeft (xs ++ flat (take l.lane-index l.lanes)) l.most

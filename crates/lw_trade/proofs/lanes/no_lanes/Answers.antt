@@ -1,7 +1,0 @@
-use Rattle.std.proofs.Common.{◌∙◌, ap}
-use Rattle.lw_trade.specs.Queues.{flat}
-use Rattle.lw_trade.proofs.Laning.{flat_none}
-use Rattle.lw_trade.proofs.lanes.no_lanes.Goals as goal
-
-pub loop-preserved : goal.loop-preserved
-loop-preserved c = ap flat c.in_ok-push.ensures.items ∙ flat_none c.loop.lanes.items c.new.result c.loop.invariant c.new.ensures

@@ -1,9 +1,0 @@
-use Rattle.lw_trade.proofs.Adding.{IsAdding}
-use Rattle.lw_trade.proofs.Linking.{place_measure}
-use Rattle.lw_trade.proofs.settling.push_groups.Given as goal
-
-abbrev pub invariant-loop-next : goal.invariant-loop-next
-invariant-loop-next l = IsAdding l.uses.links.classes l.uses.delays.items l.fn.class.0 l.fn.gain.time l.initial.to l.to l.next
-
-abbrev pub decreases-loop-next : goal.decreases-loop-next
-decreases-loop-next l = place_measure l.next

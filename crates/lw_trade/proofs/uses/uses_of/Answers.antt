@@ -1,9 +1,0 @@
-use Rattle.std.proofs.Common.{sym, subst}
-use Rattle.lw_trade.specs.Rows.{ArePartsFor}
-use Rattle.lw_trade.proofs.uses.uses_of.Goals as goal
-
-pub add_all-requires-clause-rows : goal.add_all-requires-clause-rows
-add_all-requires-clause-rows c = subst (λ n. ArePartsFor c.args.lib.now n c.args.rows.now) (sym c.in_ok-uses.ensures.count) c.requires
-
-pub add_all-requires-clause-none : goal.add_all-requires-clause-none
-add_all-requires-clause-none c = c.in_ok-uses.ensures.none
