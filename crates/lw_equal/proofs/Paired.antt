@@ -1,7 +1,8 @@
 -- Pairs of nets at points.
-use Rattle.std.proofs.Common.{ℕ, ◌+◌, ◌<◌, ◌≡◌, List, [], ◌∷◌, ◌++◌, length, take, get_or, map, All, Contains, ◌⊎◌, inl, inr, refl, ap, sym, subst, ◌∙◌, arith}
-use Rattle.std.proofs.lemmas.List.{take_all, take_more}
-use Rattle.std.proofs.lemmas.List.Elements.{All-push, Contains-append_left, Contains-push, Contains-push_cases}
+use Rattle.std.proofs.Common.{ℕ, ◌+◌, ◌<◌, ◌≤◌, ◌≡◌, List, [], ◌∷◌, ◌++◌, length, take, get_or, map, All, Contains, ◌⊎◌, inl, inr, refl, ap, sym, subst, ◌∙◌, arith}
+use Rattle.std.proofs.lemmas.List.{length-map, map_more, take_all, take_more}
+use Rattle.std.proofs.lemmas.List.Elements.{All-map, All-push, Contains-append_left, Contains-push, Contains-push_cases}
+use Rattle.lw_facts.proofs.Lists.{contains_map}
 use Rattle.lw_frame.specs.Frames.{output_of}
 use Rattle.lw_pool.specs.declared.id.NetId.{NetId}
 use Rattle.lw_equal.specs.declared.answer.Answer.{Answer}
@@ -11,8 +12,8 @@ use Rattle.lw_equal.specs.declared.point.Kind.{Kind}
 use Rattle.lw_equal.specs.declared.point.Kind.TheVariants.{Output, Data, Control}
 use Rattle.lw_equal.specs.declared.point.Point.{Point}
 use Rattle.lw_equal.specs.declared.side.Side.{Side}
-use Rattle.lw_equal.specs.Answers.{HaveOneValue, IsAnswer}
-use Rattle.lw_equal.specs.Cases.{AreJudged, LeavesOpen, Settles}
+use Rattle.lw_equal.specs.Answers.{Claims, HaveOneValue, IsShared}
+use Rattle.lw_equal.specs.Cases.{AreJudged, LeavesOpen, Settles, point_of}
 use Rattle.lw_equal.specs.Known.{HasNoNet, IsOnlyNet}
 use Rattle.lw_equal.specs.Pairs.{AreAllPairs, Covers, Grows, IsPair}
 use Rattle.lw_equal.specs.Sides.{IsNetAt, IsNetOf, root_names}
@@ -79,14 +80,43 @@ all_covered one other pairs sound outputs data' controls = record { sound = soun
 no_points : (point : Point) → Contains [] point → ⊥
 no_points point (k, lt, e) = absurd (omega arith)
 
-pub settled : (one other : Side) (pairs : List Pair) (answer : Answer) → AreAllPairs one other pairs → Settles one other pairs answer → IsAnswer one other answer
+pub settled : (one other : Side) (pairs : List Pair) (answer : Answer) → AreAllPairs one other pairs → Settles one other pairs answer → Claims one other answer
 settled one other pairs Equal all is = λ point k m at at'. is (record { point = point; left = record { 0 = k }; right = record { 0 = m } }) (all.complete point (record { 0 = k }) (record { 0 = m }) at at') (no_points point)
 settled one other pairs (Differ d) all is = is
-settled one other pairs (Undecided undecided) all is = λ point no k m at at'. is (record { point = point; left = record { 0 = k }; right = record { 0 = m } }) (all.complete point (record { 0 = k }) (record { 0 = m }) at at') no
+settled one other pairs (Undecided undecided) all is = record {
+  some = is.some;
+  shared = is.shared;
+  others = λ point no k m at at'. is.judged (record { point = point; left = record { 0 = k }; right = record { 0 = m } }) (all.complete point (record { 0 = k }) (record { 0 = m }) at at') no;
+}
 
--- where all is left undecided, all is judged
-pub open_judged : (one other : Side) (pairs : List Pair) (undecided : List Point) → LeavesOpen pairs undecided → AreJudged one other pairs undecided
-open_judged one other pairs undecided leaves pair has no = absurd (no (leaves pair has))
+pub shared_point : (one other : Side) (pair : Pair) → IsPair one other pair → IsShared one other pair.point
+shared_point one other pair is = record { left = pair.left.0; is_left = is.left; right = pair.right.0; is_right = is.right }
+
+-- where the points of all pairs are left undecided
+pub all_left : (one other : Side) (pairs : List Pair) (undecided : List Point) → All (IsPair one other) pairs → 0 < length pairs → undecided ≡ map point_of pairs → LeavesOpen one other pairs undecided
+all_left one other pairs undecided sound some is =
+    let size = length-map pairs point_of in
+    let long = ap length is in
+    record {
+      some = omega (arith, size, long);
+      shared = subst (All (IsShared one other)) (sym is) (All-map (IsShared one other) point_of pairs (λ k d lt. shared_point one other (get_or pairs k d) (sound k d lt)));
+      judged = λ pair has no. absurd (no (subst (λ us. Contains us pair.point) (sym is) (contains_map point_of pairs pair has)));
+    }
+
+-- where there are no pairs, all are judged
+pub none_judged : (one other : Side) (pairs : List Pair) → length pairs ≡ 0 → AreJudged one other pairs []
+none_judged one other pairs none pair (k, lt, e) no = absurd (omega (arith, none, lt))
+
+no_elements : (points : List Point) → length points ≡ 0 → points ≡ []
+no_elements [] none = refl
+no_elements (p ∷ ps) none = absurd (omega (arith, none))
+
+-- all pairs were gone through
+pub all_judged : (one other : Side) (pairs : List Pair) (i : ℕ) (undecided : List Point) → length pairs ≤ i → AreJudged one other (take i pairs) undecided → AreJudged one other pairs undecided
+all_judged one other pairs i undecided past is = subst (λ ps. AreJudged one other ps undecided) (take_all i pairs past) is
+
+pub all_equal : (one other : Side) (pairs : List Pair) (i : ℕ) (undecided : List Point) → length pairs ≤ i → length undecided ≡ 0 → AreJudged one other (take i pairs) undecided → AreJudged one other pairs []
+all_equal one other pairs i undecided past none is = subst (AreJudged one other pairs) (no_elements undecided none) (all_judged one other pairs i undecided past is)
 
 module _ (pairs : List Pair) (i : ℕ) (pair : Pair) (lt : i < length pairs) (here : pair ≡ get_or pairs i pair) where
   earlier_or_this : (p : Pair) → Contains (take (i + 1) pairs) p → Contains (take i pairs) p ⊎ (pair ≡ p)
@@ -96,13 +126,12 @@ module _ (pairs : List Pair) (i : ℕ) (pair : Pair) (lt : i < length pairs) (he
       by (inl earlier) = inl earlier
       by (inr this) = inr (here ∙ this)
 
-  -- one more that is undecided
-  pub open_more : (undecided : List Point) (point : Point) → point ≡ pair.point → LeavesOpen (take i pairs) undecided → LeavesOpen (take (i + 1) pairs) (undecided ++ point ∷ [])
-  open_more undecided point same leaves p has = by (earlier_or_this p has)
-    where
-      by : Contains (take i pairs) p ⊎ (pair ≡ p) → Contains (undecided ++ point ∷ []) p.point
-      by (inl earlier) = Contains-append_left undecided (point ∷ []) p.point (leaves p earlier)
-      by (inr this) = subst (Contains (undecided ++ point ∷ [])) (same ∙ ap (λ (q : Pair). q.point) this) (Contains-push undecided point)
+  -- one more point
+  pub points_more : (points : List Point) (point : Point) → point ≡ pair.point → points ≡ map point_of (take i pairs) → points ++ point ∷ [] ≡ map point_of (take (i + 1) pairs)
+  points_more points point same was =
+      ap (λ ps. ps ++ point ∷ []) was
+      ∙ (ap (λ p. map point_of (take i pairs) ++ p ∷ []) (same ∙ ap point_of here)
+      ∙ sym (map_more point_of pairs i pair lt))
 
   module _ (one other : Side) (undecided : List Point) (judged : AreJudged one other (take i pairs) undecided) where
     -- one more that has one value

@@ -11,15 +11,17 @@ pub struct Difference {
     pub inputs: Vec<bool>,
 }
 
-/// What a comparison came to.
+/// What a comparison came to. Both sides have the same inputs, outputs and latches. A control of a
+/// latch is compared where both sides' latches have one. Kinds and initial values of latches are not
+/// compared.
 #[derive(Debug, Drop)]
 pub enum Answer {
     /// Both sides have the same value at each point under every assignment.
     Equal,
     /// The sides differ at a point under an assignment.
     Differ(Difference),
-    /// Neither is known at these points. At each other point the sides have the same value under
-    /// every assignment.
+    /// Neither is known at these points, of which there is at least one. At each other point the
+    /// sides have the same value under every assignment.
     Undecided(Points),
 }
 

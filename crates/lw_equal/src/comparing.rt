@@ -1,5 +1,5 @@
 // The comparison of two sides.
-ghost use Rattle.std.specs.Prelude.{◌≡◌, None, All, IfOk, IfErr, OnOk, length};
+ghost use Rattle.std.specs.Prelude.{◌≡◌, ◌<◌, None, All, IfOk, IfErr, OnOk, length};
 ghost use Rattle.lw_sweep.specs.Sweeps.{IsExtended};
 ghost use Rattle.lw_equal.specs.Answers.{HasFault, IsAnswer};
 ghost use Rattle.lw_equal.specs.Cases.{Settles};
@@ -91,6 +91,7 @@ fn solve_in(
     requires other { IsSide other.now }
     requires more { All IsSide more.now }
     requires pairs { All (IsPair one.now.side.now other.now) pairs.now }
+    requires some { 0 < length pairs.now }
     requires inputs { BeginsWith sweep.old (length (inputs_of one.now.side.now.logic)) }
     ensures { IfOk result (Settles one.now.side.now other.now pairs.now) }
 {
@@ -126,6 +127,12 @@ fn solve(
     ensures { IfOk result (λ outcome.
         Settles one.now.side.now other.now pairs.now outcome.answer) }
 {
+    if pairs.is_empty() {
+        return Ok(Outcome {
+            answer: Answer::Equal,
+            counts: no_work(0),
+        });
+    }
     let count = u32::try_from(one.inputs.len()).unwrap_or(u32::MAX);
     if count > MOST_INPUTS {
         return Ok(Outcome {

@@ -1,8 +1,8 @@
 // Decisions: whether nets of both sides have one value under every assignment, or under which they
 // differ.
-ghost use Rattle.std.specs.Prelude.{◌≡◌, Some, All, IfOk, IfSome, length, slice_get};
+ghost use Rattle.std.specs.Prelude.{◌≡◌, Some, All, IfOk, IfSome, length, map, slice_get};
 ghost use Rattle.lw_equal.specs.Answers.{IsDifference};
-ghost use Rattle.lw_equal.specs.Cases.{IsCase, IsLooked, Judges, LeavesOpen, Settles, one_of, other_of};
+ghost use Rattle.lw_equal.specs.Cases.{IsCase, IsLooked, Judges, Settles, one_of, other_of, point_of};
 ghost use Rattle.lw_equal.specs.Pairs.{IsPair};
 ghost use Rattle.lw_equal.specs.Sides.{inputs_of};
 
@@ -198,9 +198,9 @@ fn copy_of(alloc: Global, point: &Point) -> Result<Point, AllocError>
     })
 }
 
-// The points of all pairs, as open.
+// The points of all pairs.
 pub(crate) fn all_open(alloc: Global, pairs: &[Pair]) -> Result<Points, AllocError>
-    ensures { IfOk result (λ undecided. LeavesOpen pairs.now undecided) }
+    ensures { IfOk result (λ undecided. undecided ≡ map point_of pairs.now) }
 {
     let mut undecided = Points::new(alloc);
     for pair in pairs {

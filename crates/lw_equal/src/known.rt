@@ -49,10 +49,16 @@ fn is_among(set: &IndexSet<Name>, from: usize, to: usize, name: &Name) -> bool
     requires { IsDistinct bytes_eq set.now.keys }
     ensures { result ≡ list_any (bytes_eq name.now) (slice_range set.now.keys from to) }
 {
-    match set.get_index_of(name) {
-        Some(place) => from <= place && place < to,
-        None => false,
+    let Some(place) = set.get_index_of(name) else {
+        return false;
+    };
+    if place < from {
+        return false;
     }
+    if place >= to {
+        return false;
+    }
+    true
 }
 
 // The control of a latch, where it has one.

@@ -12,7 +12,7 @@ pub enum Kind {
     Output,
     /// What a latch stores.
     Data,
-    /// The control of a latch.
+    /// The control of a latch, where both sides' latches have one.
     Control,
 }
 
