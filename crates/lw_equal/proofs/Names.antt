@@ -83,8 +83,8 @@ stands_at names from to name some = by (Any-from_list_any (bytes_eq name) (slice
         (from + j, omega arith, omega (arith, long, lt), slice_get-get_or names (from + j) x inside ∙ ap Some (part ∙ sym (bytes_eq_is name x same)))
 
 false_unless : (b : Bool) → (b ≡ true → ⊥) → b ≡ false
-false_unless true no = absurd (no refl)
-false_unless false no = refl
+false_unless true never = absurd (never refl)
+false_unless false never = refl
 
 pub is_outside : (names : List (List ℕ)) (from to k : ℕ) (name : List ℕ) → IsDistinct bytes_eq names → position (bytes_eq name) names ≡ Some k → (from ≤ k → k < to → ⊥) → list_any (bytes_eq name) (slice_range names from to) ≡ false
 is_outside names from to k name distinct is out =

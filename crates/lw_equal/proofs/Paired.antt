@@ -86,7 +86,7 @@ settled one other pairs (Differ d) all is = is
 settled one other pairs (Undecided undecided) all is = record {
   some = is.some;
   shared = is.shared;
-  others = λ point no k m at at'. is.judged (record { point = point; left = record { 0 = k }; right = record { 0 = m } }) (all.complete point (record { 0 = k }) (record { 0 = m }) at at') no;
+  others = λ point absent k m at at'. is.judged (record { point = point; left = record { 0 = k }; right = record { 0 = m } }) (all.complete point (record { 0 = k }) (record { 0 = m }) at at') absent;
 }
 
 pub shared_point : (one other : Side) (pair : Pair) → IsPair one other pair → IsShared one other pair.point
@@ -100,12 +100,12 @@ all_left one other pairs undecided sound some is =
     record {
       some = omega (arith, size, long);
       shared = subst (All (IsShared one other)) (sym is) (All-map (IsShared one other) point_of pairs (λ k d lt. shared_point one other (get_or pairs k d) (sound k d lt)));
-      judged = λ pair has no. absurd (no (subst (λ us. Contains us pair.point) (sym is) (contains_map point_of pairs pair has)));
+      judged = λ pair has absent. absurd (absent (subst (λ us. Contains us pair.point) (sym is) (contains_map point_of pairs pair has)));
     }
 
 -- where there are no pairs, all are judged
 pub none_judged : (one other : Side) (pairs : List Pair) → length pairs ≡ 0 → AreJudged one other pairs []
-none_judged one other pairs none pair (k, lt, e) no = absurd (omega (arith, none, lt))
+none_judged one other pairs none pair (k, lt, e) absent = absurd (omega (arith, none, lt))
 
 no_elements : (points : List Point) → length points ≡ 0 → points ≡ []
 no_elements [] none = refl
@@ -136,16 +136,16 @@ module _ (pairs : List Pair) (i : ℕ) (pair : Pair) (lt : i < length pairs) (he
   module _ (one other : Side) (undecided : List Point) (judged : AreJudged one other (take i pairs) undecided) where
     -- one more that has one value
     pub same_more : HaveOneValue one other pair.left.0 pair.right.0 → AreJudged one other (take (i + 1) pairs) undecided
-    same_more value p has no = by (earlier_or_this p has)
+    same_more value p has absent = by (earlier_or_this p has)
       where
         by : Contains (take i pairs) p ⊎ (pair ≡ p) → HaveOneValue one other p.left.0 p.right.0
-        by (inl earlier) = judged p earlier no
+        by (inl earlier) = judged p earlier absent
         by (inr this) = subst (λ (q : Pair). HaveOneValue one other q.left.0 q.right.0) this value
 
     -- one more that is undecided
     pub judged_more : (point : Point) → point ≡ pair.point → AreJudged one other (take (i + 1) pairs) (undecided ++ point ∷ [])
-    judged_more point same p has no = by (earlier_or_this p has)
+    judged_more point same p has absent = by (earlier_or_this p has)
       where
         by : Contains (take i pairs) p ⊎ (pair ≡ p) → HaveOneValue one other p.left.0 p.right.0
-        by (inl earlier) = judged p earlier (λ was. no (Contains-append_left undecided (point ∷ []) p.point was))
-        by (inr this) = absurd (no (subst (Contains (undecided ++ point ∷ [])) (same ∙ ap (λ (q : Pair). q.point) this) (Contains-push undecided point)))
+        by (inl earlier) = judged p earlier (λ was. absent (Contains-append_left undecided (point ∷ []) p.point was))
+        by (inr this) = absurd (absent (subst (Contains (undecided ++ point ∷ [])) (same ∙ ap (λ (q : Pair). q.point) this) (Contains-push undecided point)))

@@ -1,10 +1,10 @@
 -- Roots, latches and their only nets.
-use Rattle.std.proofs.Common.{ℕ, ◌+◌, ◌-◌, ◌<◌, ◌≤◌, ◌≡◌, List, [], ◌∷◌, Option, Some, None, length, map, take, drop, get_or, slice_get, refl, ap, sym, subst, ◌∙◌, arith, Contains}
+use Rattle.std.proofs.Common.{ℕ, ◌+◌, ◌-◌, ◌<◌, ◌≤◌, ◌≡◌, List, [], ◌∷◌, Option, Some, None, length, map, take, drop, get_or, slice_get, refl, ap, sym, subst, ◌∙◌, arith, Contains, Bor, MatchOption}
 use Rattle.std.specs.List.{IsDistinct, position}
 use Rattle.std.specs.Option.{option_map}
 use Rattle.std.specs.Str.{bytes_eq}
 use Rattle.std.proofs.lemmas.List.{get_or-take, length-take}
-use Rattle.std.proofs.lemmas.Option.{get_or_from_slice_get, none-some, same_Some, slice_get-map, slice_get_within}
+use Rattle.std.proofs.lemmas.Option.{get_or_from_slice_get, none-some, same_Some, slice_get-get_or, slice_get-map, slice_get_past, slice_get_within}
 use Rattle.lw_facts.proofs.Lists.{at_contained, contains_map, get_drop}
 use Rattle.lw_frame.specs.Frames.{control_among, output_of}
 use Rattle.lw_laws.specs.Headline.{Port}
@@ -46,11 +46,11 @@ module _ (side : Side) (is : IsSide side) (name : List ℕ) where
         let it : IsOutput side name port.net = record { place = place; own = own; at = its_place } in
         record { is = it; only = λ m there. (only_there there.place m there.at).1 }
 
-    pub past_outputs : side.frame.now.outputs ≤ place → HasNoNet Output side name
-    past_outputs past net there =
-        let same = (only_there there.place net there.at).0 in
-        let own = there.own in
-        absurd (omega arith)
+  pub past_outputs : (place : ℕ) → position (bytes_eq name) (root_names side.logic) ≡ Some place → side.frame.now.outputs ≤ place → HasNoNet Output side name
+  past_outputs place found past net there =
+      let same = place_only (root_names side.logic) place there.place name is.roots found (root_named side there.place (port_of name net) there.at) in
+      let own = there.own in
+      absurd (omega arith)
 
   pub no_root : position (bytes_eq name) (root_names side.logic) ≡ None → HasNoRoot side name
   no_root none place net at = place_nowhere (root_names side.logic) place name is.roots none (root_named side place (port_of name net) at)
@@ -98,6 +98,12 @@ module _ (side : Side) (is : IsSide side) (name : List ℕ) where
         let same = same_place other latch at named in
         let number_is : other ≡ number = omega arith in
         none-some latch (sym none ∙ (ap (slice_get side.frame.now.latches) (sym number_is) ∙ at))
+
+    -- the latch at its place, if there is one
+    pub latch_found : (number : ℕ) → side.frame.now.inputs ≤ place → number ≡ place - side.frame.now.inputs → (latch : Option (Bor Latch))
+        → MatchOption latch (length side.frame.now.latches ≤ number) (λ d. (number < length side.frame.now.latches) × ((e : Latch) → d.now ≡ get_or side.frame.now.latches number e)) → MatchOption latch (HasNoLatch side name) (λ d. IsLatchOf side name d.now)
+    latch_found number low is_number None past = past_latches number low is_number (slice_get_past side.frame.now.latches number past)
+    latch_found number low is_number (Some d) at = only_latch number d.now low is_number (slice_get-get_or side.frame.now.latches number d.now at.0 ∙ ap Some (sym (at.1 d.now)))
 
   -- What a latch reads.
 

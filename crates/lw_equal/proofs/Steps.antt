@@ -1,5 +1,5 @@
 -- Steps of expressions over literals.
-use Rattle.std.proofs.Common.{ℕ, ◌+◌, ◌-◌, ◌<◌, ◌≤◌, ◌≡◌, Bool, true, false, not, cond, ◌&&◌, ◌||◌, List, [], ◌∷◌, ◌++◌, map, length, take, drop, get_or, All, refl, ap, ap₂, sym, subst, ◌∙◌, arith}
+use Rattle.std.proofs.Common.{ℕ, ◌+◌, ◌-◌, ◌<◌, ◌≤◌, ◌≡◌, Bool, true, false, not, cond, ◌&&◌, ◌||◌, List, [], ◌∷◌, ◌++◌, map, length, take, drop, get_or, All, refl, ap, ap₂, sym, subst, ◌∙◌, arith, inl, inr, append_assoc, append-nil}
 use Rattle.std.specs.List.{list_all, list_any}
 use Rattle.std.proofs.lemmas.List.{drop-map, drop_all, drop_more, get_or-map, length-map, length-take-le, length_push, map_more, map_push, take-map}
 use Rattle.std.proofs.lemmas.List.Elements.{All-push, All-take}
@@ -13,11 +13,13 @@ use Rattle.lw_aig.proofs.Literals.{value_of_complement}
 use Rattle.lw_genlib.specs.declared.op.ExprOp.{ExprOp}
 use Rattle.lw_genlib.specs.declared.op.ExprOp.TheVariants.{Const, Pin, Not, And, Or}
 use Rattle.lw_genlib.specs.Codes.{meaning, meanings, run_whole}
-use Rattle.lw_genlib.specs.Postfix.{arity, postfix, run, stepped}
-use Rattle.lw_genlib.specs.Runs.{CanRun, IsPinOf}
+use Rattle.lw_genlib.specs.Cells.{CellParts, IsCell, cell_value}
+use Rattle.lw_genlib.specs.Postfix.{arity, first_expr, part_count, postfix, postfixes, run, stepped}
+use Rattle.lw_genlib.specs.Runs.{IsPinOf}
+use Rattle.lw_genlib.proofs.Agreeing.{first-form}
 use Rattle.lw_joint.specs.Joint.{IsDisjunction}
 use Rattle.lw_joint.proofs.Columns.{all_below, complement_below, constant_below}
-use Rattle.lw_laws.specs.Expressions.{Expr, Exprs, all_true, expr_value, some_true}
+use Rattle.lw_laws.specs.Expressions.{Expr, Exprs, MentionsPin, SomeMentionsPin, all_true, expr_value, some_true}
 use Rattle.lw_laws.specs.Expressions.Expr.{expr_const, expr_pin, expr_not, expr_and, expr_or}
 use Rattle.lw_laws.specs.Expressions.Exprs.{no_exprs, more_exprs}
 use Rattle.lw_laws.specs.Networks.{given}
@@ -123,6 +125,54 @@ stack_step old new pins op stack base l extended takes is_base below made = reco
       (made.always v nodes ∙ ap (truth_by (values_of v pins) op) (sym (drop-map (literal_value v) base stack) ∙ ap (λ n. drop n (values_of v stack)) same));
 }
 
+-- Which steps can run.
+
+-- On so many literals the steps find those that they take, and leave one.
+abbrev pub CanRun : ℕ → ℕ → List ExprOp → Type 0
+CanRun pins size [] = size ≡ 1
+CanRun pins size (op ∷ ops) = (arity op ≤ size) × IsPinOf pins op × CanRun pins (size - arity op + 1) ops
+
+module _ (pins : ℕ) where
+  mutual
+    can_run : (e : Expr) (rest : List ExprOp) (size : ℕ) → ((k : ℕ) → MentionsPin e k → k < pins) → CanRun pins (size + 1) rest → CanRun pins size (postfix e ++ rest)
+    can_run (expr_const b) rest size below then = (omega arith, tt, subst (λ n. CanRun pins (n + 1) rest) (omega arith) then)
+    can_run (expr_pin k) rest size below then = (omega arith, below k refl, subst (λ n. CanRun pins (n + 1) rest) (omega arith) then)
+    can_run (expr_not e) rest size below then =
+        let here : CanRun pins (size + 1) (Not ∷ rest) = (omega arith, tt, subst (λ n. CanRun pins (n + 1) rest) (omega arith) then) in
+        subst (CanRun pins size) (sym (append_assoc (postfix e) (Not ∷ []) rest)) (can_run e (Not ∷ rest) size below here)
+    can_run (expr_and es) rest size below then =
+        let left : size + 1 ≡ size + part_count es - part_count es + 1 = omega arith in
+        let here : CanRun pins (size + part_count es) (And (part_count es) ∷ rest) = (omega arith, tt, subst (λ n. CanRun pins n rest) left then) in
+        subst (CanRun pins size) (sym (append_assoc (postfixes es) (And (part_count es) ∷ []) rest)) (can_run_all es (And (part_count es) ∷ rest) size below here)
+    can_run (expr_or es) rest size below then =
+        let left : size + 1 ≡ size + part_count es - part_count es + 1 = omega arith in
+        let here : CanRun pins (size + part_count es) (Or (part_count es) ∷ rest) = (omega arith, tt, subst (λ n. CanRun pins n rest) left then) in
+        subst (CanRun pins size) (sym (append_assoc (postfixes es) (Or (part_count es) ∷ []) rest)) (can_run_all es (Or (part_count es) ∷ rest) size below here)
+
+    can_run_all : (es : Exprs) (rest : List ExprOp) (size : ℕ) → ((k : ℕ) → SomeMentionsPin es k → k < pins) → CanRun pins (size + part_count es) rest → CanRun pins size (postfixes es ++ rest)
+    can_run_all no_exprs rest size below then = subst (λ n. CanRun pins n rest) (omega arith) then
+    can_run_all (more_exprs e es) rest size below then =
+        let others : CanRun pins (size + 1) (postfixes es ++ rest) = can_run_all es rest (size + 1) (λ k m. below k (inr m)) (subst (λ n. CanRun pins n rest) (omega arith) then) in
+        subst (CanRun pins size) (sym (append_assoc (postfix e) (postfixes es) rest)) (can_run e (postfixes es ++ rest) size (λ k m. below k (inl m)) others)
+
+module _ (cell : CellParts) (forms : List Expr) (e : Expr) (is : IsCell cell) (same : forms ≡ cell.forms) (here : e ≡ get_or forms 0 e) where
+  at_first : e ≡ get_or cell.forms 0 e
+  at_first = subst (λ (es : List Expr). e ≡ get_or es 0 e) same here
+
+  -- the steps of the first form of a cell can run
+  pub form_can_run : (pins : ℕ) → pins ≡ length cell.pins → CanRun pins 0 (postfix e)
+  form_can_run pins count =
+      let some = is.some_form in
+      let form = is.forms 0 e some in
+      subst (CanRun pins 0) (append-nil (postfix e))
+      (can_run pins e [] 0 (λ k m.
+        let low : k < length cell.pins = (form.over k).0 (subst (λ f. MentionsPin f k) at_first m) in
+        omega (arith, low, count)) refl)
+
+  -- and they leave the value of the cell
+  pub cell_of_form : (gates : List Gate) (pins : List Literal) (l : Literal) → Makes gates pins (λ ys. expr_value (given ys) e) l → Makes gates pins (cell_value cell) l
+  cell_of_form gates pins l made = subst (λ f. Makes gates pins (λ ys. expr_value (given ys) f) l) (first-form cell.forms e is.some_form at_first) made
+
 -- The loop over the steps: those that are left can run on the literals so far, and give what all give.
 pub record IsRunning (gates : List Gate) (pins : List Literal) (ops : List ExprOp) (at : ℕ) (stack : List Literal) : Type 0 where
   pub within : All (IsBelow (length gates)) stack
@@ -142,7 +192,7 @@ module _ (gates : List Gate) (pins : List Literal) (ops : List ExprOp) (at : ℕ
   pub runs_on : (new : List Gate) (stack' : List Literal) → IsExtended gates new → IsStep new pins op stack stack' → IsRunning new pins ops (at + 1) stack'
   runs_on new stack' extended step = record {
     within = step.within;
-    can = subst (λ n. CanRun (length pins) n (drop (at + 1) ops)) (sym step.long) can_step.3;
+    can = subst (λ n. CanRun (length pins) n (drop (at + 1) ops)) (sym step.long) can_step.2;
     gives = λ v nodes.
         ap (run (truth_by (values_of v pins)) (drop (at + 1) ops)) (step.always v nodes)
         ∙ (ap (λ (left : List ExprOp). run (truth_by (values_of v pins)) left (values_of v stack)) (sym left_is)

@@ -130,8 +130,11 @@ impl<'a> Known<'a> {
             (λ latch. IsLatchOf self.now.side.now name.now latch.now) }
     {
         let place = self.inputs.get_index_of(name)?;
-        let number = place.checked_sub(self.side.frame.inputs as usize)?;
-        self.side.frame.latches.as_slice().get(number)
+        let inputs = self.side.frame.inputs as usize;
+        if place < inputs {
+            return None;
+        }
+        self.side.frame.latches.as_slice().get(place - inputs)
     }
 
     // The net of the root of a name.

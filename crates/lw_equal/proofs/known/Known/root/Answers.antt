@@ -1,7 +1,6 @@
-use Rattle.std.proofs.Common.{◌≡◌, None, Some, MatchOption, subst, sym}
+use Rattle.std.proofs.Common.{◌≡◌, None, Some, subst, sym}
 use Rattle.std.specs.List.{position}
 use Rattle.std.specs.Str.{bytes_eq}
-use Rattle.lw_equal.specs.Known.{HasNoRoot, IsOnlyRoot}
 use Rattle.lw_equal.specs.Sides.{root_names}
 use Rattle.lw_equal.proofs.Roots.{no_root, only_root}
 use Rattle.lw_equal.proofs.known.Known.root.Goals as goal
@@ -11,7 +10,7 @@ returns-in_err-place c =
     let side = c.args.self.now.side.now in
     let name = c.args.name.now in
     let none : position (bytes_eq name) (root_names side.logic) ≡ None = subst (λ ks. position (bytes_eq name) ks ≡ None) c.requires.roots (sym c.in_err-place.ensures.index) in
-    subst (λ o. MatchOption o (HasNoRoot side name) (λ net. IsOnlyRoot side name net.0)) (sym c.from_residual.ensures) (no_root side c.requires.side name none)
+    rw c.from_residual.ensures (no_root side c.requires.side name none)
 
 pub returns : goal.returns
 returns c =
