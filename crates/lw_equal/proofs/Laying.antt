@@ -1,5 +1,5 @@
 -- Sides that are laid over the inputs of the first.
-use Rattle.std.proofs.Common.{ℕ, ◌+◌, ◌-◌, ◌*◌, ◌<◌, ◌≤◌, ◌≡◌, Bool, false, Some, List, [], ◌∷◌, ◌++◌, length, map, take, get_or, slice_get, All, refl, ap, sym, subst, ◌∙◌, arith}
+use Rattle.std.proofs.Common.{ℕ, ◌+◌, ◌-◌, ◌*◌, ◌<◌, ◌≤◌, ◌≡◌, Bool, false, Some, List, [], ◌∷◌, ◌++◌, length, map, take, get_or, slice_get, All, refl, ap, sym, subst, ◌∙◌, arith, Bor}
 use Rattle.std.proofs.lemmas.List.{get_or-map, get_or-take, get_or_append_left, get_or_default, get_or_push, length-map, length-take-le, length_push, take_all}
 use Rattle.std.proofs.lemmas.Option.{get_or_from_slice_get, slice_get_within}
 use native.Mathlib.Decide.{dec_lt}
@@ -10,7 +10,13 @@ use Rattle.lw_aig.specs.Aigs.{AreEqual, AreNodeValues, HasValues, IsAig, IsBelow
 use Rattle.lw_aig.specs.Literals.{literal_value}
 use Rattle.lw_aig.proofs.Literals.{value_of_node}
 use Rattle.lw_aig.proofs.Values.{inputs_are_free}
-use Rattle.lw_joint.specs.Joint.{AreInputs, Carry}
+use Rattle.lw_joint.specs.Joint.{AreInputs, Carry, HaveNetValues}
+use Rattle.lw_genlib.specs.Cells.{CellParts}
+use Rattle.lw_genlib.specs.Tables.{truth_of_cells}
+use Rattle.lw_net.specs.Networks as rows
+use Rattle.lw_netlist.specs.Netlists as cells
+use Rattle.lw_equal.specs.Cells.{HaveNetlistValues}
+use Rattle.lw_equal.specs.declared.side.Logic.TheVariants.{Rows, Cells}
 use Rattle.lw_joint.specs.Pairs.{HasInputs, input_literal}
 use Rattle.lw_joint.proofs.Columns.{all_below}
 use Rattle.lw_sweep.specs.Sweeps.{IsExtended, inputs_alone}
@@ -91,6 +97,13 @@ is_laid gates all side laid inputs same are have = record {
       have.always v (λ i. x (get_or (inputs_of side.logic) i [])) values nodes
       (λ i d lt. ap (λ (ls : List Literal). literal_value v (get_or ls i d)) same ∙ agree i d (let long = ap length same in omega arith)) under;
 }
+
+-- the literals of a network with rows, or of cells
+pub rows_have : (gates : List Gate) (logic : Logic) (inputs lits : List Literal) (net : Bor rows.NetworkParts) → logic ≡ Rows net → HaveNetValues gates (rows.plain net.now) inputs lits → HaveValuesOf gates logic inputs lits
+rows_have gates logic inputs lits net is have = subst (λ l. HaveValuesOf gates l inputs lits) (sym is) (record { within = have.within; always = have.always })
+
+pub cells_have : (gates : List Gate) (logic : Logic) (inputs lits : List Literal) (n : Bor cells.NetlistParts) (lib : Bor (List CellParts)) → logic ≡ Cells n lib → HaveNetlistValues gates (truth_of_cells lib.now) (cells.plain n.now) inputs lits → HaveValuesOf gates logic inputs lits
+cells_have gates logic inputs lits n lib is have = subst (λ l. HaveValuesOf gates l inputs lits) (sym is) (record { within = have.within; always = have.always })
 
 -- what is laid stays laid when the graph grows
 pub laid_later : (old new : List Gate) (all : List (List ℕ)) (side : Side) (laid : Laid) → IsExtended old new → IsLaid old all side laid → IsLaid new all side laid

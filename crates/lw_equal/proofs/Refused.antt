@@ -1,6 +1,7 @@
 -- Faults in order: the first that there is.
 use Rattle.std.proofs.Common.{◌≡◌, ℕ, ◌+◌, ◌<◌, List, ◌∷◌, Option, Some, None, length, drop, get_or, refl, ap, sym, ◌∙◌, arith, subst}
 use Rattle.std.proofs.lemmas.List.{drop_more}
+use Rattle.std.proofs.lemmas.Option.{none-some}
 use Rattle.lw_equal.specs.declared.answer.Fault.{Fault}
 use Rattle.lw_equal.specs.declared.answer.Fault.TheVariants.{Ports, Memory}
 use Rattle.lw_equal.specs.declared.answer.PortFault.{PortFault}
@@ -19,6 +20,10 @@ refuses_next found rest fault none is = subst (λ o. Refuses (first_of o rest) f
 
 pub none_of_both : (found rest : Option PortFault) → found ≡ None → rest ≡ None → first_of found rest ≡ None
 none_of_both found rest none none' = ap (λ o. first_of o rest) none ∙ none'
+
+pub first_none : (found rest : Option PortFault) → first_of found rest ≡ None → found ≡ None
+first_none None rest e = refl
+first_none (Some fault) rest e = absurd (none-some fault (sym e))
 
 module _ (one : Side) (number : ℕ) (more : List Side) (i : ℕ) (d : Side) (lt : i < length more) where
   abbrev here : Option PortFault

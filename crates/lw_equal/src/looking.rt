@@ -5,7 +5,7 @@ ghost use Rattle.lw_equal.specs.Answers.{IsDifference};
 ghost use Rattle.lw_equal.specs.Known.{IsKnown};
 ghost use Rattle.lw_equal.specs.Laid.{ArePlaces};
 ghost use Rattle.lw_equal.specs.Pairs.{IsPair};
-ghost use Rattle.lw_equal.specs.Sides.{AreValuesOf, CanBeEvaluated, IsSide, inputs_of};
+ghost use Rattle.lw_equal.specs.Sides.{AreValuesOf, CanBeEvaluated, IsSide, input_count, inputs_of};
 
 use crate::known::Known;
 use crate::pairing::Pair;
@@ -16,7 +16,8 @@ use std::alloc::{AllocError, Global};
 fn net_values(alloc: Global, logic: &Logic, x: &[bool]) -> Result<Vec<bool>, AllocError>
     requires evaluated { CanBeEvaluated logic.now }
     requires one_each { length x.now ≡ length (inputs_of logic.now) }
-    ensures { IfOk result (λ values. AreValuesOf logic.now (given x.now) values.items) }
+    ensures values { IfOk result (λ values. AreValuesOf logic.now (given x.now) values.items) }
+    ensures count { length (inputs_of logic.now) ≡ input_count logic.now }
 {
     let _ = logic.inputs();
     let mut values = vec![in alloc; false; logic.nets()]?;
