@@ -1,7 +1,8 @@
 -- Steps of expressions over literals.
 use Rattle.std.proofs.Common.{ℕ, ◌+◌, ◌-◌, ◌<◌, ◌≤◌, ◌≡◌, Bool, true, false, not, cond, ◌&&◌, ◌||◌, List, [], ◌∷◌, ◌++◌, map, length, take, drop, get_or, All, refl, ap, ap₂, sym, subst, ◌∙◌, arith, inl, inr, append_assoc, append-nil}
 use Rattle.std.specs.List.{list_all, list_any}
-use Rattle.std.proofs.lemmas.List.{drop-map, drop_all, drop_more, get_or-map, length-map, length-take-le, length_push, map_more, map_push, take-map}
+use Rattle.std.specs.Int.{from_bool}
+use Rattle.std.proofs.lemmas.List.{drop-map, drop_all, drop_more, get_or-map, length-drop, length-map, length-take-le, length_push, map_more, map_push, take-map, take_all}
 use Rattle.std.proofs.lemmas.List.Elements.{All-push, All-take}
 use Rattle.std.proofs.lemmas.List.Folds.{list_all-append, list_any-append}
 use Rattle.lw_aig.specs.declared.gate.Gate.{Gate}
@@ -81,7 +82,7 @@ module _ (old new : List Gate) (parts : List Literal) (i : ℕ) (part before l :
 
 -- The literal of a step.
 
-pub made_constant : (gates : List Gate) (pins parts : List Literal) (b : Bool) (l : Literal) → IsAig gates → l.0 ≡ cond b 1 0 → IsMade gates pins (Const b) parts l
+pub made_constant : (gates : List Gate) (pins parts : List Literal) (b : Bool) (l : Literal) → IsAig gates → l.0 ≡ from_bool b → IsMade gates pins (Const b) parts l
 made_constant gates pins parts true l aig is =
     let first = constant_below gates aig in
     record { within = omega arith; always = λ v nodes. ap (λ n. literal_value v (record { 0 = n })) is ∙ ap not (nodes.allowed 0 Zero aig.zero_first) }
@@ -106,6 +107,10 @@ made_and gates pins parts n l is = record { within = is.within; always = is.alwa
 
 pub made_or : (gates : List Gate) (pins parts : List Literal) (n : ℕ) (l : Literal) → Makes gates parts (list_any itself) l → IsMade gates pins (Or n) parts l
 made_or gates pins parts n l is = record { within = is.within; always = is.always }
+
+-- the literals from a place on
+pub behind : (base : ℕ) (stack : List Literal) → take (length stack - base) (drop base stack) ≡ drop base stack
+behind base stack = let size = length-drop base stack in take_all (length stack - base) (drop base stack) (omega (arith, size))
 
 -- a step over a stack
 pub stack_step : (old new : List Gate) (pins : List Literal) (op : ExprOp) (stack : List Literal) (base : ℕ) (l : Literal) → IsExtended old new → arity op ≤ length stack → base ≡ length stack - arity op

@@ -1,5 +1,7 @@
 -- Values by number and by name.
-use Rattle.std.proofs.Common.{ℕ, ◌+◌, ◌<◌, ◌≡◌, Bool, false, Some, List, [], length, map, get_or, slice_get, refl, ap, sym, ◌∙◌, arith}
+use Rattle.std.proofs.Common.{ℕ, ◌+◌, ◌<◌, ◌≡◌, Bool, true, false, not, Some, List, [], length, map, get_or, slice_get, refl, ap, sym, ◌∙◌, arith}
+use mathlib.Core.Bool.{beq}
+use Rattle.std.proofs.lemmas.Bool.{false≢true}
 use Rattle.std.specs.List.{IsDistinct, position_or_len}
 use Rattle.std.specs.Str.{bytes_eq}
 use Rattle.std.proofs.lemmas.List.{get_or-map}
@@ -18,6 +20,13 @@ use Rattle.lw_equal.proofs.Names.{own_place}
 pub by_inputs : (logic : Logic) (x y : ℕ → Bool) (values : List Bool) → ((i : ℕ) → i < input_count logic → x i ≡ y i) → AreValuesOf logic x values → AreValuesOf logic y values
 by_inputs (Rows net) x y values same are = record { one_each = are.one_each; inputs = λ i lt. are.inputs i lt ∙ ap Some (same i lt); nodes = are.nodes }
 by_inputs (Cells n lib) x y values same are = record { one_each = are.one_each; inputs = λ i lt. are.inputs i lt ∙ ap Some (same i lt); gates = are.gates }
+
+-- values that were told apart differ
+pub told_apart : (a b : Bool) → not (beq a b) ≡ true → a ≡ b → ⊥
+told_apart true true told e = false≢true told
+told_apart true false told e = false≢true (sym e)
+told_apart false true told e = false≢true e
+told_apart false false told e = false≢true told
 
 -- the value of a name at its place
 value_at : (all : List (List ℕ)) (values : List Bool) (k : ℕ) (name : List ℕ) → IsDistinct bytes_eq all → slice_get all k ≡ Some name → get_or values k false ≡ named_value all values name

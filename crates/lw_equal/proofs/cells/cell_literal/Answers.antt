@@ -1,5 +1,9 @@
-use Rattle.std.proofs.Common.{◌≡◌, ◌∙◌, [], get_or, refl, subst, sym}
-use Rattle.lw_genlib.specs.Postfix.{postfix}
+use Rattle.std.proofs.Common.{◌≤◌, List, false, get_or, length, subst, sym}
+use Rattle.std.proofs.lemmas.List.{get_or_default}
+use Rattle.lw_genlib.specs.declared.op.ExprOp.{ExprOp}
+use Rattle.lw_genlib.specs.declared.op.ExprOp.TheVariants.{Const}
+use Rattle.lw_laws.specs.Expressions.{expr_value}
+use Rattle.lw_laws.specs.Networks.{given}
 use Rattle.lw_sweep.proofs.Growing.{extended_both, extended_itself}
 use Rattle.lw_equal.specs.Cells.{Makes}
 use Rattle.lw_equal.proofs.Steps.{CanRun, IsRunning, cell_of_form, form_can_run, runs_on, starts, whole_run}
@@ -21,9 +25,14 @@ steps-preserved c =
     let before = c.steps.sweep in
     let after = c.step.new.sweep in
     let grows = c.step.ensures.grows in
+    let ops = c.ops-ops.result.now in
+    let i = c.steps.op-index in
+    let lt = c.steps-test.true in
+    let op = get_or ops i (Const false) in
+    let step = c.in_ok-step.ensures.stack c.if-not-branch.false in
     record {
       grown = extended_both c.args.sweep.now before after c.steps.invariant.grown grows;
-      running = runs_on before c.args.pins.now c.ops-ops.result.now c.steps.op-index c.steps.stack.items c.op-item.result c.steps.invariant.running c.steps-test.true c.op-item.is after c.step.new.stack.items grows (c.in_ok-step.ensures.stack c.if-not-branch.false);
+      running = runs_on before c.args.pins.now ops i c.steps.stack.items op c.steps.invariant.running lt (get_or_default ops i (Const false) op lt) after c.step.new.stack.items grows step;
     }
 
 pub returns-clause-literal : goal.returns-clause-literal
@@ -31,6 +40,12 @@ returns-clause-literal c =
     let gates = c.steps.sweep in
     let pins = c.args.pins.now in
     let e = c.index-forms-0.result in
+    let l = c.index.result.now in
     let stack = c.steps.stack.items in
-    let running = subst (λ ops. IsRunning gates pins ops c.steps.op-index stack) c.ops-ops.ensures.steps c.steps.invariant.running in
-    ?
+    let i = c.steps.op-index in
+    let steps = c.ops-ops.ensures.steps in
+    let running = subst (λ ops. IsRunning gates pins ops i stack) steps c.steps.invariant.running in
+    let past = subst (λ (ops : List ExprOp). length ops ≤ i) steps c.steps-test.false in
+    let made = whole_run gates pins e i stack l running past in
+    cell_of_form c.args.cell.now c.forms.result.now e c.forms.ensures.kept c.forms.ensures.forms c.index-forms-0.is gates pins l
+    (subst (Makes gates pins (λ ys. expr_value (given ys) e)) (sym c.index.ensures) made.1)
