@@ -5,7 +5,7 @@ use Rattle.lw_equal.specs.Cases.{AreJudged, one_of, other_of}
 use Rattle.lw_equal.specs.Pairs.{IsPair}
 use Rattle.lw_equal.proofs.Paired.{all_equal, all_judged, judged_more, same_more, shared_point}
 use Rattle.lw_equal.proofs.deciding.decide_all.Goals as goal
-use Rattle.lw_equal.proofs.deciding.decide_all.Goals.{in-Same, in-Open+in_ok-copy_of+in_ok-push}
+use Rattle.lw_equal.proofs.deciding.decide_all.Goals.{in-Same, in-Open+in_ok-copy_of-in-Open+in_ok-push-in-Open}
 
 pub pairs-preserved : goal.pairs-preserved
 pairs-preserved c =
@@ -26,7 +26,7 @@ pairs-preserved c =
             shared = subst (All (IsShared one other)) (sym w.undecided-is) was.shared;
             judged = subst (AreJudged one other (take (i + 1) pairs)) (sym w.undecided-is) (same_more pairs i pair lt here one other c.pairs.undecided was.judged value);
           }
-      | in-Open+in_ok-copy_of+in_ok-push w ↦
+      | in-Open+in_ok-copy_of-in-Open+in_ok-push-in-Open w ↦
           let point = w.in_ok-copy_of.field-0 in
           let copied = w.in_ok-copy_of.ensures in
           let now = sym (w.undecided-is ∙ w.in_ok-push.ensures) in
