@@ -1,5 +1,6 @@
 -- Pairs of nets at points.
-use Rattle.std.proofs.Common.{ℕ, ◌+◌, ◌<◌, ◌≤◌, ◌≡◌, List, [], ◌∷◌, ◌++◌, length, take, get_or, map, All, Contains, ◌⊎◌, inl, inr, refl, ap, sym, subst, ◌∙◌, arith}
+use Rattle.std.proofs.Common.{ℕ, ◌+◌, ◌<◌, ◌≤◌, ◌≡◌, List, [], ◌∷◌, ◌++◌, length, take, get_or, map, All, Contains, ◌⊎◌, inl, inr, refl, ap, sym, subst, ◌∙◌, arith, false, true≢false}
+use Rattle.std.specs.Prelude.{◌==◌}
 use Rattle.std.proofs.lemmas.List.{length-map, map_more, take_all, take_more}
 use Rattle.std.proofs.lemmas.List.Elements.{All-map, All-push, Contains-append_left, Contains-push, Contains-push_cases}
 use Rattle.lw_facts.proofs.Lists.{contains_map}
@@ -102,6 +103,11 @@ all_left one other pairs undecided sound some is =
       shared = subst (All (IsShared one other)) (sym is) (All-map (IsShared one other) point_of pairs (λ k d lt. shared_point one other (get_or pairs k d) (sound k d lt)));
       judged = λ pair has absent. absurd (absent (subst (λ us. Contains us pair.point) (sym is) (contains_map point_of pairs pair has)));
     }
+
+-- a list that is not empty has an element
+pub some_pairs : (pairs : List Pair) → (length pairs == 0) ≡ false → 0 < length pairs
+some_pairs [] e = absurd (true≢false e)
+some_pairs (p ∷ ps) e = omega arith
 
 -- where there are no pairs, all are judged
 pub none_judged : (one other : Side) (pairs : List Pair) → length pairs ≡ 0 → AreJudged one other pairs []

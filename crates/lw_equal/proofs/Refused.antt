@@ -1,5 +1,6 @@
 -- Faults in order: the first that there is.
-use Rattle.std.proofs.Common.{◌≡◌, ℕ, ◌+◌, ◌<◌, List, ◌∷◌, Option, Some, None, length, drop, get_or, refl, ap, sym, ◌∙◌, arith, subst}
+use Rattle.std.proofs.Common.{◌≡◌, ℕ, ◌+◌, ◌<◌, List, ◌∷◌, Option, Some, None, length, drop, get_or, refl, ap, sym, ◌∙◌, arith, subst, IfErr, IsErrAnd, Result}
+use Rattle.std.proofs.lemmas.Result.{err_from_is_err_and}
 use Rattle.std.proofs.lemmas.List.{drop_more}
 use Rattle.std.proofs.lemmas.Option.{none-some}
 use Rattle.lw_equal.specs.declared.answer.Fault.{Fault}
@@ -20,6 +21,12 @@ refuses_next found rest fault none is = subst (λ o. Refuses (first_of o rest) f
 
 pub none_of_both : (found rest : Option PortFault) → found ≡ None → rest ≡ None → first_of found rest ≡ None
 none_of_both found rest none none' = ap (λ o. first_of o rest) none ∙ none'
+
+-- an error is what it was made of
+pub err_is : {T : Type 0} (Q : Fault → Type 0) (r : Result T Fault) (y : Fault) → IsErrAnd r (λ e. e ≡ y) → Q y → IfErr r Q
+err_is Q r y is q =
+    let e = err_from_is_err_and r is in
+    subst (λ o. IfErr o Q) (sym e.1) (subst Q (sym e.2) q)
 
 pub first_none : (found rest : Option PortFault) → first_of found rest ≡ None → found ≡ None
 first_none None rest e = refl

@@ -19,7 +19,7 @@ use lw_sweep::{Limits, Sweep};
 use std::alloc::{AllocError, Global};
 
 // How many inputs a graph has at most.
-const MOST_INPUTS: u32 = 2147483647;
+const MOST_INPUTS: usize = 2147483647;
 
 // How many times the conflicts of other comparisons those of a point may have.
 const EFFORT: u32 = 10;
@@ -133,14 +133,14 @@ fn solve(
             counts: no_work(0),
         });
     }
-    let count = u32::try_from(one.inputs.len()).unwrap_or(u32::MAX);
-    if count > MOST_INPUTS {
+    let inputs = one.inputs.len();
+    if inputs > MOST_INPUTS {
         return Ok(Outcome {
             answer: Answer::Undecided(all_open(alloc, pairs)?),
             counts: no_work(pairs.len()),
         });
     }
-    let mut sweep = Sweep::new(alloc, count, limits)?;
+    let mut sweep = Sweep::new(alloc, inputs as u32, limits)?;
     let effort = effort_of(&limits);
     let answer = solve_in(&mut sweep, alloc, one, other, more, pairs, effort)?;
     Ok(Outcome {

@@ -18,7 +18,7 @@ pairs-preserved c =
     let here = c.pair-item.is in
     let was = c.pairs.invariant in
     let same = c.judge.ensures.kept ∙ was.same in
-    elim c.match-judge.branch [
+    elim c.match-branch-2.branch [
       | in-Same w ↦
           let value = rw w.in-Same.is at c.in_ok-judge.ensures.judged in
           record {
