@@ -27,9 +27,9 @@ pairs-preserved c =
             judged = subst (AreJudged one other (take (i + 1) pairs)) (sym w.undecided-is) (same_more pairs i pair lt here one other c.pairs.undecided was.judged value);
           }
       | in-Open+in_ok-copy_of-in-Open+in_ok-push-in-Open w ↦
-          let point = w.in_ok-copy_of.field-0 in
-          let copied = w.in_ok-copy_of.ensures in
-          let now = sym (w.undecided-is ∙ w.in_ok-push.ensures) in
+          let point = w.in_ok-copy_of-in-Open.field-0 in
+          let copied = w.in_ok-copy_of-in-Open.ensures in
+          let now = sym (w.undecided-is ∙ w.in_ok-push-in-Open.ensures) in
           let shared = shared_point one other pair (subst (IsPair one other) (sym here) (c.requires.pairs i pair lt)) in
           record {
             same = same;
