@@ -63,12 +63,12 @@ pins_carry v lits values pins known carry =
     let second = length-map (map net_number pins) (λ net. get_or values net false) in
     let third = length-map pins net_number in
     same_lists (values_of v (literals_at lits pins)) (values_at values pins) (omega arith) (λ k d lt.
-      let low : k < length pins = omega arith in
-      let net = (get_or pins k (record { 0 = 0 })).0 in
-      get_or-map (literal_value v) (literals_at lits pins) k (record { 0 = 0 }) d (omega arith)
-      ∙ (ap (literal_value v) (pin_read lits pins k (record { 0 = 0 }) (record { 0 = 0 }) low)
-      ∙ (carry net (record { 0 = 0 }) (known k (record { 0 = 0 }) low)
-      ∙ sym (value_read values pins k d (record { 0 = 0 }) low))))
+    let low : k < length pins = omega arith in
+    let net = (get_or pins k (record { 0 = 0 })).0 in
+    get_or-map (literal_value v) (literals_at lits pins) k (record { 0 = 0 }) d (omega arith)
+    ∙ (ap (literal_value v) (pin_read lits pins k (record { 0 = 0 }) (record { 0 = 0 }) low)
+    ∙ (carry net (record { 0 = 0 }) (known k (record { 0 = 0 }) low)
+    ∙ sym (value_read values pins k d (record { 0 = 0 }) low))))
 
 -- the literal of a gate
 pub gate_computes : (gates : List Node) (cells : List CellParts) (gate : Gate) (cell : CellParts) (lits : List Literal) (l : Literal) → slice_get cells gate.cell.0 ≡ Some cell → All (λ (net : NetId). net.0 < length lits) gate.pins

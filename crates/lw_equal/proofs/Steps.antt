@@ -171,8 +171,8 @@ module _ (cell : CellParts) (forms : List Expr) (e : Expr) (is : IsCell cell) (s
       let form = is.forms 0 e some in
       subst (CanRun pins 0) (append-nil (postfix e))
       (can_run pins e [] 0 (λ k m.
-        let low : k < length cell.pins = (form.over k).0 (subst (λ f. MentionsPin f k) at_first m) in
-        omega (arith, low, count)) refl)
+      let low : k < length cell.pins = (form.over k).0 (subst (λ f. MentionsPin f k) at_first m) in
+      omega (arith, low, count)) refl)
 
   -- and they leave the value of the cell
   pub cell_of_form : (gates : List Gate) (pins : List Literal) (l : Literal) → Makes gates pins (λ ys. expr_value (given ys) e) l → Makes gates pins (cell_value cell) l
@@ -231,15 +231,17 @@ pub whole_run : (gates : List Gate) (pins : List Literal) (e : Expr) (at : ℕ) 
 whole_run gates pins e at stack d running past =
     let none : drop at (postfix e) ≡ [] = drop_all at (postfix e) past in
     let one : length stack ≡ 1 = subst (CanRun (length pins) (length stack)) none running.can in
-    let some : 0 < length stack = omega arith in
-    (some, record {
-      within = running.within 0 d some;
-      always = λ v nodes.
-          let values = values_of v stack in
-          let gives = running.gives v nodes in
-          let leaves : values ≡ meaning (truth_by (values_of v pins)) e ∷ [] =
-          ap (λ (left : List ExprOp). run (truth_by (values_of v pins)) left values) (sym none) ∙ (gives ∙ run_whole (truth_by (values_of v pins)) e) in
-          sym (get_or-map (literal_value v) stack 0 d false some)
-          ∙ (first_of_one (meaning (truth_by (values_of v pins)) e) values leaves
-          ∙ meaning_is (values_of v pins) e);
-    })
+    let some : 0 < length stack = omega arith in (
+      some,
+      record {
+        within = running.within 0 d some;
+        always = λ v nodes.
+            let values = values_of v stack in
+            let gives = running.gives v nodes in
+            let leaves : values ≡ meaning (truth_by (values_of v pins)) e ∷ [] =
+            ap (λ (left : List ExprOp). run (truth_by (values_of v pins)) left values) (sym none) ∙ (gives ∙ run_whole (truth_by (values_of v pins)) e) in
+            sym (get_or-map (literal_value v) stack 0 d false some)
+            ∙ (first_of_one (meaning (truth_by (values_of v pins)) e) values leaves
+            ∙ meaning_is (values_of v pins) e);
+      },
+    )

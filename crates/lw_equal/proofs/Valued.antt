@@ -47,5 +47,5 @@ other_values all side inputs values places distinct count are of =
     let one = are.one_each in
     by_inputs side.logic (given (map (λ place. get_or inputs place false) places)) (λ i. named_value all inputs (get_or names i [])) values
     (λ i lt.
-      get_or-map (λ place. get_or inputs place false) places i 0 false (omega arith)
-      ∙ value_at all inputs (get_or places i 0) (get_or names i []) distinct (are.each i (omega arith))) of
+    get_or-map (λ place. get_or inputs place false) places i 0 false (omega arith)
+    ∙ value_at all inputs (get_or places i 0) (get_or names i []) distinct (are.each i (omega arith))) of

@@ -59,12 +59,7 @@ fn effort_of(limits: &Limits) -> Effort {
 }
 
 // Lays the networks that may help, as far as there is room.
-fn lay_more(
-    sweep: &mut Sweep,
-    alloc: Global,
-    one: &Known,
-    more: &[Side],
-) -> Result<(), AllocError>
+fn lay_more(sweep: &mut Sweep, alloc: Global, one: &Known, more: &[Side]) -> Result<(), AllocError>
     requires known { IsKnown one.now }
     requires more { All IsSide more.now }
     requires inputs { BeginsWith sweep.old (length (inputs_of one.now.side.now.logic)) }

@@ -22,6 +22,6 @@ returns-clause-literal c =
     let cell = c.cell-cell.result.now in
     let new = c.cell_literal.new.sweep in
     IfOk-weaker c.cell_literal.result _ _ (λ o h. IfSome_then o h (λ l made.
-      let read = subst (λ ps. Makes new ps (cell_value cell) l) c.read_nets.ensures.literals made in
-      let pinned = subst (λ ps. Makes new (literals_at lits ps) (cell_value cell) l) c.as_slice-pins.ensures read in
-      gate_computes new c.args.lib.now c.args.gate.now cell lits l c.cell-cell.ensures c.requires.known pinned)) c.cell_literal.ensures.literal
+    let read = subst (λ ps. Makes new ps (cell_value cell) l) c.read_nets.ensures.literals made in
+    let pinned = subst (λ ps. Makes new (literals_at lits ps) (cell_value cell) l) c.as_slice-pins.ensures read in
+    gate_computes new c.args.lib.now c.args.gate.now cell lits l c.cell-cell.ensures c.requires.known pinned)) c.cell_literal.ensures.literal
