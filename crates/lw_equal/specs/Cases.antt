@@ -1,12 +1,14 @@
 -- Cases in hand, and what is known of pairs of nets.
-use Rattle.std.specs.Prelude.{ℕ, ◌≡◌, ⊤, Bool, List, [], length, slice_index_or, All, Contains, ◌⊎◌}
+use Rattle.std.specs.Prelude.{ℕ, ◌≡◌, ⊤, Some, List, [], length, slice_get, slice_index_or, Contains}
 use Rattle.lw_aig.specs.declared.gate.Gate.{Gate}
+use Rattle.lw_aig.specs.declared.literal.Literal.{Literal}
 use Rattle.lw_equal.specs.declared.answer.Answer.{Answer}
 use Rattle.lw_equal.specs.declared.answer.Answer.TheVariants.{Equal, Differ, Undecided}
 use Rattle.lw_equal.specs.declared.deciding.Case.{Case}
 use Rattle.lw_equal.specs.declared.deciding.Judgement.{Judgement}
 use Rattle.lw_equal.specs.declared.deciding.Judgement.TheVariants.{Same, Apart, Open}
 use Rattle.lw_equal.specs.declared.pairing.Pair.{Pair}
+use Rattle.lw_equal.specs.declared.small.Ends.{Ends}
 use Rattle.lw_equal.specs.declared.point.Point.{Point}
 use Rattle.lw_equal.specs.declared.side.Side.{Side}
 use Rattle.lw_equal.specs.Answers.{HaveOneValue, IsDifference}
@@ -52,3 +54,10 @@ abbrev pub Settles : Side → Side → List Pair → Answer → Type 0
 Settles one other pairs Equal = AreJudged one other pairs []
 Settles one other pairs (Differ d) = IsDifference one other d.point d.inputs.items
 Settles one other pairs (Undecided undecided) = AreJudged one other pairs undecided
+
+-- the literals of both nets of each pair
+pub record AreEnds (case : Case) (pairs : List Pair) (ends : Ends) : Type 0 where
+  pub lefts : length ends.lefts.items ≡ length pairs
+  pub rights : length ends.rights.items ≡ length pairs
+  pub left : (j : ℕ) (pair : Pair) (d : Literal) → slice_get pairs j ≡ Some pair → slice_get case.left.now.literals.items pair.left.0 ≡ Some (slice_index_or ends.lefts.items j d)
+  pub right : (j : ℕ) (pair : Pair) (d : Literal) → slice_get pairs j ≡ Some pair → slice_get case.right.now.literals.items pair.right.0 ≡ Some (slice_index_or ends.rights.items j d)

@@ -14,6 +14,7 @@ use crate::known::Known;
 use crate::pairing::{Pair, all_pairs};
 use crate::placing::{Laid, lay};
 use crate::ports::compare_ports;
+use crate::small::solve_small;
 use crate::{Answer, Counts, Fault, Outcome, Side};
 use lw_sweep::{Limits, Sweep};
 use std::alloc::{AllocError, Global};
@@ -132,6 +133,10 @@ fn solve(
             answer: Answer::Undecided(all_open(alloc, pairs)?),
             counts: no_work(pairs.len()),
         });
+    }
+    if let Some(answer) = solve_small(alloc, one, other, pairs, count)? {
+        let counts = no_work(pairs.len());
+        return Ok(Outcome { answer, counts });
     }
     let mut sweep = Sweep::new(alloc, count, limits)?;
     let effort = effort_of(&limits);

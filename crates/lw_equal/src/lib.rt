@@ -10,7 +10,8 @@
 //! Modules, in order: the sides and their ports (`side`), where they are compared (`point`), what
 //! is answered (`answer`), names as sets (`known`), ports that only one side has (`ports`), pairs of
 //! nets (`pairing`), literals of cells (`cells`) and of sides (`placing`), looks at assignments
-//! (`looking`), decisions (`deciding`), and the whole (`comparing`). `lwequal` calls `compare`.
+//! (`looking`), decisions (`deciding`), all assignments of few inputs (`trying`, `small`), and the
+//! whole (`comparing`). `lwequal` calls `compare`.
 #![tactic(auto)]
 
 mod answer;
@@ -24,6 +25,8 @@ mod placing;
 mod point;
 mod ports;
 mod side;
+mod small;
+mod trying;
 
 pub use answer::{Answer, Counts, Difference, Fault, Outcome, PortFault, PortKind};
 pub use comparing::compare;
