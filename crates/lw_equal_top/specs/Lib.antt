@@ -9,3 +9,4 @@ pub mod Texts
 pub mod Pages
 pub mod Telling
 pub mod Outcomes
+pub mod Promises

@@ -87,6 +87,21 @@ pub record IsCutShort {O : Type 0} (taken : O → Option (List ℕ)) (faults : O
   pub grown : AppendsPrefix (taken old) (taken new) text
   pub cause : Rose (faults old) (faults new)
 
+-- the whole text was written, or the stream failed behind a prefix
+abbrev pub WritesOut : {O : Type 0} → (O → Option (List ℕ)) → (O → Bool) → (O → ℕ) → O → O → List ℕ → Ending → Type 0
+WritesOut taken is_finished faults old new text WriteFault = IsCutShort taken faults old new text
+WritesOut taken is_finished faults old new text other = IsDone taken is_finished old new text
+
+abbrev pub IsToldOr : Ending → Type 0
+IsToldOr Told = ⊤
+IsToldOr WriteFault = ⊤
+IsToldOr other = ⊥
+
+abbrev pub IsAnsweredOr : Compared → Ending → Type 0
+IsAnsweredOr compared (Answered same) = same ≡ compared
+IsAnsweredOr compared WriteFault = ⊤
+IsAnsweredOr compared other = ⊥
+
 -- the text of a result
 pub record IsResultText (told : Option (List File)) (c : Comparison) (text : List ℕ) : Type 0 where
   pub sources : List Source

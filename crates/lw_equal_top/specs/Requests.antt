@@ -1,11 +1,11 @@
 -- A request in hand.
 use Rattle.std.specs.Prelude.{ℕ, List, Option, Result, Ok, Err, map, string_bytes, option_map}
 use Rattle.std.specs.Borrow.{Bor}
-use Rattle.lw_equal_top.specs.declared.words.Comparison.{Comparison}
-use Rattle.lw_equal_top.specs.declared.words.Request.{Request}
-use Rattle.lw_equal_top.specs.declared.words.Request.TheVariants.{Help, Version, Comparing}
-use Rattle.lw_equal_top.specs.declared.words.WordFault.{WordFault}
-use Rattle.lw_equal_top.specs.declared.words.WordFault.TheVariants.{Few, Dashed, Numeral}
+use Rattle.lw_equal_top.specs.declared.request.Comparison.{Comparison}
+use Rattle.lw_equal_top.specs.declared.request.Request.{Request}
+use Rattle.lw_equal_top.specs.declared.request.Request.TheVariants.{Help, Version, Comparing}
+use Rattle.lw_equal_top.specs.declared.request.WordFault.{WordFault}
+use Rattle.lw_equal_top.specs.declared.request.WordFault.TheVariants.{Few, Dashed, Numeral}
 use Rattle.lw_equal_top.specs.Words as spec
 
 -- the request, without where its words lie in memory

@@ -1,10 +1,14 @@
--- The exit status of each refusal.
+-- The exit status of each ending.
 use Rattle.std.specs.Prelude.{ℕ}
 use Rattle.lw_files.specs.declared.fault.FileFault.{FileFault}
 use Rattle.lw_files.specs.declared.fault.FileFault.TheVariants as file
 use Rattle.lw_files.specs.Faults.{fault_status}
 use Rattle.lw_equal.specs.declared.answer.Fault.{Fault}
 use Rattle.lw_equal.specs.declared.answer.Fault.TheVariants as fault
+use Rattle.lw_equal.specs.declared.answer.Answer.{Answer}
+use Rattle.lw_equal.specs.declared.answer.Answer.TheVariants.{Equal, Differ, Undecided}
+use Rattle.lw_equal_top.specs.declared.outcome.Ending.{Ending}
+use Rattle.lw_equal_top.specs.declared.outcome.Ending.TheVariants.{Told, Answered, WriteFault, Refused}
 use Rattle.lw_equal_top.specs.declared.fault.Refusal.{Refusal}
 use Rattle.lw_equal_top.specs.declared.fault.Refusal.TheVariants.{Library, File, Ports, Memory}
 
@@ -32,3 +36,16 @@ refusal_status (Library f) = file_status f
 refusal_status (File place f) = file_status f
 refusal_status (Ports p) = 9
 refusal_status Memory = 8
+
+-- as diff and cmp have it
+abbrev pub answer_status : Answer → ℕ
+answer_status Equal = 0
+answer_status (Differ d) = 1
+answer_status (Undecided points) = 2
+
+-- the exit status
+abbrev pub ending_status : Ending → ℕ
+ending_status Told = 0
+ending_status (Answered compared) = answer_status compared.outcome.answer
+ending_status WriteFault = 7
+ending_status (Refused refusal) = refusal_status refusal

@@ -63,21 +63,30 @@ with_counts library tries [] = of_files library tries false []
 with_counts library tries (option ∷ words) =
     if bytes_eq option (codes "-s") then of_files library tries true words else of_files library tries false (option ∷ words)
 
-abbrev pub with_number : Option (List ℕ) → List ℕ → Option ℕ → List (List ℕ) → Result Request WordFault
-with_number library word None words = Err (numeral word)
-with_number library word (Some tries) words = with_counts library tries words
+abbrev pub by_number : Option (List ℕ) → List ℕ → Option ℕ → List (List ℕ) → Result Request WordFault
+by_number library word None words = Err (numeral word)
+by_number library word (Some tries) words = with_counts library tries words
+
+-- `CONFLICTS [-s] IN1 IN2 [MORE ..]`
+abbrev pub with_number : Option (List ℕ) → List (List ℕ) → Result Request WordFault
+with_number library [] = Err few
+with_number library (word ∷ words) = by_number library word (number_of word) words
 
 -- `[-n CONFLICTS] [-s] IN1 IN2 [MORE ..]`
 abbrev pub with_tries : Option (List ℕ) → List (List ℕ) → Result Request WordFault
-with_tries library (option ∷ word ∷ words) =
-    if bytes_eq option (codes "-n") then with_number library word (number_of word) words else with_counts library usual_tries (option ∷ word ∷ words)
-with_tries library words = with_counts library usual_tries words
+with_tries library [] = with_counts library usual_tries []
+with_tries library (option ∷ words) =
+    if bytes_eq option (codes "-n") then with_number library words else with_counts library usual_tries (option ∷ words)
+
+-- `LIB [-n CONFLICTS] [-s] IN1 IN2 [MORE ..]`
+abbrev pub behind_library : List (List ℕ) → Result Request WordFault
+behind_library [] = Err few
+behind_library (word ∷ words) = if is_file_word word then with_tries (Some word) words else Err (dashed word)
 
 -- `[-l LIB] [-n CONFLICTS] [-s] IN1 IN2 [MORE ..]`
 abbrev pub with_library : List (List ℕ) → Result Request WordFault
-with_library (option ∷ word ∷ words) =
-    if bytes_eq option (codes "-l") then (if is_file_word word then with_tries (Some word) words else Err (dashed word)) else with_tries None (option ∷ word ∷ words)
-with_library words = with_tries None words
+with_library [] = with_tries None []
+with_library (option ∷ words) = if bytes_eq option (codes "-l") then behind_library words else with_tries None (option ∷ words)
 
 -- What the words ask for, or what is wrong with them: `-h`, `-v`, or a comparison.
 abbrev pub request_of : List (List ℕ) → Result Request WordFault

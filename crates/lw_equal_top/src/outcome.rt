@@ -1,8 +1,10 @@
 // What a run comes to.
-ghost use Rattle.std.specs.Prelude.{◌≡◌, ◌≤◌, None, Some, map, string_bytes, length};
+ghost use Rattle.std.specs.Prelude.{◌≡◌, ◌≤◌, true, IsTrue, IsOk};
+ghost use Rattle.std.specs.Io.KnownBytes.{Keeps};
+ghost use Rattle.lw_io.specs.Causes.{Rose};
 ghost use Rattle.lw_io.specs.Waitings.{IsTaken};
-ghost use Rattle.lw_equal_top.specs.Requests.{plain_request, plain_comparison};
-ghost use Rattle.lw_equal_top.specs.Outcomes.{Compares, Serves, Tells, names_in, CanBeSaid};
+ghost use Rattle.lw_equal_top.specs.Requests.{plain_comparison, plain_request};
+ghost use Rattle.lw_equal_top.specs.Outcomes.{CanBeSaid, Compares, IsAnsweredOr, IsToldOr, Serves, WritesOut, names_in};
 ghost use Rattle.lw_equal_top.specs.Texts.{answer_text};
 
 use crate::comparing::compare_sources;
@@ -11,7 +13,7 @@ use crate::pages::{HELP, VERSION};
 use crate::reading::{read_cells, read_sources};
 use crate::saying::put_answer;
 use crate::source::Source;
-use crate::words::{Comparison, Request};
+use crate::request::{Comparison, Request};
 use lw_equal::Outcome;
 use lw_io::{Failed, Shelf, Sink, Writer, write_all};
 use std::alloc::Global;
@@ -41,7 +43,6 @@ fn compare_files<F: Shelf>(
     comparison: Comparison<'_>,
     shelf: &mut F,
 ) -> Result<Compared, Refusal>
-    requires { 2 ≤ length comparison.files.now }
     ensures { Compares F.files F.faults shelf.old shelf.new (plain_comparison comparison.entry)
         result }
 {
@@ -82,15 +83,26 @@ fn write_answer<O: Sink>(compared: &Compared, out: &mut O) -> Result<(), Failed>
     text.end()
 }
 
-// Hands on what was written.
-fn finished<O: Sink>(written: Result<(), Failed>, out: &mut O) -> bool {
+// Hands on what was written, if all was.
+fn finished<O: Sink>(written: Result<(), Failed>, out: &mut O) -> bool
+    ensures kept { Keeps (O.taken out.old) (O.taken out.new) }
+    ensures finished { IsTrue result → O.is_finished out.new ≡ true }
+    ensures whole { IsTrue result → IsOk written }
+    ensures later { O.faults out.old ≤ O.faults out.new }
+    ensures failed { (IsTrue result → ⊥) → IsOk written → Rose (O.faults out.old) (O.faults out.new) }
+{
     match written {
         Ok(()) => out.finish().is_ok(),
         Err(_) => false,
     }
 }
 
-fn tell<O: Sink>(page: &[u8], out: &mut O) -> Ending {
+// Writes a page.
+fn tell<O: Sink>(page: &[u8], out: &mut O) -> Ending
+    ensures writes { WritesOut O.taken O.is_finished O.faults out.old out.new page.now result }
+    ensures told { IsToldOr result }
+    ensures later { O.faults out.old ≤ O.faults out.new }
+{
     let written = write_all(out, page);
     if finished(written, out) {
         Ending::Told
@@ -99,7 +111,14 @@ fn tell<O: Sink>(page: &[u8], out: &mut O) -> Ending {
     }
 }
 
-fn answer<O: Sink>(compared: Compared, out: &mut O) -> Ending {
+// Writes an answer.
+fn answer<O: Sink>(compared: Compared, out: &mut O) -> Ending
+    requires { CanBeSaid compared }
+    ensures writes { WritesOut O.taken O.is_finished O.faults out.old out.new
+        (answer_text (names_in compared.sources.items) compared.outcome.answer) result }
+    ensures answered { IsAnsweredOr compared result }
+    ensures later { O.faults out.old ≤ O.faults out.new }
+{
     let written = write_answer(&compared, out);
     if finished(written, out) {
         return Ending::Answered(compared);
@@ -114,7 +133,11 @@ pub fn serve<F: Shelf, O: Sink>(
     request: Request<'_>,
     shelf: &mut F,
     out: &mut O,
-) -> Ending {
+) -> Ending
+    ensures { Serves (F.files shelf.old) (F.files shelf.new) (F.faults shelf.old)
+        (F.faults shelf.new) O.taken O.is_finished O.faults out.old out.new
+        (plain_request request.entry) result }
+{
     match request {
         Request::Help => tell(HELP, out),
         Request::Version => tell(VERSION, out),

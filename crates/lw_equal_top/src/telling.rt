@@ -10,7 +10,7 @@ ghost use Rattle.lw_equal_top.specs.Requests.{plain_comparison, plain_fault, pla
 use crate::fault::Refusal;
 use crate::outcome::Ending;
 use crate::shown::put_shown;
-use crate::words::{Comparison, Request, WordFault};
+use crate::request::{Comparison, Request, WordFault};
 use lw_equal::{Counts, PortFault, PortKind};
 use lw_files::{FileFault, put_count, put_fault};
 use lw_io::{Failed, Sink, Writer};

@@ -1,41 +1,10 @@
 // The words of a request.
 ghost use Rattle.std.specs.Prelude.{◌≡◌, Some, None, map, string_bytes, option_map};
-ghost use Rattle.lw_equal_top.specs.Words.{is_file_word, first_dashed, is_numeral, number_of, of_files, with_counts, with_tries, with_library, request_of};
+ghost use Rattle.lw_equal_top.specs.Words.{is_file_word, first_dashed, is_numeral, number_of, of_files, with_counts, with_number, with_tries, behind_library, with_library, request_of};
 ghost use Rattle.lw_equal_top.specs.Requests.{asked};
 
+use crate::request::{Comparison, Request, WordFault};
 use lw_fixed::are_digits;
-
-/// Which networks are to be compared.
-#[derive(Clone, Copy)]
-pub struct Comparison<'a> {
-    /// The library of those that are mapped.
-    pub library: Option<&'a str>,
-    /// The most conflicts of a search, for each direction of a pair of nets.
-    pub tries: u32,
-    /// Counts are wanted.
-    pub counted: bool,
-    /// Two files or more, of which the first two are compared.
-    pub files: &'a [String],
-}
-
-/// What is asked for.
-#[derive(Clone, Copy)]
-pub enum Request<'a> {
-    Help,
-    Version,
-    Comparing(Comparison<'a>),
-}
-
-/// What is wrong with words.
-#[derive(Clone, Copy)]
-pub enum WordFault<'a> {
-    /// They name fewer than two files.
-    Few,
-    /// This word begins with `-`, where no such option may stand.
-    Dashed(&'a str),
-    /// This word is no number of conflicts.
-    Numeral(&'a str),
-}
 
 fn is_file_word(word: &str) -> bool
     ensures { result ≡ is_file_word word.now }
@@ -74,6 +43,9 @@ fn number_of(word: &str) -> Option<u32>
         Err(_) => None,
     }
 }
+
+// The most conflicts, where the words do not say.
+const USUAL_TRIES: u32 = 1000;
 
 // Two files or more.
 fn of_files<'a>(
@@ -114,8 +86,22 @@ fn with_counts<'a>(
     }
 }
 
-// The most conflicts, where the words do not say.
-const USUAL_TRIES: u32 = 1000;
+// `CONFLICTS [-s] IN1 IN2 [MORE ..]`.
+fn with_number<'a>(
+    library: Option<&'a str>,
+    words: &'a [String],
+) -> Result<Request<'a>, WordFault<'a>>
+    ensures { asked result ≡ with_number (option_map (λ word. word.now) library.entry)
+        (map string_bytes words.now) }
+{
+    match words {
+        [word, rest @ ..] => match number_of(word.as_str()) {
+            Some(tries) => with_counts(library, tries, rest),
+            None => Err(WordFault::Numeral(word.as_str())),
+        },
+        _ => Err(WordFault::Few),
+    }
+}
 
 // `[-n CONFLICTS] [-s] IN1 IN2 [MORE ..]`.
 fn with_tries<'a>(
@@ -126,11 +112,23 @@ fn with_tries<'a>(
         (map string_bytes words.now) }
 {
     match words {
-        [option, word, rest @ ..] if option.as_str() == "-n" => match number_of(word.as_str()) {
-            Some(tries) => with_counts(library, tries, rest),
-            None => Err(WordFault::Numeral(word.as_str())),
-        },
+        [option, rest @ ..] if option.as_str() == "-n" => with_number(library, rest),
         _ => with_counts(library, USUAL_TRIES, words),
+    }
+}
+
+// `LIB [-n CONFLICTS] [-s] IN1 IN2 [MORE ..]`.
+fn behind_library(words: &[String]) -> Result<Request<'_>, WordFault<'_>>
+    ensures { asked result ≡ behind_library (map string_bytes words.now) }
+{
+    match words {
+        [word, rest @ ..] => {
+            if !is_file_word(word.as_str()) {
+                return Err(WordFault::Dashed(word.as_str()));
+            }
+            with_tries(Some(word.as_str()), rest)
+        }
+        _ => Err(WordFault::Few),
     }
 }
 
@@ -139,12 +137,7 @@ fn with_library(words: &[String]) -> Result<Request<'_>, WordFault<'_>>
     ensures { asked result ≡ with_library (map string_bytes words.now) }
 {
     match words {
-        [option, word, rest @ ..] if option.as_str() == "-l" => {
-            if !is_file_word(word.as_str()) {
-                return Err(WordFault::Dashed(word.as_str()));
-            }
-            with_tries(Some(word.as_str()), rest)
-        }
+        [option, rest @ ..] if option.as_str() == "-l" => behind_library(rest),
         _ => with_tries(None, words),
     }
 }
