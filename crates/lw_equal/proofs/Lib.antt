@@ -1,7 +1,8 @@
 pub mod Laying
-pub mod Looking
 pub mod Names
 pub mod Netlists
-pub mod Pairing
+pub mod Paired
+pub mod Refused
 pub mod Roots
 pub mod Steps
+pub mod Valued

@@ -4,7 +4,7 @@ use Rattle.std.specs.List.{IsDistinct, position}
 use Rattle.std.specs.Option.{option_map}
 use Rattle.std.specs.Str.{bytes_eq}
 use Rattle.std.proofs.lemmas.List.{get_or-take, length-take}
-use Rattle.std.proofs.lemmas.Option.{get_or_from_slice_get, same_Some, slice_get-map, slice_get_within}
+use Rattle.std.proofs.lemmas.Option.{get_or_from_slice_get, none-some, same_Some, slice_get-map, slice_get_within}
 use Rattle.lw_facts.proofs.Lists.{at_contained, contains_map, get_drop}
 use Rattle.lw_frame.specs.Frames.{control_among, output_of}
 use Rattle.lw_laws.specs.Headline.{Port}
@@ -19,6 +19,9 @@ use Rattle.lw_equal.proofs.Names.{place_found, place_nowhere, place_only}
 pub root_named : (side : Side) (place : ℕ) (port : Port) → slice_get (roots_of side.logic) place ≡ Some port → slice_get (root_names side.logic) place ≡ Some port.name
 root_named side place port at = slice_get-map port_name (roots_of side.logic) place ∙ ap (option_map port_name) at
 
+abbrev port_of : List ℕ → ℕ → Port
+port_of name net = record { name = name; net = net }
+
 same_net : (a b : Port) → a ≡ b → a.net ≡ b.net
 same_net a b e = ap (λ (p : Port). p.net) e
 
@@ -27,22 +30,21 @@ module _ (side : Side) (is : IsSide side) (name : List ℕ) where
     its_name : port.name ≡ name
     its_name = same_Some port.name name (sym (root_named side place port at) ∙ place_found (root_names side.logic) place name found)
 
-    its_place : slice_get (roots_of side.logic) place ≡ Some (record { name = name; net = port.net })
-    its_place = at ∙ ap (λ n. Some (record { name = n; net = port.net })) its_name
+    its_place : slice_get (roots_of side.logic) place ≡ Some (port_of name port.net)
+    its_place = at ∙ ap (λ n. Some (port_of n port.net)) its_name
 
-    only_there : (other m : ℕ) → slice_get (roots_of side.logic) other ≡ Some (record { name = name; net = m }) → (other ≡ place) × (m ≡ port.net)
+    only_there : (other m : ℕ) → slice_get (roots_of side.logic) other ≡ Some (port_of name m) → (other ≡ place) × (m ≡ port.net)
     only_there other m there =
-        let same = place_only (root_names side.logic) place other name is.roots found (root_named side other (record { name = name; net = m }) there) in
-        (same, same_net (record { name = name; net = m }) port (same_Some (record { name = name; net = m }) port (sym there ∙ (ap (slice_get (roots_of side.logic)) same ∙ at))))
+        let same = place_only (root_names side.logic) place other name is.roots found (root_named side other (port_of name m) there) in
+        (same, same_net (port_of name m) port (same_Some (port_of name m) port (sym there ∙ (ap (slice_get (roots_of side.logic)) same ∙ at))))
 
     pub only_root : IsOnlyRoot side name port.net
     only_root = record { place = place; at = its_place; only = λ other m there. (only_there other m there).1 }
 
     pub only_output : place < side.frame.now.outputs → IsOnlyNet Output side name port.net
-    only_output own = record {
-      is = record { place = place; own = own; at = its_place };
-      only = λ m there. (only_there there.place m there.at).1;
-    }
+    only_output own =
+        let it : IsOutput side name port.net = record { place = place; own = own; at = its_place } in
+        record { is = it; only = λ m there. (only_there there.place m there.at).1 }
 
     pub past_outputs : side.frame.now.outputs ≤ place → HasNoNet Output side name
     past_outputs past net there =
@@ -51,7 +53,7 @@ module _ (side : Side) (is : IsSide side) (name : List ℕ) where
         absurd (omega arith)
 
   pub no_root : position (bytes_eq name) (root_names side.logic) ≡ None → HasNoRoot side name
-  no_root none place net at = place_nowhere (root_names side.logic) place name is.roots none (root_named side place (record { name = name; net = net }) at)
+  no_root none place net at = place_nowhere (root_names side.logic) place name is.roots none (root_named side place (port_of name net) at)
 
   pub no_output : position (bytes_eq name) (root_names side.logic) ≡ None → HasNoNet Output side name
   no_output none net there = no_root none there.place net there.at
@@ -95,10 +97,7 @@ module _ (side : Side) (is : IsSide side) (name : List ℕ) where
     past_latches number low is_number none other latch at named =
         let same = same_place other latch at named in
         let number_is : other ≡ number = omega arith in
-        none_some latch (sym none ∙ (ap (slice_get side.frame.now.latches) (sym number_is) ∙ at))
-      where
-        none_some : (x : Latch) → None ≡ Some x → ⊥
-        none_some x e = cc
+        none-some latch (sym none ∙ (ap (slice_get side.frame.now.latches) (sym number_is) ∙ at))
 
   -- What a latch reads.
 
@@ -106,31 +105,31 @@ module _ (side : Side) (is : IsSide side) (name : List ℕ) where
     pub stored_net : (net : ℕ) → IsOnlyRoot side latch.input net → IsOnlyNet Data side name net
     stored_net net root = record {
       is = record { place = of.place; latch = latch; at = of.at; named = of.named; root = root.place; read = root.at };
-      only = λ m there. root.only there.root m (there.read ∙ ap (λ (d : Latch). Some (record { name = d.input; net = m })) (of.only there.place there.latch there.at there.named));
+      only = λ m there. root.only there.root m (there.read ∙ ap (λ (d : Latch). Some (port_of d.input m)) (of.only there.place there.latch there.at there.named));
     }
 
     pub stores_none : HasNoRoot side latch.input → HasNoNet Data side name
-    stores_none none net there = none there.root net (there.read ∙ ap (λ (d : Latch). Some (record { name = d.input; net = net })) (of.only there.place there.latch there.at there.named))
+    stores_none none net there = none there.root net (there.read ∙ ap (λ (d : Latch). Some (port_of d.input net)) (of.only there.place there.latch there.at there.named))
 
     same_control : (m : ℕ) (there : IsControl side name m) (control : List ℕ) → control_among latch.rest ≡ control ∷ [] → there.control ≡ control
     same_control m there control is = first_same there.control control (sym there.controlled ∙ (ap (λ (d : Latch). control_among d.rest) (of.only there.place there.latch there.at there.named) ∙ is))
       where
-        first_same : (x y : List ℕ) → ◌≡◌ {A = List (List ℕ)} (x ∷ []) (y ∷ []) → x ≡ y
+        first_same : (x y : List ℕ) → x ∷ [] ≡ y ∷ [] → x ≡ y
         first_same x y e = cc
 
     pub control_net : (control : List ℕ) (net : ℕ) → control_among latch.rest ≡ control ∷ [] → IsOnlyRoot side control net → IsOnlyNet Control side name net
     control_net control net is root = record {
       is = record { place = of.place; latch = latch; at = of.at; named = of.named; control = control; controlled = is; root = root.place; read = root.at };
-      only = λ m there. root.only there.root m (there.read ∙ ap (λ n. Some (record { name = n; net = m })) (same_control m there control is));
+      only = λ m there. root.only there.root m (there.read ∙ ap (λ n. Some (port_of n m)) (same_control m there control is));
     }
 
     pub controls_none : (control : List ℕ) → control_among latch.rest ≡ control ∷ [] → HasNoRoot side control → HasNoNet Control side name
-    controls_none control is none net there = none there.root net (there.read ∙ ap (λ n. Some (record { name = n; net = net })) (same_control net there control is))
+    controls_none control is none net there = none there.root net (there.read ∙ ap (λ n. Some (port_of n net)) (same_control net there control is))
 
     pub uncontrolled : control_among latch.rest ≡ [] → HasNoNet Control side name
     uncontrolled is net there = no_first there.control (sym there.controlled ∙ (ap (λ (d : Latch). control_among d.rest) (of.only there.place there.latch there.at there.named) ∙ is))
       where
-        no_first : (x : List ℕ) → ◌≡◌ {A = List (List ℕ)} (x ∷ []) [] → ⊥
+        no_first : (x : List ℕ) → x ∷ [] ≡ [] → ⊥
         no_first x e = cc
 
   pub no_latch_stored : HasNoLatch side name → HasNoNet Data side name
@@ -148,7 +147,7 @@ contains_take xs n k x lt at =
     (k, omega (arith, size, lt, within), get_or-take n xs k x lt ∙ get_or_from_slice_get xs k x x at)
 
 pub output_named : (side : Side) (name : List ℕ) (net : ℕ) → IsOutput side name net → Contains (take side.frame.now.outputs (root_names side.logic)) name
-output_named side name net out = contains_take (root_names side.logic) side.frame.now.outputs out.place name out.own (root_named side out.place (record { name = name; net = net }) out.at)
+output_named side name net out = contains_take (root_names side.logic) side.frame.now.outputs out.place name out.own (root_named side out.place (port_of name net) out.at)
 
 pub stored_named : (side : Side) (name : List ℕ) (net : ℕ) → IsStored side name net → Contains (map output_of side.frame.now.latches) name
 stored_named side name net of = subst (Contains (map output_of side.frame.now.latches)) of.named (contains_map output_of side.frame.now.latches of.latch (at_contained side.frame.now.latches of.place of.latch of.at))

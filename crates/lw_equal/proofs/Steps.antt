@@ -1,5 +1,5 @@
 -- Steps of expressions over literals.
-use Rattle.std.proofs.Common.{ℕ, ◌+◌, ◌-◌, ◌<◌, ◌≤◌, ◌≡◌, Bool, true, false, not, ◌&&◌, ◌||◌, List, [], ◌∷◌, ◌++◌, map, length, take, drop, get_or, All, refl, ap, ap₂, sym, subst, ◌∙◌, arith}
+use Rattle.std.proofs.Common.{ℕ, ◌+◌, ◌-◌, ◌<◌, ◌≤◌, ◌≡◌, Bool, true, false, not, cond, ◌&&◌, ◌||◌, List, [], ◌∷◌, ◌++◌, map, length, take, drop, get_or, All, refl, ap, ap₂, sym, subst, ◌∙◌, arith}
 use Rattle.std.specs.List.{list_all, list_any}
 use Rattle.std.proofs.lemmas.List.{drop-map, drop_all, drop_more, get_or-map, length-map, length-take-le, length_push, map_more, map_push, take-map}
 use Rattle.std.proofs.lemmas.List.Elements.{All-push, All-take}
@@ -79,7 +79,7 @@ module _ (old new : List Gate) (parts : List Literal) (i : ℕ) (part before l :
 
 -- The literal of a step.
 
-pub made_constant : (gates : List Gate) (pins parts : List Literal) (b : Bool) (l : Literal) → IsAig gates → l.0 ≡ (if b then 1 else 0) → IsMade gates pins (Const b) parts l
+pub made_constant : (gates : List Gate) (pins parts : List Literal) (b : Bool) (l : Literal) → IsAig gates → l.0 ≡ cond b 1 0 → IsMade gates pins (Const b) parts l
 made_constant gates pins parts true l aig is =
     let first = constant_below gates aig in
     record { within = omega arith; always = λ v nodes. ap (λ n. literal_value v (record { 0 = n })) is ∙ ap not (nodes.allowed 0 Zero aig.zero_first) }

@@ -7,7 +7,7 @@ use Rattle.lw_equal.specs.declared.answer.Answer.TheVariants.{Equal, Differ, Und
 use Rattle.lw_equal.specs.declared.answer.Fault.{Fault}
 use Rattle.lw_equal.specs.declared.answer.Fault.TheVariants.{Ports, Memory}
 use Rattle.lw_equal.specs.declared.answer.PortFault.{PortFault}
-use Rattle.lw_equal.specs.declarepoint.Point.{Point}
+use Rattle.lw_equal.specs.declared.point.Point.{Point}
 use Rattle.lw_equal.specs.declared.side.Side.{Side}
 use Rattle.lw_equal.specs.Ports.{first_port_fault}
 use Rattle.lw_equal.specs.Sides.{AreValuesUnder, IsNetAt, inputs_of}

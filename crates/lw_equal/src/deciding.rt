@@ -87,7 +87,8 @@ fn look(
         IsDifference (one_of case.now) (other_of case.now) pair.now.point inputs.items)) }
 {
     let places = &case.right.places;
-    if differ(alloc, case.one, case.other, places, pair, &inputs)? {
+    let told = differ(alloc, case.one, case.other, places, pair, &inputs)?;
+    if told {
         return Ok(Some(inputs));
     }
     Ok(None)

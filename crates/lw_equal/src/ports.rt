@@ -50,8 +50,8 @@ fn refuse(
     lacks: usize,
     name: Option<&Name>,
 ) -> Result<(), Fault>
-    ensures ok { OnOk result (fault_of kind has lacks (option_copied name) ≡ None) }
-    ensures fault { IfErr result (Refuses (fault_of kind has lacks (option_copied name))) }
+    ensures ok { OnOk result (fault_of kind has lacks (option_copied name.entry) ≡ None) }
+    ensures fault { IfErr result (Refuses (fault_of kind has lacks (option_copied name.entry))) }
 {
     let Some(name) = name else {
         return Ok(());

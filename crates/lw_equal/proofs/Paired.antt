@@ -34,8 +34,11 @@ no_left one other kind name pairs none k m at at' = absurd (none k.0 at)
 pub no_right : (one other : Side) (kind : Kind) (name : List ℕ) (pairs : List Pair) → HasNoNet kind other name → Covers one other kind name pairs
 no_right one other kind name pairs none k m at at' = absurd (none m.0 at')
 
+abbrev net_of : ℕ → NetId
+net_of n = record { 0 = n }
+
 net_is : (a b : NetId) → a.0 ≡ b.0 → a ≡ b
-net_is a b e = ap (λ n. record { 0 = n }) e
+net_is a b e = ap net_of e
 
 module _ (one other : Side) (kind : Kind) (name : List ℕ) (old : List Pair) (left right : NetId) (first : IsOnlyNet kind one name left.0) (second : IsOnlyNet kind other name right.0) where
   abbrev it : Pair
