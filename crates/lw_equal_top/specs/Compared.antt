@@ -22,7 +22,7 @@ pub record Sides (cells : List CellParts) (sources : List Source) : Type 0 where
 -- The answer is right for the first two sources.
 pub record IsAnswerFor (cells : List CellParts) (sources : List Source) (answer : Answer) : Type 0 where
   pub sides : Sides cells sources
-  pub answer : IsAnswer sides.one sides.other answer
+  pub right : IsAnswer sides.one sides.other answer
 
 -- The fault is the first port that one of the sources lacks.
 pub record HasPortFault (cells : List CellParts) (sources : List Source) (fault : PortFault) : Type 0 where

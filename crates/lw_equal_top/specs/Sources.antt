@@ -1,5 +1,5 @@
 -- What the files of a comparison say.
-use Rattle.std.specs.Prelude.{◌≡◌, ◌<◌, ℕ, Bool, true, false, ◌&&◌, List, [], ◌∷◌, length, map, take, slice_get, Option, Some, None, is_some, Result, Ok, Err, if◌then◌else◌, codes}
+use Rattle.std.specs.Prelude.{◌≡◌, ◌<◌, ℕ, Bool, true, false, ◌&&◌, List, [], ◌∷◌, length, map, take, slice_get, Option, Some, None, is_some, Result, Ok, Err, codes}
 use Rattle.std.specs.List.{list_any}
 use Rattle.std.specs.Str.{bytes_eq}
 use Rattle.lw_words.specs.Lines.{LogicalLine}
@@ -41,9 +41,13 @@ HasNetlist cells bytes files (Ok (Network model)) = ⊥
 HasNetlist cells bytes files (Ok (Netlist mapped)) = HasMapped cells bytes files (Ok mapped)
 HasNetlist cells bytes files (Err fault) = HasMapped cells bytes files (Err fault)
 
+abbrev pub HasEither : Bool → List CellParts → List ℕ → FileStep Source
+HasEither true cells bytes = HasNetlist cells bytes
+HasEither false cells bytes = HasNetwork bytes
+
 -- where there is a library, a text with a line of a gate is a netlist of its cells; any other text is a network
 abbrev pub HasSource : Bool → List CellParts → List ℕ → FileStep Source
-HasSource known cells bytes = if known && has_gates bytes then HasNetlist cells bytes else HasNetwork bytes
+HasSource known cells bytes = HasEither (known && has_gates bytes) cells bytes
 
 -- Files.
 

@@ -21,8 +21,11 @@ point_text point = kind_text point.kind ++ shown point.name
 abbrev pub point_line : List ℕ → Point → List ℕ
 point_line before point = before ++ (point_text point ++ codes "\n")
 
+abbrev pub value_text : Bool → List ℕ
+value_text value = if value then codes " 1\n" else codes " 0\n"
+
 abbrev pub value_line : List ℕ → Bool → List ℕ
-value_line name value = shown name ++ (if value then codes " 1\n" else codes " 0\n")
+value_line name value = shown name ++ value_text value
 
 -- a line for each input
 abbrev pub values_text : List (List ℕ) → List Bool → List ℕ

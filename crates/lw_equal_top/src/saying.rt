@@ -1,24 +1,29 @@
 // The texts for out.
-ghost use Rattle.std.specs.Prelude.{◌≡◌, ◌++◌, [], ◌∷◌, length, codes};
-ghost use Rattle.std.specs.List.{flat_map};
+ghost use Rattle.std.specs.Prelude.{◌≡◌, length};
 ghost use Rattle.lw_io.specs.Writers.{Writes};
-ghost use Rattle.lw_equal_top.specs.Shown.{shown};
-ghost use Rattle.lw_equal_top.specs.Texts.{point_text, point_line, value_line, values_text, difference_text, undecided_text, answer_text, HasValues};
+ghost use Rattle.lw_equal_top.specs.Texts.{HasValues, answer_text, difference_text, kind_text, point_line, point_text, undecided_text, value_line, value_text, values_text};
 
 use crate::shown::put_shown;
 use lw_equal::{Answer, Difference, Kind, Point};
 use lw_io::{Sink, Writer};
 use lw_pool::Name;
 
+// What stands before the name of a point.
+fn kind_text(kind: Kind) -> &'static [u8]
+    ensures { result.now ≡ kind_text kind }
+{
+    match kind {
+        Kind::Output => b"",
+        Kind::Data => b"latch ",
+        Kind::Control => b"control ",
+    }
+}
+
 // Where sides are compared, by its name.
 fn put_point<S: Sink>(out: &mut Writer<'_, S>, point: &Point)
     ensures { Writes S.taken S.faults out.old out.new (point_text point.now) }
 {
-    match point.kind {
-        Kind::Output => {}
-        Kind::Data => out.put(b"latch "),
-        Kind::Control => out.put(b"control "),
-    }
+    out.put(kind_text(point.kind));
     put_shown(out, point.name.as_bytes());
 }
 
@@ -30,12 +35,18 @@ fn put_point_line<S: Sink>(out: &mut Writer<'_, S>, before: &[u8], point: &Point
     out.put(b"\n");
 }
 
+fn value_text(value: bool) -> &'static [u8]
+    ensures { result.now ≡ value_text value }
+{
+    if value { b" 1\n" } else { b" 0\n" }
+}
+
 // An input and its value.
 fn put_value<S: Sink>(out: &mut Writer<'_, S>, name: &[u8], value: bool)
     ensures { Writes S.taken S.faults out.old out.new (value_line name.now value) }
 {
     put_shown(out, name);
-    out.put(if value { b" 1\n" } else { b" 0\n" });
+    out.put(value_text(value));
 }
 
 // The inputs with their values.
