@@ -164,6 +164,50 @@ out_of_memory() {
     status $? 8 && holds out && holds err 'lwequal: out of memory'
 }
 
+# A million gates in a row, on a small stack: an even and an odd number of inverters.
+a_million_gates() {
+    # shellcheck disable=SC3045
+    ulimit -s 256
+    printf '%s\n' 'GATE inv 1 O=!a;' 'PIN * INV 1 999 1 0 1 0' >LIB
+    printf '%s\n' .model\ m '.inputs s0' '.outputs f' '.names s0 f' '1 1' .end >ONE
+    for gates in 1000000 999999; do
+        awk -v n=$gates 'BEGIN {
+            print ".model m\n.inputs s0\n.outputs f"
+            for (i = 1; i < n; i++) print ".gate inv a=s" i - 1 " O=s" i
+            print ".gate inv a=s" n - 1 " O=f\n.end"
+        }' >OTHER
+        run -l LIB ONE OTHER
+        case $gates in
+        1000000) status $? 0 && holds out equal ;;
+        *) status $? 1 && head -n 1 out >first && holds first 'differ f' ;;
+        esac && holds err || return
+    done
+}
+
+# As many inputs and outputs as a network may have, in two orders.
+most_ports() {
+    awk -v n=131072 'BEGIN {
+        line = ""; for (i = 1; i <= n; i++) line = line " i" i
+        print ".model m\n.inputs" line
+        line = ""; for (i = 1; i <= n; i++) line = line " f" i
+        print ".outputs" line
+        for (i = 1; i <= n; i++) print ".names i" i " f" i "\n0 1"
+        print ".end"
+    }' >ONE
+    awk -v n=131072 'BEGIN {
+        line = ""; for (i = n; i; i--) line = line " i" i
+        print ".model m\n.inputs" line
+        line = ""; for (i = n; i; i--) line = line " f" i
+        print ".outputs" line
+        for (i = n; i; i--) print ".names i" i " f" i "\n1 0"
+        print ".end"
+    }' >OTHER
+    run ONE OTHER
+    status $? 0 && holds out equal && holds err || return
+    sed 's/ f77 / g77 /; s/ f77$/ g77/' OTHER >LESS
+    refused 9 'LESS has no output f77, which ONE has' ONE LESS
+}
+
 # Mapped netlists of lwmap and the examples of the pages.
 netlists_of_lwmap() {
     for network in full_adder multiplexer shared; do
@@ -181,7 +225,7 @@ for it in "$tests"/equal/*/; do
 done
 for it in adders_are_equal wrong_gate_is_found two_runs_agree counts_on_standard_error limit_is_reached library_of_too_many_bytes \
     network_of_too_many_bytes standard_output_is_full standard_error_is_closed file_by_a_pipe folder_is_no_file \
-    word_that_is_not_utf8 out_of_memory netlists_of_lwmap; do
+    word_that_is_not_utf8 out_of_memory a_million_gates most_ports netlists_of_lwmap; do
     [ $# -eq 0 ] || case " $* " in *" $it "*) ;; *) continue ;; esac
     attempt "$it" "$it"
 done

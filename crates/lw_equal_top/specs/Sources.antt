@@ -11,7 +11,7 @@ use Rattle.lw_netlist.specs.Netlists as netlist
 use Rattle.lw_blif.specs.declared.parsed.Parsed.{Parsed}
 use Rattle.lw_mapped.specs.declared.closing.Mapped.{Mapped}
 use Rattle.lw_files.specs.Steps.{Files, gives, followed_by}
-use Rattle.lw_files.specs.Sources.{FileStep, lines_in, text_of, HasModel, HasMapped, ReadsLibrary}
+use Rattle.lw_files.specs.Sources.{FileStep, lines_in, text_of, HasCells, HasModel, HasMapped, ReadsLibrary}
 use Rattle.lw_equal.specs.declared.side.Logic.{Logic}
 use Rattle.lw_equal.specs.declared.side.Logic.TheVariants.{Rows, Cells}
 use Rattle.lw_equal.specs.declared.side.Side.{Side}
@@ -51,9 +51,9 @@ HasSource known cells bytes = HasEither (known && has_gates bytes) cells bytes
 
 -- Files.
 
--- the cells of the library, and none where there is no library
+-- the cells of the library, or those of an empty text where there is no library
 abbrev pub ReadsCells : Option (List ℕ) → FileStep (List CellParts)
-ReadsCells None files result = result ≡ Ok []
+ReadsCells None files result = HasCells [] files result
 ReadsCells (Some name) files result = ReadsLibrary name files result
 
 abbrev pub ReadsSource : Bool → List CellParts → List ℕ → FileStep Source

@@ -1,6 +1,5 @@
 // The files of a comparison.
-ghost use Rattle.std.specs.Prelude.{◌≡◌, ◌≤◌, ◌++◌, ◌∷◌, [], Bool, List, All, length, map, string_bytes, option_map, is_some, IfOk, OnOk};
-ghost use Rattle.std.specs.List.{list_any};
+ghost use Rattle.std.specs.Prelude.{◌≡◌, ◌≤◌, ◌++◌, ◌&&◌, ◌∷◌, [], All, length, map, string_bytes, option_map, IfOk, OnOk};
 ghost use Rattle.lw_words.specs.Limits.{most_bytes};
 ghost use Rattle.lw_files.specs.Reading.{Comes, ReadsFile};
 ghost use Rattle.lw_equal_top.specs.Sources.{is_gate, has_gates, HasSource, HasNetwork, HasNetlist, ReadsSource, ReadsCells, IsSource};
@@ -74,7 +73,19 @@ fn netlist_in(alloc: Global, library: &Library, bytes: &[u8]) -> Result<Source, 
     Ok(Source::Netlist(mapped))
 }
 
-// What a text says; `known` says whether there is a library.
+// Whether a text is that of a netlist; `known` says whether there is a library.
+fn is_netlist(alloc: Global, known: bool, bytes: &[u8]) -> Result<bool, AllocError>
+    requires { length bytes.now ≤ most_bytes }
+    ensures { IfOk result (λ is. is ≡ (known && has_gates bytes.now)) }
+{
+    if known {
+        has_gates(alloc, bytes)
+    } else {
+        Ok(false)
+    }
+}
+
+// What a text says.
 fn source_in(
     alloc: Global,
     known: bool,
@@ -85,7 +96,7 @@ fn source_in(
     ensures comes { Comes (λ source. source) (HasSource known library.now bytes.now) result }
     ensures source { IfOk result (IsSource library.now) }
 {
-    if known && has_gates(alloc, bytes)? {
+    if is_netlist(alloc, known, bytes)? {
         return netlist_in(alloc, library, bytes);
     }
     network_in(alloc, library, bytes)
@@ -107,7 +118,22 @@ fn read_source<F: Shelf>(
     source_in(alloc, known, library, &bytes)
 }
 
-// The library of the word, or one without cells.
+// The library of the word, or that of an empty text.
+fn cells_of<F: Shelf>(
+    alloc: Global,
+    shelf: &mut F,
+    word: Option<&str>,
+) -> Result<Library, FileFault>
+    ensures { ReadsFile (λ cells. cells) F.files F.faults shelf.old shelf.new
+        (ReadsCells (option_map (λ word. word.now) word.entry)) result }
+{
+    match word {
+        Some(name) => lw_files::read_library(alloc, shelf, name),
+        None => library_in(alloc, b""),
+    }
+}
+
+/// The library of the word, or that of an empty text.
 pub fn read_cells<F: Shelf>(
     alloc: Global,
     shelf: &mut F,
@@ -116,11 +142,7 @@ pub fn read_cells<F: Shelf>(
     ensures { ReadsCellsOf F.files F.faults shelf.old shelf.new
         (option_map (λ word. word.now) word.entry) result }
 {
-    let library = match word {
-        Some(name) => lw_files::read_library(alloc, shelf, name),
-        None => library_in(alloc, b""),
-    };
-    match library {
+    match cells_of(alloc, shelf, word) {
         Ok(library) => Ok(library),
         Err(fault) => Err(Refusal::of_library(fault)),
     }
