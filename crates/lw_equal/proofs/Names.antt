@@ -1,5 +1,5 @@
 -- Names that differ, and their places.
-use Rattle.std.proofs.Common.{ℕ, ◌+◌, ◌-◌, ◌<◌, ◌≤◌, ◌≡◌, Bool, true, false, cond, List, [], ◌∷◌, ◌++◌, Option, Some, None, length, map, take, drop, min, get_or, slice_get, refl, ap, ap₂, sym, subst, ◌∙◌, arith}
+use Rattle.std.proofs.Common.{ℕ, zero, suc, ◌||◌, ◌+◌, ◌-◌, ◌<◌, ◌≤◌, ◌≡◌, Bool, true, false, cond, List, [], ◌∷◌, ◌++◌, Option, Some, None, length, map, take, drop, min, get_or, slice_get, refl, ap, ap₂, sym, subst, ◌∙◌, arith}
 use Rattle.std.specs.List.{Any, IsDistinct, list_any, position, position_or_len, slice_range}
 use Rattle.std.specs.Option.{option_map}
 use Rattle.std.specs.Prelude.{unwrap_or}
@@ -9,9 +9,17 @@ use Rattle.std.proofs.lemmas.List.{get_or-drop, get_or-take, length-drop, length
 use Rattle.std.proofs.lemmas.List.Folds.{Any-from_list_any, list_any_at}
 use Rattle.std.proofs.lemmas.List.Quantifiers.{position-Some}
 use Rattle.std.proofs.lemmas.Option.{get_or_from_slice_get, same_Some, slice_get-get_or, slice_get-map, slice_get_within}
-use Rattle.lw_facts.proofs.Lists.{bytes_eq_is, bytes_eq_same, first_place, position_or_length}
-use Rattle.lw_genlib.proofs.Names.{none_before}
+use Rattle.lw_facts.proofs.Lists.{bytes_differ_turned, bytes_eq_is, differs_at, first_place, position_or_length}
 use Rattle.indexmap.specs.IndexSet.{insert_key}
+
+-- a name is none of those before it
+none_before : (names : List (List ℕ)) (i : ℕ) (d : List ℕ) → IsDistinct bytes_eq names → i < length names → list_any (bytes_eq (get_or names i d)) (take i names) ≡ false
+unfolding IsDistinct
+none_before [] i d distinct below = absurd (omega arith)
+none_before (x ∷ xs) zero d distinct below = refl
+none_before (x ∷ xs) (suc i) d distinct below =
+    let inside : i < length xs = omega arith in
+    ap₂ (λ a b. a || b) (bytes_differ_turned x (get_or xs i d) (differs_at x xs i d distinct.0 inside)) (none_before xs i d distinct.1 inside)
 
 -- one more name
 pub keys_more : (names old new : List (List ℕ)) (i : ℕ) (key : List ℕ) → IsDistinct bytes_eq names → i < length names → key ≡ get_or names i key → old ≡ take i names → new ≡ insert_key bytes_eq old key → new ≡ take (i + 1) names
