@@ -39,7 +39,7 @@ pub record DifferAsWritten {O : Type 0} (words : List (List ℕ)) (files : Files
   pub said : AreSaid comparison files cells sources
   pub sides : Sides cells sources
   pub difference : Difference
-  pub differs : IsDifference sides.one sides.other difference
+  pub differs : IsDifference sides.one sides.other difference.point difference.inputs.items
   pub written : IsDone taken is_finished old new (answer_text (names_in sources) (Differ difference))
 
 -- a line was written, or a prefix of it where the stream failed
