@@ -187,18 +187,16 @@ a_million_gates() {
 # As many inputs and outputs as a network may have, in two orders.
 most_ports() {
     awk -v n=131072 'BEGIN {
-        line = ""; for (i = 1; i <= n; i++) line = line " i" i
-        print ".model m\n.inputs" line
-        line = ""; for (i = 1; i <= n; i++) line = line " f" i
-        print ".outputs" line
+        printf ".model m\n.inputs"; for (i = 1; i <= n; i++) printf " i%d", i
+        printf "\n.outputs"; for (i = 1; i <= n; i++) printf " f%d", i
+        print ""
         for (i = 1; i <= n; i++) print ".names i" i " f" i "\n0 1"
         print ".end"
     }' >ONE
     awk -v n=131072 'BEGIN {
-        line = ""; for (i = n; i; i--) line = line " i" i
-        print ".model m\n.inputs" line
-        line = ""; for (i = n; i; i--) line = line " f" i
-        print ".outputs" line
+        printf ".model m\n.inputs"; for (i = n; i; i--) printf " i%d", i
+        printf "\n.outputs"; for (i = n; i; i--) printf " f%d", i
+        print ""
         for (i = n; i; i--) print ".names i" i " f" i "\n1 0"
         print ".end"
     }' >OTHER
