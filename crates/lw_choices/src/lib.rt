@@ -17,8 +17,8 @@
 //! the queue (`lw_queue`).
 //!
 //! The one definition to read is `AreListedChoices` in `specs/Choices.antt`: each that may stand at
-//! a class, and no other. Start at `lw_trade`. `lw_curves` calls `list_choices` and `pin_groups_of`,
-//! and `lw_backtrace` reads the choice of a point.
+//! a class, and no other. Start at `lw_trade`. `lw_curves` calls `list_choices` and
+//! `pin_groups_of`, and `lw_backtrace` reads the choice of a point.
 #![tactic(auto)]
 
 mod area;

@@ -2,9 +2,11 @@
 //!
 //! In come a graph, patterns, a library, the starts of the inputs and a horizon. Out come the curve
 //! of each class up to the horizon and the choice behind each point, or `Limit` where all classes
-//! together have more than 8,000,000 points. Times and areas are in millionths. Time passes from 0 to the horizon. When a class gains a point, each group of pins at
-//! it comes later by the delay of the group. When a group comes, the choices with a pin in it wait
-//! to be priced. The modules in the order in which points are found:
+//! together have more than 8,000,000 points. Times and areas are in millionths.
+//!
+//! Time passes from 0 to the horizon. When a class gains a point, each group of pins at it comes
+//! later by the delay of the group. When a group comes, the choices with a pin in it wait to be
+//! priced. The modules in the order in which points are found:
 //!
 //! * `point`: what is known of a point;
 //! * `finding`: from a graph to its curves, by all that follows (`curves`);

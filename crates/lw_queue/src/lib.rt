@@ -1,8 +1,9 @@
 //! A queue of numbers that wait, each for a time up to a horizon, the earliest first.
 //!
-//! What comes in by rising time stands in lanes, which cost nothing to keep in order. In `lw_curves`
-//! a lane is for one delay: points are found by rising time, so what one delay puts off comes in
-//! order. An item that does not fit its lane goes to a heap. The modules in order:
+//! What comes in by rising time stands in lanes, which cost nothing to keep in order. For the
+//! groups of `lw_curves` a lane is for one delay: points are found by rising time, so what one
+//! delay puts off comes in order. An item that does not fit its lane goes to a heap. The modules in
+//! order:
 //!
 //! * `lane`: one lane, in which each waits at least as long as those before it;
 //! * `lanes`: lanes side by side, of which any may have the first;
