@@ -5,8 +5,8 @@
 //! all covers of its class that do. This area counts each use of a shared part.
 //!
 //! `lw_choices` has what may stand at a class, `lw_curves` the points at which more time buys less
-//! area, and `lw_backtrace` the way from the roots down, for which `lw_curves` has the queues of
-//! `lw_queue`. What callers need of them is given on here. The modules in order:
+//! area, and `lw_backtrace` the way from the roots down; `lw_queue` is a queue that `lw_curves`
+//! waits by. What callers need of them is given on here. The modules in order:
 //!
 //! * `trading`: from curves to a netlist (`trade`);
 //! * `assembly`: the gates that the way down found, by depth and with their names;
