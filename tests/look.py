@@ -121,7 +121,7 @@ def on_paper(path, page, room):
     if not os.path.exists(made):
         return ["it was not printed"]
     if not shutil.which("pdftotext"):
-        print("skipped: pdftotext is not on this machine (poppler-utils), so the paper was not read")
+        print("skipped: pdftotext is not on this machine (poppler-utils), so the printed page was not looked at")
         return []
     paper = subprocess.run(["pdftotext", "-layout", made, "-"], stdout=subprocess.PIPE, check=False).stdout.decode("utf-8", "replace")
     numbers = set(re.findall(r'<td class="n">([^<]+)</td>', page))
