@@ -9,7 +9,7 @@ use lw_curves::{Curves, last_by};
 use lw_fixed::Micro;
 use lw_pool::{CellId, ClassId, Numbers};
 
-/// Whether the last point of a class by a time has the greatest area that is reported.
+/// Whether the last point of a class by a time has the cut area 2^62, the greatest there is.
 pub(crate) fn is_cut(curves: &Curves, class: ClassId, time: u64) -> bool
     ensures { IsTrue result → IsCut curves.now.points class.0 time }
 {

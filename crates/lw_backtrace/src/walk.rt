@@ -16,8 +16,9 @@ use std::alloc::{AllocError, Global};
 
 /// Walks from the roots down: each root takes the last point of its class by its time, and each
 /// pin of the gate of a point the last point of the pin's class by the point's time, less the
-/// delay of the pin. But a root whose last point has the greatest area that is reported takes any
-/// point in time, and shares gates. Where that fails, no root does.
+/// delay of the pin. But a root whose last point has the cut area 2^62 takes any point that comes
+/// by its time, and shares gates. Where that fails, a walk in which no root does so is tried. Where
+/// that fails too, the answer is that memory is out.
 pub fn walk_down(
     alloc: Global,
     graph: &Graph,
@@ -173,8 +174,8 @@ fn has_cut(plan: &Plan) -> bool {
     false
 }
 
-// Walks from the roots down. A root whose last point has the greatest area that is reported takes
-// any point in time, and shares gates. Where that fails, no root does.
+// Walks from the roots down. A root whose last point has the cut area 2^62 takes any point that
+// comes by its time, and shares gates. Where that fails, a walk in which no root does so is tried.
 fn walk_either(alloc: Global, plan: &Plan) -> Result<Walk, AllocError>
     ensures { IfOk result (IsWalkBy plan.now) }
 {

@@ -9,7 +9,7 @@ use crate::{BlifFault, BlifKind, Command, Parsed};
 use lw_words::Line;
 use std::alloc::Global;
 
-/// Why a reader reads no more lines.
+/// The answer that a stopped reader gives to each later line.
 #[derive(Clone, Copy)]
 pub enum Stop {
     Broken(u32, BlifKind),

@@ -73,8 +73,8 @@ pub record IsMappingOf (mode : Mode) (width : ℕ) (k : Claim) : Type 0 where
   pub same : AreSameCertificates k.mapped.cert certificate
   pub labels : AreLabels k.mapped.cert
 
--- The netlist is one of matches of the network, with its frame. The certificate has the least time of each class and the class of each
--- gate, and each output arrives at its least time.
+-- The netlist is one of matches of the network, with its frame, with its nets named as `map` names them, and no class twice. The
+-- certificate has the least time of each class and the class of each gate, and each output arrives at its least time.
 pub record IsTimelyNetlist (mode : Mode) (width : ℕ) (k : Claim) : Type 0 where
   pub is : IsMatchNetlistOf mode width (plain_network k.net) (ports_of k.net) k.pats (cost_in k).pin_counts (plain_netlist k.mapped.netlist) k.mapped.netlist.names (mapped_ports k.mapped.netlist)
   pub frame : k.mapped.frame ≡ k.frame

@@ -16,6 +16,7 @@ pub(crate) struct Case<'a> {
     pub(crate) lib: &'a Library,
     pub(crate) graph: &'a Graph,
     pub(crate) pats: &'a Patterns,
+    // The class of each output in the graph of the network.
     pub(crate) roots: &'a Classes,
     pub(crate) mapped: &'a Mapped,
 }

@@ -24,8 +24,9 @@ pub fn mappings_are_accepted()
         IsMappingOf mode width k → IsVerdictOn k Yes }
 {}
 
-/// So is any netlist of matches of the network whose outputs arrive at their least times, with its
-/// frame, and with the least times of the classes and the classes of its gates as certificate.
+/// So is any netlist of matches of the network, with its nets named as `map` names them, and no
+/// class twice, whose outputs arrive at their least times. It has the network's frame; its
+/// certificate has the least times of the classes and the classes of its gates.
 pub fn timely_netlists_are_accepted()
     ensures { (mode : Mode) (width : ℕ) (k : Claim) → IsKept k → IsOverGraph mode width k →
         IsTimelyNetlist mode width k → IsVerdictOn k Yes }

@@ -1,5 +1,22 @@
 //! The checker of certificates: whether a mapped netlist, whoever wrote it, is a fastest mapping of
 //! a network.
+//!
+//! In come a network with its frame and starts, a library, its patterns, the graph of the network's
+//! forms, the class of each output, and a netlist with its frame and certificate. Out comes `Yes`,
+//! or the first of six tests that fails, with what fails it first. The modules in order:
+//!
+//! * `case`, `verdict`: all that comes in, and what goes out;
+//! * `ports`: the first test, the inputs, the outputs and the frame;
+//! * `classes`: the second test, the class numbers of the certificate;
+//! * `spans`, `standing`, `gates`: the third test, whether each gate is a match at its class;
+//! * `labelling`, `bounding`, `trial`, `labels`: the fourth test, whether the labels are a
+//!   potential: no class lacks a label, or has one above what a match or an input costs;
+//! * `outputs`: the fifth test, the classes of the outputs, and the sixth, when they arrive;
+//! * `checking`: the six tests in order (`check`);
+//! * `laws`: theorems on verdicts.
+//!
+//! The one definition to read is `IsVerdictOn` in `specs/Verdicts.antt`; `yes_is_a_mapping` in
+//! `laws` says what a `Yes` means. `lw_map` calls `check`.
 #![tactic(auto)]
 
 mod bounding;

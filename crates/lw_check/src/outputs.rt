@@ -13,7 +13,7 @@ use lw_netlist::Port;
 use lw_pool::{Name, NetId};
 use std::alloc::{AllocError, Global};
 
-// The place of the first output whose net is at another class than its own.
+// The place of the first output whose net is at another class than the output's root.
 fn first_off_root(case: &Case) -> Option<usize>
     requires { length case.now.roots.now ≡ length case.now.mapped.now.netlist.outputs }
     ensures { FindsOffRoot (claim_of case.now) result }
@@ -34,7 +34,8 @@ fn output_at<'a>(case: &'a Case, place: usize) -> &'a Port
     &case.mapped.netlist.outputs()[place]
 }
 
-// The first output whose net is at another class than its own.
+// The fifth test: the reason against the first output whose net is at another class than the
+// output's root, or none.
 pub(crate) fn root_reason(alloc: Global, case: &Case) -> Result<Option<Reason>, AllocError>
     requires { PassesLabels (claim_of case.now) }
     ensures { IfOk result (Tells (claim_of case.now) (AreAtRoots (claim_of case.now))) }
@@ -99,7 +100,8 @@ fn arrivals_of(alloc: Global, case: &Case) -> Result<Vec<Micro>, AllocError>
     Ok(arrivals)
 }
 
-// The first output that arrives at another time than the label of its class.
+// The sixth test: the reason against the first output that arrives at another time than the label
+// of its class, or none.
 pub(crate) fn arrival_reason(alloc: Global, case: &Case) -> Result<Option<Reason>, AllocError>
     requires { PassesRoots (claim_of case.now) }
     ensures { IfOk result (Tells (claim_of case.now) (AreOnTime (claim_of case.now))) }

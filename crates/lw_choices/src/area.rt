@@ -50,7 +50,7 @@ impl Cost for AreaCost<'_> {
     }
 }
 
-// The greatest area that is reported.
+// The area at which areas are cut, 2^62.
 pub const MOST_AREA: u64 = 4_611_686_018_427_387_904;
 
 // The sum of two areas, or the greatest that is reported.

@@ -9,12 +9,16 @@
 //! * `chains`: an array of numbers, each place linked to the last one before it with the same
 //!   number;
 //! * `pin_groups`: the pins of all choices in groups by class and delay, since those of a group
-//!   come at the same times (`pin_groups_of`);
+//!   come at the same times (`pin_groups_of`), and the lane in which each group waits;
 //! * `group_choices`: the choices of each group, one group behind another.
 //!
+//! A lane is for one delay. Points are found by rising time, so what one delay puts off comes in
+//! order. Delays past the first 1024 share lane 0; what does not fit its lane goes to the heap of
+//! the queue (`lw_queue`).
+//!
 //! The one definition to read is `AreListedChoices` in `specs/Choices.antt`: each that may stand at
-//! a class, and no other. `lw_curves` calls `list_choices` and `pin_groups_of`, and `lw_backtrace`
-//! reads the choice of a point.
+//! a class, and no other. Start at `lw_trade`. `lw_curves` calls `list_choices` and
+//! `pin_groups_of`, and `lw_backtrace` reads the choice of a point.
 #![tactic(auto)]
 
 mod area;

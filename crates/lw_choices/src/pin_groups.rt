@@ -20,9 +20,9 @@ pub struct PinGroups {
     pub links: Chains,
     // the delay of each group
     pub delays: Vec<u64>,
-    // the lane in which each group comes
+    // the lane in which each group waits
     pub lanes: Vec<u32>,
-    // the delay of each lane
+    // the delay that each lane is for
     pub steps: Vec<u64>,
     // the pins, linked by their groups
     pub members: Chains,
@@ -34,7 +34,10 @@ pub struct PinGroups {
     pub by_group: GroupChoices,
 }
 
-/// The lane in which a group comes.
+/// The lane of the queue of coming groups in which a group waits.
+///
+/// A lane is for one delay. Points are found by rising time, so what one delay puts off comes in
+/// order. Delays past the first 1024 share lane 0.
 pub fn lane_of(uses: &PinGroups, group: u32) -> u32 {
     let group = group as usize;
     if group < uses.lanes.len() {
@@ -79,8 +82,8 @@ fn group_with(links: &Chains, delays: &[u64], class: ClassId, delay: u64) -> Opt
 // How many lanes there are at most.
 const MOST_LANES: usize = 1024;
 
-// The lane of a delay, which is added where there is none. Where there are too many it is the first
-// one.
+// The lane of a delay, which is added where there is none. Where there are as many as there may be,
+// it is lane 0.
 fn lane_for(steps: &mut Vec<u64>, delay: u64) -> Result<u32, AllocError> {
     for lane in 0..steps.len().min(MOST_LANES) {
         if steps[lane] == delay {

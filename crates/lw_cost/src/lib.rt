@@ -10,7 +10,7 @@
 //! `AreMatches` in `specs/Coming.antt`, all matches at a class; and `AreLeastMarks` in
 //! `specs/Labels.antt`, the least costs of covers with their heights. Everything that searches,
 //! stores or chooses matches stands on this crate: `lw_cursor`, `lw_bounds`, `lw_branch`,
-//! `lw_match`, `lw_label`, `lw_settle`, `lw_extract`, `lw_check` and `lw_trade`.
+//! `lw_match`, `lw_label`, `lw_settle`, `lw_extract`, `lw_check` and `lw_choices`.
 #![tactic(auto)]
 
 mod cost;

@@ -209,7 +209,7 @@ module _ (s : Task) (choices : List Choice) (now g : ℕ) (spots : List Spot) (u
   pub group_over : IsStill s choices now w.coming.horizon spots (Comes next')
   group_over = settling_on s choices now w.coming.horizon spots spots (Comes w) (Comes next') still group_left still.reached still.low (λ c t a h. h)
 
--- PinGroups of a point that was gained.
+-- Uses of a point that was gained.
 
 pin_below : (ds : List ℕ) (ks : List Spot) (j : ℕ) (k : Spot) → length ds ≡ length ks → slice_get ks j ≡ Some k → k.time + slice_index_or ds j 0 ≤ latest ds (times ks)
 pin_below ds [] j k e at = cc

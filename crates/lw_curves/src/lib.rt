@@ -1,10 +1,12 @@
 //! The points of each class at which more time buys less area, by rising time.
 //!
 //! In come a graph, patterns, a library, the starts of the inputs and a horizon. Out come the curve
-//! of each class up to the horizon and the choice behind each point, or `Limit` where there are too
-//! many points. Time passes from 0 to the horizon. When a class gains a point, each group of pins at
-//! it comes later by the delay of the group. When a group comes, the choices with a pin in it wait
-//! to be priced. The modules in the order in which points are found:
+//! of each class up to the horizon and the choice behind each point, or `Limit` where all classes
+//! together have more than 8,000,000 points. Times and areas are in millionths.
+//!
+//! Time passes from 0 to the horizon. When a class gains a point, each group of pins at it comes
+//! later by the delay of the group. When a group comes, the choices with a pin in it wait to be
+//! priced. The modules in the order in which points are found:
 //!
 //! * `point`: what is known of a point;
 //! * `finding`: from a graph to its curves, by all that follows (`curves`);
@@ -19,8 +21,8 @@
 //! * `curve_table`: the points by class, with their choices (`Curves`);
 //! * `last_point`: the last point of a class by a time.
 //!
-//! The one definition to read is `AreCurves` in `specs/Points.antt`. `lw_map` calls `curves` through
-//! `lw_trade`, and `lw_backtrace` reads what comes out.
+//! The one definition to read is `AreCurves` in `specs/Points.antt`. Start at `lw_trade`, through
+//! which `lw_map` calls `curves`; `lw_backtrace` reads what comes out.
 #![tactic(auto)]
 
 mod choice_area;

@@ -126,7 +126,7 @@ fn push_groups(
     Ok(())
 }
 
-// GroupChoices at the choices that wait at a time until one gives its class a point, and says which class
+// Looks at the choices that wait at a time until one gives its class a point, and says which class
 // it is.
 fn next_gain(
     setup: &Setup,
@@ -165,7 +165,7 @@ fn next_gain(
     Ok(None)
 }
 
-// GroupChoices at the groups that come at a time, and then at the choices that wait until one gives its
+// Looks at the groups that come at a time, and then at the choices that wait until one gives its
 // class a point, and says which class it is.
 fn gain_at(
     setup: &Setup,

@@ -39,7 +39,7 @@ pub(crate) fn may_give(at: &View, number: u32, time: u64) -> bool
     at.fronts.is_less(tally.class, time, area)
 }
 
-/// GroupChoices at the choices of the groups that come at a time.
+/// Looks at the choices of the groups that come at a time.
 pub(crate) fn look_at_groups(
     setup: &Setup,
     seen: &mut Seen,

@@ -1,4 +1,4 @@
-// What keeps labels from giving a netlist.
+// Why labels give no netlist.
 use std::alloc::AllocError;
 
 /// Why there is no netlist.

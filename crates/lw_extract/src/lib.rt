@@ -1,5 +1,23 @@
 //! From the labels of a graph's classes to the netlist of the chosen matches, and from any list of
 //! matches to the netlist that it makes.
+//!
+//! In come a graph, patterns, a library, labels, the cost that they are least by, and ports: names,
+//! and the class of each output. Out comes a netlist with the class of each gate (`Cover`), or
+//! `NoCover` with the first output whose class has no label. Each class that is needed and is no
+//! input's has one gate, which is its chosen match. The modules in order:
+//!
+//! * `ports`: the ports that come in, and the cover that goes out;
+//! * `fault`: why labels give no netlist;
+//! * `job`: the labels and the ports together, as one argument;
+//! * `ordering`: the classes that may have a gate, by height;
+//! * `choosing`: those of them that are needed, each with its chosen match;
+//! * `nets`: the net of each class;
+//! * `gates`: the gates of matches and the outputs, over these nets;
+//! * `assembling`: the netlist of any list of matches (`assemble`);
+//! * `extracting`: from labels to the netlist (`extract_with`);
+//! * `laws`: theorems on when nets arrive.
+//!
+//! The one definition to read is `IsCoverBy` in `specs/Covers.antt`. `lw_map` calls `extract_with`.
 #![tactic(auto)]
 
 mod assembling;

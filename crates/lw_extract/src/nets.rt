@@ -19,7 +19,7 @@ pub(crate) fn input_nets(alloc: Global, graph: &Graph) -> Result<Vec<Option<NetI
     Ok(nets)
 }
 
-// Adds the nets of the classes that have a gate.
+// Gives the class of the j-th gate net `inputs + j`, behind the nets of the inputs.
 pub(crate) fn add_gates(nets: &mut [Option<NetId>], inputs: u32, chosen: &[Chosen])
     requires few { inputs + length chosen.now < 2 ^ 32 }
     requires in_range { All (λ x. x.class.0 < length nets.old) chosen.now }

@@ -15,13 +15,15 @@ use std::alloc::{AllocError, Global};
 /// The most bytes that are cut into lines at once.
 const PIECE: usize = 4096;
 
-/// Reads a text line by line, over something that stays, and keeps its first fault.
+/// A reader of lines. `C` is what it reads them against, such as the library for a mapped netlist;
+/// it is `()` for BLIF and genlib.
 pub trait TakesLines<C> {
     /// The lines that were given.
     ghost given: { Self → C → List LogicalLine → Type 0 };
     /// The lines that may be given.
     ghost accepts: { LogicalLine → Type 0 };
 
+    /// Takes the next line. A fault is kept and told at the end.
     fn take_line(&mut self, over: &C, line: &Line)
         requires { accepts line.now }
         ensures { (lines : List LogicalLine) → given self.old over.now lines →

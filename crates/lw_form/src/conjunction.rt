@@ -42,7 +42,7 @@ fn kept(alloc: Global, forms: &[u32]) -> Result<IndexSet<u32>, AllocError>
     Ok(kept)
 }
 
-// The same of few forms, which take no memory.
+// Few forms without true and without repeats, of which the first stays. They are held inline.
 fn few_kept(alloc: Global, forms: &[u32]) -> Result<SmallVec<u32, 8>, AllocError>
     ensures { IfOk result (λ kept. kept.items ≡ kept_numbers forms.now) }
 {
@@ -76,7 +76,7 @@ fn clashes(kept: &IndexSet<u32>) -> bool
     kept.contains(&FALSE) || holds_complements(kept)
 }
 
-// The same of few forms.
+// Whether among few forms the complement of true is there, or a form and its complement.
 #[tactic(auto, using(crate::proofs::Conjunctions::holds_turned))]
 fn few_clash(kept: &[u32]) -> bool
     ensures { result ≡ numbers_clash kept.now }

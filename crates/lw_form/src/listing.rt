@@ -52,7 +52,7 @@ impl Listing {
         }
     }
 
-    // Has a place for each base form up to b.
+    // Makes `places` long enough to have an entry for b. New entries are `NO_PLACE`.
     fn reach(&mut self, b: u32) -> Result<(), AllocError>
         ensures reached { OnOk result (b < length self.new.places.items) }
         ensures same { OnOk result ((x : ℕ) →

@@ -5,7 +5,8 @@ use smallvec::SmallVec;
 use std::alloc::{AllocError, Global};
 use std::marker::Model;
 
-// What a row asks of each fan-in, in columns: a value, or none.
+// A row of a node's table (a cube): for each fan-in, by column, the value that it asks for, or
+// none. Factoring looks for a sign that many rows have.
 #[derive(Drop)]
 pub(crate) struct Row {
     signs: SmallVec<u8, 16>,
@@ -50,7 +51,7 @@ impl Row {
         self.signs.as_slice()
     }
 
-    // Whether the row has the column with this sign.
+    // Whether the row asks for this value in this column.
     pub(crate) fn has(&self, column: usize, sign: bool) -> bool
         ensures { result ≡ has_at column sign self.now }
     {

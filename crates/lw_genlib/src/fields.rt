@@ -81,7 +81,7 @@ fn place_among(names: &[Name], word: &[u8]) -> Option<usize>
     names.iter().position(|name| word == name.as_bytes())
 }
 
-// The larger of a delay and a block delay.
+// Reads a rise or fall block delay: the larger of it and the delay so far.
 fn larger(given: &Given, delay: Micro) -> Result<Micro, LibFault>
     ensures { result
         ≡ on_line given.now.line (words.larger delay (words.number_of given.now.word.now)) }

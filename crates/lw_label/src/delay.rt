@@ -112,7 +112,8 @@ fn sum(a: u64, b: u64) -> u64
     a.saturating_add(b)
 }
 
-// When a cell arrives, or as late as can be told.
+// The greatest of each pin's arrival plus its delay, cut at 2^64 - 1. The caller cuts it at
+// `MOST_TIME`.
 fn latest(delays: &[Micro], pins: &[u64]) -> u64
     requires { length delays.now ≡ length pins.now }
     ensures { min result most_time ≡ min most_time (latest (map millionths delays.now) pins.now) }

@@ -34,7 +34,7 @@ pub(crate) struct LabelRounds<'a> {
 }
 
 impl Labelling<'_> {
-    /// The mark of a class.
+    /// The label of a class (its least cost so far) with its height, or none while it has no label.
     pub(crate) fn mark(&self, class: ClassId) -> Option<Mark>
         requires { class.0 < length self.now.marks.items }
         ensures { result ≡ slice_index_or self.now.marks.items class.0 None }

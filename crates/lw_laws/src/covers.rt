@@ -1,5 +1,5 @@
-//! Laws about covers, labels, heights and rounds. Each function has an empty body; its clauses are
-//! the law.
+//! Laws about covers, labels, heights and rounds. Each function has an empty body and is never run;
+//! its clauses are the law.
 ghost use Rattle.lw_laws.specs.Choices.{AreHeights, HasLabelAtMost, HaveLabels, IsHeight, IsInputClass};
 ghost use Rattle.lw_laws.specs.Classes.{IsGraphOf};
 ghost use Rattle.lw_laws.specs.Costs.{Cost, IsCost, cost_of};
@@ -32,7 +32,8 @@ pub fn costs_are_times()
         cost_of (delay_cost timing cap) k ≡ min cap (time_of timing k) }
 {}
 
-/// A potential bounds every cover.
+/// Each label of a potential is at most the cost of every cover of its class. A potential is labels
+/// that no match and no input would lower. No code calls this; `check` rests on it.
 pub fn potential_bounds_covers()
     ensures { (g : Graph) (pats : List Pattern) (cost : Cost) (labels : List (Option ℕ)) →
         IsCoverProblem g pats cost → IsPotentialOf g pats cost labels →

@@ -122,8 +122,9 @@ pub fn extracted_netlists_are_mapped()
         IsMatchNetlist g cost.pin_counts pats gates n }
 {}
 
-/// The same holds of the netlist that any list of matches makes in which each pin's class is an
-/// input's or stands earlier, and no class stands twice.
+/// The netlist that any list of matches makes is in order, and each gate is a match of its class
+/// with the classes of its pins, where each pin's class is an input's or stands earlier in the
+/// list, and no class stands twice.
 pub fn made_netlists_are_mapped()
     ensures { (g : Graph) (pin_counts : List ℕ) (pats : List Pattern) (xs : List Gated)
         (n : Netlist) → AreMatchesInOrder g pin_counts pats xs → IsMadeOf g pats xs n →

@@ -1,4 +1,18 @@
 //! Lookup tables of least depth over the classes of a graph, and their text.
+//!
+//! In come a graph, how many inputs a table may have, and ports. Out comes a network of tables,
+//! each output at its least depth, and its text as BLIF. The modules in order:
+//!
+//! * `cut`, `task`, `span`, `reach`: cuts with their bits, and what a search goes by;
+//! * `start`, `search`, `found`, `finding`: the least depth of each class, one depth after another;
+//! * `table`, `lists`, `rows`: tables, made from cuts, and their rows;
+//! * `choosing`: the classes that are needed, each with its table;
+//! * `ports`, `placing`, `naming`, `net`, `making`: the network of these tables;
+//! * `lines`, `writing`: its text;
+//! * `laws`: theorems on depths, networks and texts.
+//!
+//! The one definition to read is `IsTableNetOf` in `specs/Nets.antt`. `lw_map` calls `depths` and
+//! `tables`, and `lw_top` writes the text.
 #![tactic(auto)]
 
 mod choosing;

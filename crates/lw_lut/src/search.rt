@@ -131,8 +131,9 @@ impl Search {
         true
     }
 
-    // The same. Where a count falls the class and those that hold pairs with its place are to be
-    // looked at again.
+    // Gives the place of a class the cut of a pair of the class that has fewer leaves, if there
+    // is one. Where its count falls, the class and those that hold pairs with its place are to be
+    // looked at again: the span that goes out has them.
     fn lower_at(&mut self, task: &Task, class: ClassId, next: Span) -> Span
         requires class { class.0 < length task.now.graph.now.pairs }
         requires may { MayLower task.now self.old }
@@ -201,8 +202,9 @@ impl Search {
         next
     }
 
-    // The same for the places of a span. The classes of the others that have few enough leaves
-    // have depths. The other span grows by the classes that are then to be looked at.
+    // Settles the places of a span, and says whether a depth fell. The classes of the others that
+    // have few enough leaves have depths. The other span grows by the classes that are then to be
+    // looked at.
     fn settle_all(&mut self, task: &Task, depth: u32, swept: Span, next: &mut Span) -> bool
         requires places { AreInPlace self.old }
         requires reach { length task.now.reach.now ≡ length self.old.counts.items }

@@ -101,7 +101,8 @@ fn draft_of(
     })
 }
 
-// The same, with the names of what latches read behind those of the outputs, each name once.
+// The draft of what lines say, with the names of what latches read behind those of the outputs,
+// each name once.
 fn rooted_draft(
     alloc: Global,
     model: Option<Name>,
@@ -209,7 +210,7 @@ impl Contents {
         self.close_with(alloc, lib, starts)
     }
 
-    // The same, with the starts of the inputs.
+    // The netlist of what lines say, or its fault, given the starts of the inputs.
     fn close_with(self, alloc: Global, lib: &Library, starts: Micros) -> Result<Mapped, MappedFault>
         requires few { IsOfFew self lib.now }
         requires starts { AreStartsOf self starts }

@@ -1,4 +1,21 @@
 //! Mapped BLIF: the text of a netlist of library cells, written and read.
+//!
+//! To write, in come a library, a netlist, its frame, its starts and a certificate or none; out
+//! goes the text (`write`). To read, in come a library and the lines of a text; out come the
+//! netlist, the frame, the starts and the certificate (`Mapped`), or the first rule that is broken,
+//! with its line. The modules in order:
+//!
+//! * `certificate`: labels of classes and classes of gates;
+//! * `lines`, `frames`, `gates`, `marks`, `writing`: the text, from its words to the whole;
+//! * `fault`: the rules that a line may break;
+//! * `command`, `naming`, `ties`, `saying`, `parsing`: what one line says;
+//! * `contents`, `parts`, `reader`: what lines say together, line by line (`MappedReader`);
+//! * `closing`: from what lines say to the netlist (`Mapped`);
+//! * `laws`: theorems on texts, such as that what was written reads back.
+//!
+//! The one definition to read is `mapped_text` in `specs/Texts.antt` for what is written, and
+//! `IsUnmapped` in `specs/Unmapped.antt` for what is read. `lw_files` gives the lines to
+//! `MappedReader`, and `lw_top` calls `write`.
 #![tactic(auto)]
 
 mod certificate;

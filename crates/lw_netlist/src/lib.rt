@@ -1,5 +1,19 @@
 //! Netlists of library cells: their gates, the values of their nets, and when these arrive, and how
 //! they are closed from drafts by names.
+//!
+//! In comes a draft, whose nets are known by names. Out comes the netlist of it, whose nets are
+//! numbers and whose gates stand by depth, or the fault of the draft. The modules in order:
+//!
+//! * `gate`, `netlist`: gates and outputs, and the netlist of them (`Netlist`);
+//! * `values`, `arrivals`: the values of nets, and when they arrive;
+//! * `draft`, `fault`: what comes in, and why it is no netlist;
+//! * `spelled`, `spelled_names`, `buckets`, `signals`: names in rows of bytes, and their numbers;
+//! * `graph`, `naming`: what is kept of a draft, with numbers in place of names;
+//! * `levels`, `placing`: how deep the gates are, and the netlist with the gates in their places;
+//! * `closing`, `close`: from a draft to the netlist (`Netlist::close`).
+//!
+//! The one definition to read is `IsClosed` in `specs/Closing.antt`. `lw_mapped` and `lw_verilog`
+//! close what they read.
 #![tactic(auto)]
 
 mod arrivals;

@@ -143,7 +143,8 @@ fn wire_row(alloc: Global, wire: &Wire, signals: &Signals) -> Result<Numbers, Ne
     Ok(row)
 }
 
-// The same of each wire, or the first source that has no number.
+// Adds for each wire the number of its source, as a row, or says the first source that has no
+// number.
 fn wire_rows(
     alloc: Global,
     wires: &[Wire],

@@ -80,7 +80,8 @@ impl Signals {
         }
     }
 
-    /// The same as `find`, at once where the name has this number.
+    /// The number of a name, if it is one of these. Where the name has the number that is given, it
+    /// is found at once.
     pub fn find_from(&self, number: usize, name: &[u8]) -> Option<usize>
         ensures number { IfSome result (λ n. number_in self.now name.now ≡ n) }
         ensures found { is_some result ≡ is_among self.now name.now }

@@ -147,7 +147,7 @@ pub(crate) fn name_at<'a>(bytes: &'a [u8], ends: &[usize], from: usize, place: u
     part(bytes, begin, end)
 }
 
-/// The same gate, spelled.
+/// A gate of a draft, spelled: with the bytes of its names in one row.
 pub(crate) fn spelled(alloc: Global, gate: &DraftGate) -> Result<SpelledGate, AllocError>
     ensures { IfOk result (λ spelled. spelled ≡ gate.now) }
 {

@@ -1,12 +1,12 @@
--- A queue of choices by the times at which they wait.
+-- A queue of numbers by the times for which they wait.
 use Rattle.std.specs.Prelude.{ℕ, ◌-◌, ◌<◌, ◌≤◌, ◌≡◌, ◌⊎◌, List, [], ◌∷◌, ◌++◌, length, All, Contains, Option, Some, None, Bool, true, false, slice_get, ◌+◌}
 use Rattle.std.specs.BinaryHeap.{IsHeap}
 use Rattle.std.specs.declared.cmp.Ordering.{Ordering}
 use Rattle.std.specs.Ordering.{nat_cmp, ordering_then}
 use Rattle.std.specs.List.Sorted.{IsPermutation}
 
--- the choices or groups that wait: how much time is left up to a horizon, a number that says which comes first of equal times,
--- and the number of the choice or group
+-- what waits: how much time is left up to a horizon, a hint, and the number of a choice or a group; of equal times in the heap
+-- the greatest hint comes first, and in lanes it has no say
 pub record Queued : Type 0 where
   pub horizon : ℕ
   pub items : List (ℕ × (ℕ × ℕ))

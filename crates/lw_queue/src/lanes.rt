@@ -16,8 +16,8 @@ pub fn no_lanes(alloc: Global, count: usize) -> Result<Vec<Lane>, AllocError>
     Ok(lanes)
 }
 
-/// Lets one more wait behind those of a lane, unless less time is left to one of these, and says
-/// whether it does.
+/// Lets one more wait behind those of a lane, unless less time is left to one of these or there is
+/// no such lane, and says whether it does.
 pub fn push_behind(
     lanes: &mut Vec<Lane>,
     lane: u32,

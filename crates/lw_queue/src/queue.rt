@@ -9,11 +9,14 @@ use std::alloc::{AllocError, Global};
 use std::collections::BinaryHeap;
 use std::marker::Model;
 
-/// The choices or the groups that wait to be looked at, each at a time up to a horizon, the
-/// earliest first.
+/// Numbers that wait, each for a time up to a horizon, the earliest first. They are those of
+/// choices, or of groups of pins.
 ///
-/// They stand in lanes, in each by rising time, and where one would come before the last of its
-/// lane in a heap.
+/// They stand in lanes, in each by rising time. One that would come before the last of its lane
+/// stands in a heap instead.
+///
+/// Each has a hint: a number that the caller may have back with it. Of equal times in the heap, the
+/// greatest hint comes first; in lanes it has no say.
 #[derive(Drop)]
 pub struct Queue {
     horizon: u64,
@@ -52,14 +55,15 @@ impl Queue {
         })
     }
 
-    /// The last time at which a choice may wait.
+    /// The last time for which a number may wait.
     pub fn horizon(&self) -> u64
         ensures { IsHorizonOf self.now result }
     {
         self.horizon
     }
 
-    /// Lets a choice wait, in a lane whose others wait no longer if it can.
+    /// Lets a number wait for a time, with a hint: behind the others of a lane if none of these
+    /// waits longer, and else in the heap.
     pub fn push(&mut self, lane: u32, time: u64, hint: u64, number: u32) -> Result<(), AllocError>
         requires { time ≤ self.old.horizon }
         ensures horizon { self.new.horizon ≡ self.old.horizon }
@@ -73,7 +77,7 @@ impl Queue {
         Ok(())
     }
 
-    /// The first time at which a choice waits.
+    /// The first time for which a number waits.
     pub fn next_time(&self) -> Option<u64>
         ensures { IsFirstTime self.now result }
     {
@@ -83,7 +87,7 @@ impl Queue {
         }
     }
 
-    /// Takes a choice that waits at a time, before which none waits.
+    /// Takes a number that waits for a time, before which none waits.
     pub fn take_at(&mut self, time: u64) -> Option<u32>
         requires within { time ≤ self.old.horizon }
         requires first { (t n : ℕ) → Waits self.old t n → time ≤ t }
@@ -95,8 +99,8 @@ impl Queue {
         }
     }
 
-    /// Takes a choice that waits at a time, before which none waits, with the hint that it was
-    /// pushed with.
+    /// Takes a number that waits for a time, before which none waits, behind the hint with which it
+    /// was pushed.
     pub fn take_hinted_at(&mut self, time: u64) -> Option<(u64, u32)>
         requires within { time ≤ self.old.horizon }
         requires first { (t n : ℕ) → Waits self.old t n → time ≤ t }

@@ -73,7 +73,8 @@ fn make_room(alloc: Global, blocks: &mut Vec<Block>, inputs: usize) -> Result<()
     Ok(())
 }
 
-// Adds the vector of these digits.
+// Adds a vector, one digit per input, to the last block, or to a new one where that is full or
+// there is none.
 pub(crate) fn add_vector(
     alloc: Global,
     blocks: &mut Vec<Block>,

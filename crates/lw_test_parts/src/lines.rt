@@ -162,7 +162,7 @@ const NETWORK: &[(u32, &str)] = &[
     (6, ".end"),
 ];
 
-// The same, where the second line goes on in the third.
+// The lines of the small network, where the second line goes on in the third.
 const CONTINUED: &[(u32, &str)] = &[
     (1, ".model and3"),
     (2, ".inputs a b c"),

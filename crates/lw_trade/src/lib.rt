@@ -1,9 +1,12 @@
 //! A netlist of least area under a deadline.
 //!
-//! In come a graph, its curves and the targets. Out comes a netlist whose outputs arrive by their
-//! times, each with the least area of all covers of its class. `lw_choices` has what may stand at a
-//! class, `lw_curves` the points at which more time buys less area, and `lw_backtrace` the way from
-//! the roots down; their public calls are given on here. The modules in order:
+//! In come a graph, patterns, a library, the starts of the inputs, the curves of these, and
+//! targets. Out comes a netlist whose outputs arrive by their times, each with the least area of
+//! all covers of its class that do. This area counts each use of a shared part.
+//!
+//! `lw_choices` has what may stand at a class, `lw_curves` the points at which more time buys less
+//! area, and `lw_backtrace` the way from the roots down; `lw_queue` is a queue that `lw_curves`
+//! waits by. What callers need of them is given on here. The modules in order:
 //!
 //! * `trading`: from curves to a netlist (`trade`);
 //! * `assembly`: the gates that the way down found, by depth and with their names;

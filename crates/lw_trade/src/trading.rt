@@ -18,7 +18,7 @@ use std::alloc::{AllocError, Global};
 
 /// A netlist whose outputs arrive by their times, each with the least area of all covers of its
 /// class that do. Each use of a shared part counts in this area, but uses of one class by one
-/// point share a gate. Where an output's least area by its time is the greatest that is reported,
+/// point share a gate. Where an output's least area by its time is 2^62, at which areas are cut,
 /// each cover in time has it, and the output takes gates that are shared by class. Each other
 /// output takes the last point of its class by its time, and so does each pin of its gates. The
 /// curves are those of the graph, the patterns, the library and the starts, up to a horizon that is

@@ -219,7 +219,8 @@ fn has_begun(all: &AllNames) -> bool
     is_begun(all.names) || is_output_begun(all.outputs)
 }
 
-/// The same as `passed`, at once where no name begins as those of instances do.
+/// How many numbers from one on are taken, up to so many, as `passed` counts them. Where no name
+/// begins as those of instances do, it is 0 at once.
 pub(crate) fn skipped(taken: &mut Taken, all: &AllNames, most: u64, number: u64) -> u64
     requires few { number + most < number_limit }
     requires stands { Fits all.now taken.old }

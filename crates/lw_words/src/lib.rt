@@ -1,4 +1,17 @@
 //! The logical lines of a text, whatever the pieces in which it comes.
+//!
+//! In come the bytes of a text, piece by piece. Out come its logical lines, each with its words and
+//! the number of its first physical line. The modules in order:
+//!
+//! * `words`, `line`: the words of a line, and a line of them;
+//! * `place`: where a reader stands in a physical line;
+//! * `gathering`, `reading`: the words of a line, byte by byte, and those of a word in one go;
+//! * `lines`: lines of the bytes that are fed (`Lines`);
+//! * `commands`: words that a reader knows;
+//! * `laws`: what holds of all logical lines.
+//!
+//! The one definition to read is `logical_lines` in `specs/Lines.antt`. `lw_files` gives the lines
+//! of each file to its reader.
 #![tactic(auto)]
 
 mod commands;
