@@ -7,7 +7,7 @@ use Rattle.lw_laws.specs.Extracts.{Match, IsMatchOf}
 use Rattle.lw_cost.specs.Coming.{AreMatches, IsPatternMatch}
 use Rattle.lw_cost.specs.Least.{AreOfCells}
 use Rattle.lw_cost.proofs.CellMatches.{of_cell, of_pattern}
-use Rattle.lw_choices.specs.declared.choices.Row.{Row}
+use Rattle.lw_choices.specs.declared.choices.ListedChoice.{ListedChoice}
 use Rattle.lw_choices.specs.Areas.{area_cost}
 use Rattle.lw_choices.specs.Choices.{Part, Choice, MayStand, AreListedChoices}
 use Rattle.lw_choices.specs.Choices.Part.{input, gate}
@@ -15,7 +15,7 @@ use Rattle.lw_choices.specs.Tasks.{Task}
 use Rattle.lw_choices.specs.Rows.{plain_row, plain_rows, IsAmong, IsListing}
 use Rattle.lw_choices.proofs.Lists.{get_last, get_push, push_cases, contained_at, at_contained}
 
-pub rows_push : (rows : List Row) (r : Row) → plain_rows (rows ++ r ∷ []) ≡ plain_rows rows ++ plain_row r ∷ []
+pub rows_push : (rows : List ListedChoice) (r : ListedChoice) → plain_rows (rows ++ r ∷ []) ≡ plain_rows rows ++ plain_row r ∷ []
 rows_push [] r = refl
 rows_push (q ∷ rows) r = ap (λ xs. plain_row q ∷ xs) (rows_push rows r)
 

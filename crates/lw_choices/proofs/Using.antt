@@ -99,7 +99,7 @@ module _ (old mid new : PinGroups) (c delay group n : ℕ) (are : AreGroups old)
 -- what looks need is added
 module _ (u : PinGroups) (by_group : GroupChoices) where
   abbrev pub with_looks : PinGroups
-  with_looks = record { links = u.links; delays = u.delays; lanes = u.lanes; steps = u.steps; members = u.members; owners = u.owners; firsts = u.firsts; by_group = by_group }
+  with_looks = record { links = u.links; delays = u.delays; lanes = u.lanes; lane_delays = u.lane_delays; members = u.members; owners = u.owners; firsts = u.firsts; by_group = by_group }
 
   pub uses_looked : (cells : List CellParts) (choices : List Choice) (n k : ℕ) → AreUsesTo cells choices n k u → AreUsesTo cells choices n k with_looks
   uses_looked cells choices n k are = record {

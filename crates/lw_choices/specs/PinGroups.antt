@@ -94,12 +94,12 @@ pub record AreUsesTo (cells : List CellParts) (choices : List Choice) (n k : ℕ
 pub record ArePinsAdded (delays : List Micro) (pins : List ClassId) (n : ℕ) (old new : PinGroups) : Type 0 where
   pub are : AreGroups new
   pub firsts : new.firsts.items ≡ old.firsts.items
-  pub uses : (cells : List CellParts) (xs : List Choice) (c cell : ℕ) → slice_get xs n ≡ Some (record { class = c; part = gate cell (numbers pins) }) → delays_of (delays_of_cells cells) cell ≡ map millionths delays → AreUsesTo cells xs n 0 old → AreUsesTo cells xs n (length pins) new
+  pub pin_groups : (cells : List CellParts) (xs : List Choice) (c cell : ℕ) → slice_get xs n ≡ Some (record { class = c; part = gate cell (numbers pins) }) → delays_of (delays_of_cells cells) cell ≡ map millionths delays → AreUsesTo cells xs n 0 old → AreUsesTo cells xs n (length pins) new
 
 -- so were those of a choice with a cell of the library, and those of an input, which has none
 pub record IsChoiceAdded (cells : List CellParts) (x : Choice) (n : ℕ) (old new : PinGroups) : Type 0 where
   pub of : AreGroupsTo (n + 1) new
-  pub uses : (xs : List Choice) → slice_get xs n ≡ Some x → AreUsesTo cells xs n 0 old → AreUsesTo cells xs (n + 1) 0 new
+  pub pin_groups : (xs : List Choice) → slice_get xs n ≡ Some x → AreUsesTo cells xs n 0 old → AreUsesTo cells xs (n + 1) 0 new
 
 -- the pins of all choices, and the choices of each group
 pub record AreUses (cells : List CellParts) (choices : List Choice) (u : PinGroups) : Type 0 where

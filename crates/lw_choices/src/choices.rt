@@ -29,14 +29,18 @@ pub enum Stand {
 
 /// What may stand at which class.
 #[derive(Drop)]
-pub struct Row {
+pub struct ListedChoice {
     pub class: ClassId,
     pub stand: Stand,
 }
 
 /// All that may stand at the classes of a graph: the inputs, and then the matches, class by class.
 /// There is no memory for 2^32 of them.
-pub fn list_choices(alloc: Global, graph: &Graph, pats: &Patterns) -> Result<Vec<Row>, AllocError>
+pub fn list_choices(
+    alloc: Global,
+    graph: &Graph,
+    pats: &Patterns,
+) -> Result<Vec<ListedChoice>, AllocError>
     ensures { IfOk result (λ rows. AreAllChoices graph.now pats.now rows.items) }
 {
     let mut rows = list_inputs(alloc, graph)?;
@@ -48,7 +52,7 @@ pub fn list_choices(alloc: Global, graph: &Graph, pats: &Patterns) -> Result<Vec
 }
 
 // The inputs.
-fn list_inputs(alloc: Global, graph: &Graph) -> Result<Vec<Row>, AllocError>
+fn list_inputs(alloc: Global, graph: &Graph) -> Result<Vec<ListedChoice>, AllocError>
     ensures { IfOk result (λ rows. (pats : _) (cells : List CellParts) (starts : List MicroOf) →
         IsListing (task graph.now pats cells starts)
         (length graph.now.leaves) 0 (plain_rows rows.items)) }
@@ -56,7 +60,7 @@ fn list_inputs(alloc: Global, graph: &Graph) -> Result<Vec<Row>, AllocError>
     let mut rows = Vec::new(alloc);
     let _ = graph.classes();
     for input in 0..graph.inputs() {
-        rows.push(Row {
+        rows.push(ListedChoice {
             class: graph.leaf(input),
             stand: Stand::Input(input),
         })?;
@@ -65,11 +69,16 @@ fn list_inputs(alloc: Global, graph: &Graph) -> Result<Vec<Row>, AllocError>
 }
 
 // Appends a cell at a class.
-fn push_gate(to: &mut Vec<Row>, class: ClassId, cell: CellId, pins: Pins) -> Result<(), AllocError>
+fn push_gate(
+    to: &mut Vec<ListedChoice>,
+    class: ClassId,
+    cell: CellId,
+    pins: Pins,
+) -> Result<(), AllocError>
     ensures { OnOk result (IsGatePushed to.old.items to.new.items class cell pins) }
 {
     let stand = Stand::Gate(Gate { cell, pins });
-    to.push(Row { class, stand })?;
+    to.push(ListedChoice { class, stand })?;
     Ok(())
 }
 
@@ -78,7 +87,7 @@ fn list_class(
     graph: &Graph,
     pats: &Patterns,
     class: ClassId,
-    rows: &mut Vec<Row>,
+    rows: &mut Vec<ListedChoice>,
 ) -> Result<(), AllocError>
     requires class { class.0 < length graph.now.pairs }
     ensures { OnOk result (IsClassListed graph.now pats.now class.0 rows.old.items rows.new.items) }
@@ -92,7 +101,7 @@ fn list_class(
 }
 
 // Appends the matches of a store.
-fn list_stored(store: &mut Store, rows: &mut Vec<Row>) -> Result<(), AllocError>
+fn list_stored(store: &mut Store, rows: &mut Vec<ListedChoice>) -> Result<(), AllocError>
     requires { store.old.done ≡ 0 }
     ensures { OnOk result (AreStoredListed store.old.lists rows.old.items rows.new.items) }
 {
@@ -104,7 +113,11 @@ fn list_stored(store: &mut Store, rows: &mut Vec<Row>) -> Result<(), AllocError>
 }
 
 // Appends the matches by a search at each class.
-fn list_sought(graph: &Graph, pats: &Patterns, rows: &mut Vec<Row>) -> Result<(), AllocError>
+fn list_sought(
+    graph: &Graph,
+    pats: &Patterns,
+    rows: &mut Vec<ListedChoice>,
+) -> Result<(), AllocError>
     ensures { OnOk result (AreMatchesListed graph.now pats.now rows.old.items rows.new.items) }
 {
     for class in 0..graph.classes() {
@@ -118,7 +131,7 @@ fn list_matches(
     alloc: Global,
     graph: &Graph,
     pats: &Patterns,
-    rows: &mut Vec<Row>,
+    rows: &mut Vec<ListedChoice>,
 ) -> Result<(), AllocError>
     ensures { OnOk result (AreMatchesListed graph.now pats.now rows.old.items rows.new.items) }
 {

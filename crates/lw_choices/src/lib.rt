@@ -29,5 +29,5 @@ mod pin_groups;
 
 pub use area::{AreaCost, MOST_AREA, joined};
 pub use chains::Chains;
-pub use choices::{Gate, Row, Stand, list_choices};
+pub use choices::{Gate, ListedChoice, Stand, list_choices};
 pub use pin_groups::{PinGroups, lane_of, pin_groups_of};

@@ -5,7 +5,7 @@ ghost use Rattle.lw_choices.specs.Rows.{ArePartsFor, plain_part, plain_row, plai
 ghost use Rattle.lw_choices.specs.PinGroups.{AreGroups, AreGroupsTo, ArePinsAdded, AreUses, HasFirst, HasNoUses, HasNoUsesFor, HaveDelays, IsChoiceAdded, IsFirstAdded, IsGroup, IsGroupAdded, IsPinAdded};
 
 use crate::chains::Chains;
-use crate::choices::{Row, Stand};
+use crate::choices::{ListedChoice, Stand};
 use crate::group_choices::{GroupChoices, choices_by_group, no_group_choices};
 use lw_fixed::Micro;
 use lw_genlib::Library;
@@ -23,7 +23,7 @@ pub struct PinGroups {
     // the lane in which each group waits
     pub lanes: Vec<u32>,
     // the delay that each lane is for
-    pub steps: Vec<u64>,
+    pub lane_delays: Vec<u64>,
     // the pins, linked by their groups
     pub members: Chains,
     // the choice of each pin
@@ -38,10 +38,10 @@ pub struct PinGroups {
 ///
 /// A lane is for one delay. Points are found by rising time, so what one delay puts off comes in
 /// order. Delays past the first 1024 share lane 0.
-pub fn lane_of(uses: &PinGroups, group: u32) -> u32 {
+pub fn lane_of(pin_groups: &PinGroups, group: u32) -> u32 {
     let group = group as usize;
-    if group < uses.lanes.len() {
-        uses.lanes[group]
+    if group < pin_groups.lanes.len() {
+        pin_groups.lanes[group]
     } else {
         0
     }
@@ -50,17 +50,17 @@ pub fn lane_of(uses: &PinGroups, group: u32) -> u32 {
 /// The pins of all choices in groups, for so many classes.
 pub fn pin_groups_of(
     alloc: Global,
-    rows: &[Row],
+    rows: &[ListedChoice],
     lib: &Library,
     classes: usize,
 ) -> Result<PinGroups, AllocError>
     requires { ArePartsFor lib.now classes rows.now }
-    ensures count { IfOk result (λ uses. uses.links.count ≡ classes) }
-    ensures uses { IfOk result (AreUses lib.now (plain_rows rows.now)) }
+    ensures count { IfOk result (λ pin_groups. pin_groups.links.count ≡ classes) }
+    ensures pin_groups { IfOk result (AreUses lib.now (plain_rows rows.now)) }
 {
-    let mut uses = no_uses(alloc, classes)?;
-    add_all(alloc, &mut uses, rows, lib)?;
-    Ok(uses)
+    let mut pin_groups = no_uses(alloc, classes)?;
+    add_all(alloc, &mut pin_groups, rows, lib)?;
+    Ok(pin_groups)
 }
 
 // A group of a class and a delay, if there is one.
@@ -84,103 +84,113 @@ const MOST_LANES: usize = 1024;
 
 // The lane of a delay, which is added where there is none. Where there are as many as there may be,
 // it is lane 0.
-fn lane_for(steps: &mut Vec<u64>, delay: u64) -> Result<u32, AllocError> {
-    for lane in 0..steps.len().min(MOST_LANES) {
-        if steps[lane] == delay {
+fn lane_for(lane_delays: &mut Vec<u64>, delay: u64) -> Result<u32, AllocError> {
+    for lane in 0..lane_delays.len().min(MOST_LANES) {
+        if lane_delays[lane] == delay {
             return Ok(lane as u32);
         }
     }
-    if steps.len() >= MOST_LANES {
+    if lane_delays.len() >= MOST_LANES {
         return Ok(0);
     }
-    let lane = steps.len() as u32;
-    steps.push(delay)?;
+    let lane = lane_delays.len() as u32;
+    lane_delays.push(delay)?;
     Ok(lane)
 }
 
 // Adds a group of a class and a delay.
-fn new_group(uses: &mut PinGroups, class: ClassId, delay: u64) -> Result<u32, AllocError>
-    requires class { class.0 < uses.old.links.count }
-    ensures count { uses.new.links.count ≡ uses.old.links.count }
-    ensures added { IfOk result (IsGroupAdded uses.old uses.new class.0 delay) }
+fn new_group(pin_groups: &mut PinGroups, class: ClassId, delay: u64) -> Result<u32, AllocError>
+    requires class { class.0 < pin_groups.old.links.count }
+    ensures count { pin_groups.new.links.count ≡ pin_groups.old.links.count }
+    ensures added { IfOk result (IsGroupAdded pin_groups.old pin_groups.new class.0 delay) }
 {
-    let group = uses.links.len();
-    let lane = lane_for(&mut uses.steps, delay)?;
-    uses.links.push(class)?;
-    uses.delays.push(delay)?;
-    uses.lanes.push(lane)?;
-    uses.members.grow()?;
+    let group = pin_groups.links.len();
+    let lane = lane_for(&mut pin_groups.lane_delays, delay)?;
+    pin_groups.links.push(class)?;
+    pin_groups.delays.push(delay)?;
+    pin_groups.lanes.push(lane)?;
+    pin_groups.members.grow()?;
     Ok(group)
 }
 
 // The group of a class and a delay, which is added where there is none.
-fn group_for(uses: &mut PinGroups, class: ClassId, delay: u64) -> Result<u32, AllocError>
-    requires class { class.0 < uses.old.links.count }
-    requires are { AreGroups uses.old }
-    ensures count { uses.new.links.count ≡ uses.old.links.count }
-    ensures added { IfOk result (IsGroupAdded uses.old uses.new class.0 delay) }
+fn group_for(pin_groups: &mut PinGroups, class: ClassId, delay: u64) -> Result<u32, AllocError>
+    requires class { class.0 < pin_groups.old.links.count }
+    requires are { AreGroups pin_groups.old }
+    ensures count { pin_groups.new.links.count ≡ pin_groups.old.links.count }
+    ensures added { IfOk result (IsGroupAdded pin_groups.old pin_groups.new class.0 delay) }
 {
-    let delays = uses.delays.as_slice();
-    if let Some(group) = group_with(&uses.links, delays, class, delay) {
+    let delays = pin_groups.delays.as_slice();
+    if let Some(group) = group_with(&pin_groups.links, delays, class, delay) {
         return Ok(group);
     }
-    new_group(uses, class, delay)
+    new_group(pin_groups, class, delay)
 }
 
 // Adds a pin of a choice to the group of its class and its delay.
-fn add_pin(uses: &mut PinGroups, class: ClassId, delay: u64, choice: u32) -> Result<(), AllocError>
-    requires class { class.0 < uses.old.links.count }
-    requires are { AreGroups uses.old }
-    ensures count { uses.new.links.count ≡ uses.old.links.count }
-    ensures added { OnOk result (IsPinAdded uses.old uses.new class.0 delay choice) }
+fn add_pin(
+    pin_groups: &mut PinGroups,
+    class: ClassId,
+    delay: u64,
+    choice: u32,
+) -> Result<(), AllocError>
+    requires class { class.0 < pin_groups.old.links.count }
+    requires are { AreGroups pin_groups.old }
+    ensures count { pin_groups.new.links.count ≡ pin_groups.old.links.count }
+    ensures added { OnOk result (IsPinAdded pin_groups.old pin_groups.new class.0 delay choice) }
 {
-    let group = group_for(uses, class, delay)?;
-    uses.members.push(ClassId(group))?;
-    uses.owners.push(choice)?;
+    let group = group_for(pin_groups, class, delay)?;
+    pin_groups.members.push(ClassId(group))?;
+    pin_groups.owners.push(choice)?;
     Ok(())
 }
 
 // Adds the pins of a choice.
 fn add_pins(
-    uses: &mut PinGroups,
+    pin_groups: &mut PinGroups,
     delays: &[Micro],
     pins: &[ClassId],
     choice: u32,
 ) -> Result<(), AllocError>
-    requires pins { HaveDelays uses.old.links.count delays.now pins.now }
-    requires first { HasFirst choice uses.old }
-    ensures count { uses.new.links.count ≡ uses.old.links.count }
-    ensures added { OnOk result (ArePinsAdded delays.now pins.now choice uses.old uses.new) }
+    requires pins { HaveDelays pin_groups.old.links.count delays.now pins.now }
+    requires first { HasFirst choice pin_groups.old }
+    ensures count { pin_groups.new.links.count ≡ pin_groups.old.links.count }
+    ensures added { OnOk result (ArePinsAdded delays.now pins.now choice pin_groups.old pin_groups.new) }
 {
     for (pin, class) in pins.iter().enumerate() {
-        add_pin(uses, *class, delays[pin].0, choice)?;
+        add_pin(pin_groups, *class, delays[pin].0, choice)?;
     }
     Ok(())
 }
 
 // Notes where the pins of the next choice begin.
-fn add_first(uses: &mut PinGroups) -> Result<(), AllocError>
-    ensures { MatchResult result (λ _. IsFirstAdded uses.old uses.new)
-        (λ _. uses.new.links.count ≡ uses.old.links.count) }
+fn add_first(pin_groups: &mut PinGroups) -> Result<(), AllocError>
+    ensures { MatchResult result (λ _. IsFirstAdded pin_groups.old pin_groups.new)
+        (λ _. pin_groups.new.links.count ≡ pin_groups.old.links.count) }
 {
-    uses.firsts.push(uses.members.len())?;
+    pin_groups.firsts.push(pin_groups.members.len())?;
     Ok(())
 }
 
 // Adds the pins of the next choice, if it has any.
-fn add_choice(uses: &mut PinGroups, lib: &Library, row: &Row, choice: u32) -> Result<(), AllocError>
-    requires part { IsPartFor lib.now uses.old.links.count (plain_part row.now.stand) }
-    requires of { AreGroupsTo choice uses.old }
-    ensures count { uses.new.links.count ≡ uses.old.links.count }
-    ensures added { OnOk result (IsChoiceAdded lib.now (plain_row row.now) choice uses.old
-        uses.new) }
+fn add_choice(
+    pin_groups: &mut PinGroups,
+    lib: &Library,
+    row: &ListedChoice,
+    choice: u32,
+) -> Result<(), AllocError>
+    requires part { IsPartFor lib.now pin_groups.old.links.count (plain_part row.now.stand) }
+    requires of { AreGroupsTo choice pin_groups.old }
+    ensures count { pin_groups.new.links.count ≡ pin_groups.old.links.count }
+    ensures added { OnOk result (IsChoiceAdded lib.now (plain_row row.now) choice pin_groups.old
+        pin_groups.new) }
 {
-    add_first(uses)?;
+    add_first(pin_groups)?;
     match &row.stand {
         Stand::Input(_) => Ok(()),
         Stand::Gate(gate) => {
             let delays = lib.cell(gate.cell).delays();
-            add_pins(uses, delays, gate.pins.as_slice(), choice)?;
+            add_pins(pin_groups, delays, gate.pins.as_slice(), choice)?;
             Ok(())
         }
     }
@@ -196,7 +206,7 @@ fn no_uses(alloc: Global, classes: usize) -> Result<PinGroups, AllocError>
         links,
         delays: Vec::new(alloc),
         lanes: Vec::new(alloc),
-        steps: Vec::new(alloc),
+        lane_delays: Vec::new(alloc),
         members,
         owners: Vec::new(alloc),
         firsts: Vec::new(alloc),
@@ -207,20 +217,25 @@ fn no_uses(alloc: Global, classes: usize) -> Result<PinGroups, AllocError>
 // Adds the pins of all choices, and then lists the choices of each group.
 fn add_all(
     alloc: Global,
-    uses: &mut PinGroups,
-    rows: &[Row],
+    pin_groups: &mut PinGroups,
+    rows: &[ListedChoice],
     lib: &Library,
 ) -> Result<(), AllocError>
-    requires rows { ArePartsFor lib.now uses.old.links.count rows.now }
-    requires none { HasNoUses uses.old }
-    ensures count { uses.new.links.count ≡ uses.old.links.count }
-    ensures uses { OnOk result (AreUses lib.now (plain_rows rows.now) uses.new) }
+    requires rows { ArePartsFor lib.now pin_groups.old.links.count rows.now }
+    requires none { HasNoUses pin_groups.old }
+    ensures count { pin_groups.new.links.count ≡ pin_groups.old.links.count }
+    ensures pin_groups { OnOk result (AreUses lib.now (plain_rows rows.now) pin_groups.new) }
 {
     for (choice, row) in rows.iter().enumerate() {
-        add_choice(uses, lib, row, choice as u32)?;
+        add_choice(pin_groups, lib, row, choice as u32)?;
     }
-    let groups = uses.links.len();
-    let by_group = choices_by_group(alloc, &uses.members, uses.owners.as_slice(), groups)?;
-    drop(mem::replace(&mut uses.by_group, by_group));
+    let groups = pin_groups.links.len();
+    let by_group = choices_by_group(
+        alloc,
+        &pin_groups.members,
+        pin_groups.owners.as_slice(),
+        groups,
+    )?;
+    drop(mem::replace(&mut pin_groups.by_group, by_group));
     Ok(())
 }

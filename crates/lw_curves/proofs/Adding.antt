@@ -5,7 +5,7 @@ use Rattle.std.specs.List.Sorted.{IsPermutation}
 use Rattle.std.proofs.lemmas.List.Sorted.{Contains-permutation, IsPermutation-sym, length_permutation}
 use Rattle.std.proofs.lemmas.Option.{same_Some, slice_get-map, slice_get_within}
 use Rattle.std.proofs.lemmas.Bool.{cases_lt}
-use Rattle.lw_choices.specs.declared.choices.Row.{Row}
+use Rattle.lw_choices.specs.declared.choices.ListedChoice.{ListedChoice}
 use Rattle.lw_choices.specs.Areas.{total}
 use Rattle.lw_choices.specs.Chains.{IsLast}
 use Rattle.lw_queue.specs.Queues.{Item, IsTaken, Queued, Waits}
@@ -167,11 +167,11 @@ total_set [] i v w at lt = cc
 total_set (x ∷ xs) zero v w at lt = let e = same_Some x w at in omega arith
 total_set (x ∷ xs) (suc i) v w at lt = let ih = total_set xs i v w at lt in omega arith
 
-pub row_at : (rows : List Row) (n : ℕ) (r : Row) → n < length rows → r ≡ slice_index_or rows n r → slice_get (plain_rows rows) n ≡ Some (plain_row r)
+pub row_at : (rows : List ListedChoice) (n : ℕ) (r : ListedChoice) → n < length rows → r ≡ slice_index_or rows n r → slice_get (plain_rows rows) n ≡ Some (plain_row r)
 row_at rows n r lt e = slice_get-map plain_row rows n ∙ ap (option_map plain_row) (read_at rows n r lt e)
 
 -- a choice with its row
-pub choice_in : (rows : List Row) (n : ℕ) → n < length rows → (r : Row) × (r ≡ slice_index_or rows n r) × (slice_get (plain_rows rows) n ≡ Some (plain_row r))
+pub choice_in : (rows : List ListedChoice) (n : ℕ) → n < length rows → (r : ListedChoice) × (r ≡ slice_index_or rows n r) × (slice_get (plain_rows rows) n ≡ Some (plain_row r))
 choice_in rows n lt =
     let (r, rt) = get_some rows n lt in
     let same = same_Some r (slice_index_or rows n r) (sym rt ∙ got rows n r lt) in

@@ -7,7 +7,7 @@ use Rattle.lw_facts.proofs.Lists.{index_at}
 use Rattle.lw_laws.specs.Covers.{delays_of}
 use Rattle.lw_genlib.specs.Cells.{CellParts}
 use Rattle.lw_genlib.specs.Tables.{delays_of_cells}
-use Rattle.lw_choices.specs.declared.choices.Row.{Row}
+use Rattle.lw_choices.specs.declared.choices.ListedChoice.{ListedChoice}
 use Rattle.lw_curves.specs.declared.tallies.Tally.{Tally}
 use Rattle.lw_choices.specs.declared.pin_groups.PinGroups.{PinGroups}
 use Rattle.lw_choices.specs.Choices.{Part, Choice}
@@ -267,7 +267,7 @@ fallen_set seen group old new fall at le = record {
 }
 
 -- the tally of one more choice
-module _ (cells : List CellParts) (rows : List Row) (tallies : List Tally) (k : ℕ) (r : Row) (t : Tally) (count : length tallies ≡ k) (at : slice_get (plain_rows rows) k ≡ Some (plain_row r)) (is : IsFirstTally cells (plain_row r) t) (each : (n : ℕ) (x : Choice) (y : Tally) → slice_get (plain_rows rows) n ≡ Some x → slice_get tallies n ≡ Some y → IsFirstTally cells x y) where
+module _ (cells : List CellParts) (rows : List ListedChoice) (tallies : List Tally) (k : ℕ) (r : ListedChoice) (t : Tally) (count : length tallies ≡ k) (at : slice_get (plain_rows rows) k ≡ Some (plain_row r)) (is : IsFirstTally cells (plain_row r) t) (each : (n : ℕ) (x : Choice) (y : Tally) → slice_get (plain_rows rows) n ≡ Some x → slice_get tallies n ≡ Some y → IsFirstTally cells x y) where
   pub firsts_pushed : (n : ℕ) (x : Choice) (y : Tally) → slice_get (plain_rows rows) n ≡ Some x → slice_get (tallies ++ t ∷ []) n ≡ Some y → IsFirstTally cells x y
   firsts_pushed n x y xt yt = by_case (push_cases tallies t n y yt)
     where

@@ -7,7 +7,7 @@ use Rattle.lw_laws.specs.Flip.{flip}
 use Rattle.lw_laws.specs.Graphs.{Graph, Pair, HoldsPair, Stands}
 use Rattle.lw_laws.specs.Trees.{Tree, leaf, const_one, const_zero, inv, nand, HasLeaf}
 use Rattle.lw_cost.specs.Least.{AreOfCells}
-use Rattle.lw_choices.specs.declared.choices.Row.{Row}
+use Rattle.lw_choices.specs.declared.choices.ListedChoice.{ListedChoice}
 use Rattle.lw_choices.specs.Areas.{area_cost}
 use Rattle.lw_choices.specs.Choices.{Part, MayStand, AreListedChoices, IsWithin, IsOfLibrary}
 use Rattle.lw_choices.specs.Choices.Part.{input, gate}
@@ -58,8 +58,8 @@ module _ (s : Task) (is_graph : IsGraph s.graph) (of_cells : AreOfCells (area_co
   part_of_library c (input i) may = tt
   part_of_library c (gate cell ps) may = may.pins
 
-  module _ (rows : List Row) (are : AreListedChoices s (plain_rows rows)) where
-    listed : (k : ℕ) (d : Row) → k < length rows → slice_get (plain_rows rows) k ≡ Some (plain_row (slice_index_or rows k d))
+  module _ (rows : List ListedChoice) (are : AreListedChoices s (plain_rows rows)) where
+    listed : (k : ℕ) (d : ListedChoice) → k < length rows → slice_get (plain_rows rows) k ≡ Some (plain_row (slice_index_or rows k d))
     listed k d lt = slice_get-map plain_row rows k ∙ ap (option_map plain_row) (got rows k d lt)
 
     pub rows_for : All (IsRowFor s.cells (length s.graph.pairs)) rows

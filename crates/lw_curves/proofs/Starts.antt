@@ -6,7 +6,7 @@ use Rattle.std.proofs.lemmas.Option.{same_Some, slice_get_within}
 use Rattle.lw_fixed.specs.declared.micro.Micro.{Micro}
 use Rattle.lw_pool.specs.declared.id.ClassId.{ClassId}
 use Rattle.lw_laws.specs.Covers.{delays_of}
-use Rattle.lw_choices.specs.declared.choices.Row.{Row}
+use Rattle.lw_choices.specs.declared.choices.ListedChoice.{ListedChoice}
 use Rattle.lw_choices.specs.declared.pin_groups.PinGroups.{PinGroups}
 use Rattle.lw_choices.specs.Choices.{Choice, AreListedChoices}
 use Rattle.lw_choices.specs.Choices.Part.{gate}
@@ -30,11 +30,11 @@ pins_first s cell t a (p ∷ ps) ne ([], zip, et, ea) = absurd zip
 pins_first s cell t a (p ∷ ps) ne (k ∷ ks, (((i, at), e), zip), et, ea) = cc
 
 -- the first choices wait where they give points without pins
-pub record AreStarted (starts : List Micro) (rows : List Row) (n : ℕ) (q : Queued) : Type 0 where
+pub record AreStarted (starts : List Micro) (rows : List ListedChoice) (n : ℕ) (q : Queued) : Type 0 where
   pub waiting : (t m : ℕ) → Waits q t m → m < n
   pub given : (s : Task) (m t a : ℕ) (x : Choice) → m < n → s.starts ≡ starts → slice_get (plain_rows rows) m ≡ Some x → Gives s [] x.part t a → t ≤ q.horizon → Waits q t m
 
-pub started_next : (starts : List Micro) (rows : List Row) (n : ℕ) (r : Row) (q q' : Queued) → slice_get (plain_rows rows) n ≡ Some (plain_row r) → q'.horizon ≡ q.horizon → IsStarted starts (plain_row r).part q q' n → AreStarted starts rows n q → AreStarted starts rows (n + 1) q'
+pub started_next : (starts : List Micro) (rows : List ListedChoice) (n : ℕ) (r : ListedChoice) (q q' : Queued) → slice_get (plain_rows rows) n ≡ Some (plain_row r) → q'.horizon ≡ q.horizon → IsStarted starts (plain_row r).part q q' n → AreStarted starts rows n q → AreStarted starts rows (n + 1) q'
 started_next starts rows n r q q' at same is are = record {
   waiting = λ t m w. low t m (is.only t m w);
   given = λ s m t a x lt e xt gives le. by_place s m t a x e xt gives (omega (arith, le, same)) (eq-or-lt_of_le {n = m} {m = n} (omega arith));
@@ -50,7 +50,7 @@ started_next starts rows n r q q' at same is are = record {
         let y : x ≡ plain_row r = same_Some x (plain_row r) (sym xt ∙ (ap (slice_get (plain_rows rows)) f ∙ at)) in
         subst (λ k. Waits q' t k) (sym f) (is.here s t a e (subst (λ (z : Choice). Gives s [] z.part t a) y gives) le)
 
-pub started_all : (s : Task) (rows : List Row) (n : ℕ) (q : Queued) → n ≡ length rows → AreStarted s.starts rows n q → AreListedChoices s (plain_rows rows) → AreFirst s (plain_rows rows) q
+pub started_all : (s : Task) (rows : List ListedChoice) (n : ℕ) (q : Queued) → n ≡ length rows → AreStarted s.starts rows n q → AreListedChoices s (plain_rows rows) → AreFirst s (plain_rows rows) q
 started_all s rows n q e are choices = record {
   are = choices;
   low = λ t m w. let l = are.waiting t m w in omega (arith, l, e, length-map rows plain_row);
@@ -72,7 +72,7 @@ first_still s choices u coming looked first none same = (
   record {
     reached = λ k (i, at). cc;
     low = λ k (i, at). cc;
-    uses = λ k m j x (i, at) xt pn le. cc;
+    pin_groups = λ k m j x (i, at) xt pn le. cc;
     given = λ m t a x xt gives le. inr (inl (first.given m t a x xt gives (omega (arith, le, same))));
   },
 )

@@ -87,7 +87,7 @@ module _ (s : Task) (choices : List Choice) (now horizon : ℕ) (spots had : Lis
   settling_on reached low kept = record {
     reached = reached;
     low = low;
-    uses = λ k m j y has yt pn le. use_at k m j y (still.uses k m j y has yt pn le);
+    pin_groups = λ k m j y has yt pn le. use_at k m j y (still.pin_groups k m j y has yt pn le);
     given = λ m t a y yt gives le. give m t a y yt gives (still.given m t a y yt gives le);
   }
     where
@@ -271,7 +271,7 @@ module _ (s : Task) (choices : List Choice) (are : AreListedChoices s choices) (
       from_old (inr w) = inr (more (k.time + delay_at s x.part j) n w)
 
       by_case : Has Old k ⊎ (k ≡ spot class now gaining.area) → (k.time + delay_at s x.part j ≤ now) ⊎ comes' (k.time + delay_at s x.part j) n
-      by_case (inl h) = from_old (gaining.settling.uses k n j x h at pn le)
+      by_case (inl h) = from_old (gaining.settling.pin_groups k n j x h at pn le)
       by_case (inr e) =
           let t = ap (λ (z : Spot). z.time) e in
           let p : HasPinAt x.part j class = subst (λ (z : Spot). HasPinAt x.part j z.class) e pn in
@@ -317,7 +317,7 @@ module _ (s : Task) (choices : List Choice) (are : AreListedChoices s choices) (
   uses_added = record {
     reached = gaining.settling.reached;
     low = gaining.settling.low;
-    uses = use_at;
+    pin_groups = use_at;
     given = λ n t a x at gives le. give n t a x.class x.part at gives le;
   }
 
@@ -328,7 +328,7 @@ module _ (s : Task) (choices : List Choice) (now horizon : ℕ) (spots : List Sp
   still_later next le = record {
     reached = still.reached;
     low = λ k has. let low = still.low k has in omega arith;
-    uses = λ k n j x has at pn within. use_at k n j x (still.uses k n j x has at pn within);
+    pin_groups = λ k n j x has at pn within. use_at k n j x (still.pin_groups k n j x has at pn within);
     given = still.given;
   }
     where

@@ -110,7 +110,7 @@ Comes w t n =
 pub record IsSettling (s : Task) (choices : List Choice) (now horizon : ℕ) (spots had : List Spot) (comes : ℕ → ℕ → Type 0) : Type 0 where
   pub reached : (k : Spot) → Has had k → IsReached s k
   pub low : (k : Spot) → Has had k → k.time ≤ now
-  pub uses : (k : Spot) (n j : ℕ) (x : Choice) → Has spots k → slice_get choices n ≡ Some x → HasPinAt x.part j k.class → k.time + delay_at s x.part j ≤ horizon → (k.time + delay_at s x.part j ≤ now) ⊎ comes (k.time + delay_at s x.part j) n
+  pub pin_groups : (k : Spot) (n j : ℕ) (x : Choice) → Has spots k → slice_get choices n ≡ Some x → HasPinAt x.part j k.class → k.time + delay_at s x.part j ≤ horizon → (k.time + delay_at s x.part j ≤ now) ⊎ comes (k.time + delay_at s x.part j) n
   pub given : (n t a : ℕ) (x : Choice) → slice_get choices n ≡ Some x → Gives s spots x.part t a → t ≤ horizon → HasAtMost had x.class t a ⊎ comes t n
 
 -- the same where nothing is between the points that are had and those that are used

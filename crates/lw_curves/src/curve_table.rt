@@ -9,7 +9,7 @@ ghost use Rattle.lw_choices.specs.Rows.{plain_row, plain_rows};
 use crate::last_point::last_by;
 use crate::pareto_fronts::Fronts;
 use crate::point::{Point, Way};
-use lw_choices::{Row, Stand};
+use lw_choices::{ListedChoice, Stand};
 use lw_fixed::Micro;
 use lw_pool::ClassId;
 use std::alloc::{AllocError, Global};
@@ -26,7 +26,7 @@ pub struct Curves {
     ways: Vec<Way>,
     // one more than there are classes: none are left behind the last one
     lefts: Vec<usize>,
-    rows: Vec<Row>,
+    rows: Vec<ListedChoice>,
 }
 
 impl Model for Curves {
@@ -127,7 +127,7 @@ impl Curves {
     }
 
     /// A choice: what may stand at which class.
-    pub(crate) fn choice(&self, choice: u32) -> &Row
+    pub(crate) fn choice(&self, choice: u32) -> &ListedChoice
         requires { choice < length self.now.choices }
         ensures { slice_get self.now.choices choice ≡ Some (plain_row result.now) }
     {
@@ -140,7 +140,7 @@ pub(crate) fn group(
     alloc: Global,
     fronts: &Fronts,
     classes: u32,
-    rows: Vec<Row>,
+    rows: Vec<ListedChoice>,
 ) -> Result<Curves, AllocError>
     requires { classes ≡ length fronts.now.least }
     ensures { IfOk result (AreCurvesOf fronts.now classes (plain_rows rows.items)) }

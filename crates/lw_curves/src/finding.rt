@@ -15,7 +15,7 @@ use crate::point::CurveFault;
 use crate::seen_areas::none_seen;
 use crate::settling::settle_all;
 use crate::setup::Setup;
-use lw_choices::{Row, list_choices, pin_groups_of};
+use lw_choices::{ListedChoice, list_choices, pin_groups_of};
 use lw_fixed::{Micro, Micros};
 use lw_genlib::Library;
 use lw_graph::Graph;
@@ -67,8 +67,8 @@ fn settle_fronts(
     ensures stop { IfErr result (IsStopOf setup.now horizon) }
 {
     let _ = setup.lib.len();
-    let mut coming = Queue::new(alloc, horizon, setup.uses.steps.len())?;
-    let mut seen = none_seen(alloc, setup.rows, setup.lib, setup.uses.links.len())?;
+    let mut coming = Queue::new(alloc, horizon, setup.pin_groups.lane_delays.len())?;
+    let mut seen = none_seen(alloc, setup.rows, setup.lib, setup.pin_groups.links.len())?;
     settle_all(setup, &mut seen, fronts, &mut coming, queue)
 }
 
@@ -93,7 +93,7 @@ fn settle_setup(
 // Settles the points of all classes up to a horizon, by what may stand at them.
 fn settle_rows(
     alloc: Global,
-    rows: &[Row],
+    rows: &[ListedChoice],
     lib: &Library,
     starts: &[Micro],
     classes: u32,
@@ -104,13 +104,13 @@ fn settle_rows(
     ensures settled { IfOk result (HaveFronts lib.now starts.now rows.now classes horizon) }
     ensures stop { IfErr result (IsStopFor lib.now starts.now rows.now horizon) }
 {
-    let uses = pin_groups_of(alloc, rows, lib, classes as usize)?;
+    let pin_groups = pin_groups_of(alloc, rows, lib, classes as usize)?;
     let mut queue = started(alloc, rows, starts, horizon)?;
     let setup = Setup {
         rows,
         lib,
         starts,
-        uses: &uses,
+        pin_groups: &pin_groups,
     };
     settle_setup(alloc, &setup, &mut queue, classes, horizon)
 }

@@ -8,7 +8,7 @@ ghost use Rattle.lw_curves.specs.Settling.{Gives, IsStarted};
 
 use crate::choice_area::start_of;
 use crate::settling::push_due;
-use lw_choices::{Row, Stand};
+use lw_choices::{ListedChoice, Stand};
 use lw_fixed::Micro;
 use lw_queue::Queue;
 use std::alloc::{AllocError, Global};
@@ -16,7 +16,7 @@ use std::alloc::{AllocError, Global};
 /// The queue in which the choices wait that need no points of pins.
 pub(crate) fn started(
     alloc: Global,
-    rows: &[Row],
+    rows: &[ListedChoice],
     starts: &[Micro],
     horizon: u64,
 ) -> Result<Queue, AllocError>
@@ -47,7 +47,12 @@ fn first_time(stand: &Stand, starts: &[Micro]) -> Option<u64>
 }
 
 // Lets a choice wait that needs no point of a pin.
-fn push_start(queue: &mut Queue, row: &Row, starts: &[Micro], number: u32) -> Result<(), AllocError>
+fn push_start(
+    queue: &mut Queue,
+    row: &ListedChoice,
+    starts: &[Micro],
+    number: u32,
+) -> Result<(), AllocError>
     ensures { MatchResult result
         (λ _. IsStarted starts.now (plain_part row.now.stand) queue.old queue.new number)
         (λ _. queue.new.horizon ≡ queue.old.horizon) }

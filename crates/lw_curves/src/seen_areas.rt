@@ -8,7 +8,7 @@ ghost use Rattle.lw_curves.specs.Tallies.{AreFirstTallies, unseen};
 
 use crate::pareto_fronts::Fronts;
 use crate::tallies::{Tally, UNSEEN, first_tallies, lower_tallies};
-use lw_choices::{MOST_AREA, PinGroups, Row};
+use lw_choices::{ListedChoice, MOST_AREA, PinGroups};
 use lw_genlib::Library;
 use std::alloc::{AllocError, Global};
 
@@ -24,11 +24,11 @@ pub(crate) struct Seen {
 /// No group has seen a point yet.
 pub(crate) fn none_seen(
     alloc: Global,
-    rows: &[Row],
+    rows: &[ListedChoice],
     lib: &Library,
     groups: u32,
 ) -> Result<Seen, AllocError>
-    requires { All (λ (r : Row). IsOfLibrary lib.now (plain_part r.stand)) rows.now }
+    requires { All (λ (r : ListedChoice). IsOfLibrary lib.now (plain_part r.stand)) rows.now }
     ensures areas { IfOk result (λ seen. seen.areas.items ≡ replicate groups unseen) }
     ensures tallies { IfOk result (λ seen. AreFirstTallies lib.now (plain_rows rows.now)
         seen.tallies.items) }
@@ -40,23 +40,23 @@ pub(crate) fn none_seen(
 
 /// Lets a group see the last point of its class that comes by a time. It may stand at a place.
 pub(crate) fn see(
-    uses: &PinGroups,
+    pin_groups: &PinGroups,
     fronts: &Fronts,
     seen: &mut Seen,
     group: u32,
     time: u64,
     place: u64,
 )
-    requires { MaySee uses.now seen.old fronts.now group }
-    ensures seeing { IsSeeing uses.now fronts.now.spots seen.old.areas.items
+    requires { MaySee pin_groups.now seen.old fronts.now group }
+    ensures seeing { IsSeeing pin_groups.now fronts.now.spots seen.old.areas.items
         seen.new.areas.items group time }
-    ensures tallied { StayTallied uses.now seen.old seen.new }
+    ensures tallied { StayTallied pin_groups.now seen.old seen.new }
 {
-    let delay = uses.delays[group as usize];
+    let delay = pin_groups.delays[group as usize];
     if delay > time {
         return;
     }
-    let class = uses.links.class(group);
+    let class = pin_groups.links.class(group);
     let Some(area) = fronts.area_near(class, time - delay, place) else {
         return;
     };
@@ -65,5 +65,5 @@ pub(crate) fn see(
         return;
     }
     seen.areas[group as usize] = new;
-    lower_tallies(uses, &mut seen.tallies, group, old - new);
+    lower_tallies(pin_groups, &mut seen.tallies, group, old - new);
 }

@@ -52,7 +52,7 @@ pub(crate) fn settle_at(
 {
     while let Some(class) = gain_at(setup, seen, fronts, coming, queue, time)? {
         let hint = fronts.last_place(class);
-        push_groups(setup.uses, coming, class, Gain { time, hint })?;
+        push_groups(setup.pin_groups, coming, class, Gain { time, hint })?;
     }
     Ok(())
 }
@@ -89,39 +89,49 @@ pub(crate) fn settle_all(
 }
 
 // Lets a group come by its delay after a gain, unless that is past the horizon.
-fn push_after(uses: &PinGroups, to: &mut Queue, group: u32, gain: Gain) -> Result<(), AllocError>
-    requires group { group < length uses.now.delays.items }
+fn push_after(
+    pin_groups: &PinGroups,
+    to: &mut Queue,
+    group: u32,
+    gain: Gain,
+) -> Result<(), AllocError>
+    requires group { group < length pin_groups.now.delays.items }
     requires time { gain.time ≤ to.old.horizon }
     ensures horizon { to.new.horizon ≡ to.old.horizon }
-    ensures due { OnOk result (ComesAfter uses.now group gain.time to.old to.new) }
+    ensures due { OnOk result (ComesAfter pin_groups.now group gain.time to.old to.new) }
 {
-    let delay = uses.delays[group as usize];
+    let delay = pin_groups.delays[group as usize];
     if delay > to.horizon() - gain.time {
         return Ok(());
     }
-    to.push(lane_of(uses, group), gain.time + delay, gain.hint, group)?;
+    to.push(
+        lane_of(pin_groups, group),
+        gain.time + delay,
+        gain.hint,
+        group,
+    )?;
     Ok(())
 }
 
 // Lets all groups of a class come that gained a point.
 fn push_groups(
-    uses: &PinGroups,
+    pin_groups: &PinGroups,
     to: &mut Queue,
     class: ClassId,
     gain: Gain,
 ) -> Result<(), AllocError>
-    requires class { class.0 < uses.now.links.count }
-    requires are { AreGroups uses.now }
+    requires class { class.0 < pin_groups.now.links.count }
+    requires are { AreGroups pin_groups.now }
     requires time { gain.time ≤ to.old.horizon }
     ensures horizon { to.new.horizon ≡ to.old.horizon }
-    ensures added { OnOk result (AreGroupsAdded uses.now.links.classes uses.now.delays.items
+    ensures added { OnOk result (AreGroupsAdded pin_groups.now.links.classes pin_groups.now.delays.items
         class.0 gain.time to.old to.new) }
 {
-    let _ = uses.links.len();
-    let mut next = uses.links.last(class);
+    let _ = pin_groups.links.len();
+    let mut next = pin_groups.links.last(class);
     while let Some(group) = next {
-        push_after(uses, to, group, gain)?;
-        next = uses.links.before(group);
+        push_after(pin_groups, to, group, gain)?;
+        next = pin_groups.links.before(group);
     }
     Ok(())
 }

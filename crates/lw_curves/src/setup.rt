@@ -1,5 +1,5 @@
 // What the points of classes are settled by.
-use lw_choices::{PinGroups, Row};
+use lw_choices::{ListedChoice, PinGroups};
 use lw_fixed::Micro;
 use lw_genlib::Library;
 
@@ -7,10 +7,10 @@ use lw_genlib::Library;
 #[derive(Drop)]
 pub(crate) struct Setup<'a> {
     /// The choices: what may stand at which class.
-    pub rows: &'a [Row],
+    pub rows: &'a [ListedChoice],
     pub lib: &'a Library,
     /// When each input starts.
     pub starts: &'a [Micro],
     /// The pins of the choices in groups.
-    pub uses: &'a PinGroups,
+    pub pin_groups: &'a PinGroups,
 }

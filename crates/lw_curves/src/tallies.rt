@@ -8,7 +8,7 @@ ghost use Rattle.lw_choices.specs.Rows.{plain_part, plain_row, plain_rows};
 ghost use Rattle.lw_curves.specs.Tallies.{AreFirstTallies, AreTallies, HasFallen, IsBoundOf, IsFirstTally, IsLowered, bound_of};
 ghost use Rattle.lw_choices.specs.PinGroups.{AreUses};
 
-use lw_choices::{MOST_AREA, PinGroups, Row, Stand};
+use lw_choices::{ListedChoice, MOST_AREA, PinGroups, Stand};
 use lw_genlib::Library;
 use lw_pool::ClassId;
 use std::alloc::{AllocError, Global};
@@ -57,10 +57,10 @@ pub(crate) const UNSEEN: u128 = 147_573_952_589_676_412_928;
 /// The tallies of choices whose groups have seen nothing.
 pub(crate) fn first_tallies(
     alloc: Global,
-    rows: &[Row],
+    rows: &[ListedChoice],
     lib: &Library,
 ) -> Result<Vec<Tally>, AllocError>
-    requires { All (λ (r : Row). IsOfLibrary lib.now (plain_part r.stand)) rows.now }
+    requires { All (λ (r : ListedChoice). IsOfLibrary lib.now (plain_part r.stand)) rows.now }
     ensures { IfOk result (λ tallies. AreFirstTallies lib.now (plain_rows rows.now)
         tallies.items) }
 {
@@ -73,23 +73,23 @@ pub(crate) fn first_tallies(
 
 /// Lets the bounds of the choices with a pin in a group fall by what the area fell that it has
 /// seen.
-pub(crate) fn lower_tallies(uses: &PinGroups, tallies: &mut [Tally], group: u32, fall: u128)
-    requires group { group < uses.now.members.count }
-    requires by_group { AreGroupChoices uses.now }
+pub(crate) fn lower_tallies(pin_groups: &PinGroups, tallies: &mut [Tally], group: u32, fall: u128)
+    requires group { group < pin_groups.now.members.count }
+    requires by_group { AreGroupChoices pin_groups.now }
     ensures { (cells : List CellParts) (xs : List Choice) (seen fallen : List ℕ) →
-        AreUses cells xs uses.now → HasFallen group fall seen fallen →
-        AreTallies cells xs uses.now seen tallies.old →
-        AreTallies cells xs uses.now fallen tallies.new }
+        AreUses cells xs pin_groups.now → HasFallen group fall seen fallen →
+        AreTallies cells xs pin_groups.now seen tallies.old →
+        AreTallies cells xs pin_groups.now fallen tallies.new }
 {
-    let first = uses.by_group.starts[group as usize];
-    let end = uses.by_group.starts[group as usize + 1];
+    let first = pin_groups.by_group.starts[group as usize];
+    let end = pin_groups.by_group.starts[group as usize + 1];
     for at in first..end {
-        lower_tally(tallies, uses.by_group.numbers[at], fall);
+        lower_tally(tallies, pin_groups.by_group.numbers[at], fall);
     }
 }
 
 // The tally of a choice whose groups have seen nothing.
-fn first_tally(lib: &Library, row: &Row) -> Tally
+fn first_tally(lib: &Library, row: &ListedChoice) -> Tally
     requires { IsOfLibrary lib.now (plain_part row.now.stand) }
     ensures { IsFirstTally lib.now (plain_row row.now) result }
 {

@@ -55,7 +55,7 @@ pub(crate) fn look_at_groups(
         coming.new queue.old queue.new) }
 {
     while let Some((place, group)) = coming.take_hinted_at(time) {
-        see(setup.uses, fronts, seen, group, time, place);
+        see(setup.pin_groups, fronts, seen, group, time, place);
         look_at_group(
             &View {
                 setup,
@@ -93,12 +93,12 @@ fn look_at_group(at: &View, queue: &mut Queue, group: u32, time: u64) -> Result<
     ensures horizon { queue.new.horizon ≡ queue.old.horizon }
     ensures looked { OnOk result (IsGroupLookedAtIn at.now time group queue.old queue.new) }
 {
-    let uses = at.setup.uses;
-    let _ = uses.members.len();
-    let first = uses.by_group.starts[group as usize];
-    let end = uses.by_group.starts[group as usize + 1];
+    let pin_groups = at.setup.pin_groups;
+    let _ = pin_groups.members.len();
+    let first = pin_groups.by_group.starts[group as usize];
+    let end = pin_groups.by_group.starts[group as usize + 1];
     for place in first..end {
-        let number = uses.by_group.numbers[place];
+        let number = pin_groups.by_group.numbers[place];
         look_at(at, queue, number, time)?;
     }
     Ok(())

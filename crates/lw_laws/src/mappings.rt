@@ -192,7 +192,7 @@ pub fn rooted_nets_are_least()
 {}
 
 /// A net at the class of a form has the form's value, whatever it arrives at.
-pub fn rooted_nets_have_values()
+pub fn nets_at_forms_have_values()
     ensures { (mode : Mode) (inputs : ℕ) (o : Listing) (g : Graph) (pats : List Pattern)
         (timing : Timing) (n : Netlist) (class : ℕ → ℕ) (truth : CellTruth) →
         IsSoundListing inputs o → IsCoveredOverForms mode inputs o g pats timing n class →
@@ -204,7 +204,7 @@ pub fn rooted_nets_have_values()
 
 /// A net at the class of a form stands for a cover of a tree that the laws derive for the form,
 /// and arrives at the cover's time.
-pub fn rooted_nets_stand_for_covers()
+pub fn nets_at_forms_stand_for_covers()
     ensures { (mode : Mode) (inputs : ℕ) (o : Listing) (g : Graph) (pats : List Pattern)
         (timing : Timing) (n : Netlist) (class : ℕ → ℕ) (arrivals : List ℕ) →
         IsSoundListing inputs o → IsCoveredOverForms mode inputs o g pats timing n class →

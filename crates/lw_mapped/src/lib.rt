@@ -6,7 +6,7 @@
 //! with its line. The modules in order:
 //!
 //! * `certificate`: labels of classes and classes of gates;
-//! * `lines`, `frames`, `gates`, `marks`, `writing`: the text, from its words to the whole;
+//! * `lines`, `frames`, `gates`, `certificate_lines`, `writing`: the text, from its words to the whole;
 //! * `fault`: the rules that a line may break;
 //! * `command`, `naming`, `ties`, `saying`, `parsing`: what one line says;
 //! * `contents`, `parts`, `reader`: what lines say together, line by line (`MappedReader`);
@@ -19,6 +19,7 @@
 #![tactic(auto)]
 
 mod certificate;
+mod certificate_lines;
 mod closing;
 mod command;
 mod contents;
@@ -27,7 +28,6 @@ mod frames;
 mod gates;
 mod laws;
 mod lines;
-mod marks;
 mod naming;
 mod parsing;
 mod parts;

@@ -6,10 +6,10 @@ ghost use Rattle.lw_io.specs.Waitings.{IsTaken};
 ghost use Rattle.lw_io.specs.Writers.{Writes};
 
 use crate::Certificate;
+use crate::certificate_lines::{put_labels, put_nets};
 use crate::frames::{put_arrivals, put_latches};
 use crate::gates::{put_gates, put_wires};
 use crate::lines::{put_line, put_ports, put_word};
-use crate::marks::{put_labels, put_nets};
 use lw_fixed::Micros;
 use lw_genlib::Library;
 use lw_io::{Failed, Sink, Writer};

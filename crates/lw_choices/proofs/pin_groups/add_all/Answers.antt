@@ -1,7 +1,7 @@
 use Rattle.std.proofs.Common.{◌≡◌, ◌∙◌, length, option_map, refl, sym, ap, subst, subst₂, arith}
 use Rattle.std.proofs.lemmas.List.{length-map}
 use Rattle.std.proofs.lemmas.Option.{slice_get-map}
-use Rattle.lw_choices.specs.declared.choices.Row.{Row}
+use Rattle.lw_choices.specs.declared.choices.ListedChoice.{ListedChoice}
 use Rattle.lw_choices.specs.GroupChoices.{AreOwnersListed}
 use Rattle.lw_choices.specs.Choices.{IsPartFor}
 use Rattle.lw_choices.specs.Rows.{plain_part, plain_row, plain_rows}
@@ -14,12 +14,12 @@ pub loop-choice-init : goal.loop-choice-init
 loop-choice-init c = record {
   count = refl;
   of = c.requires.none.of;
-  uses = none_used c.args.lib.now (plain_rows c.args.rows.now) c.args.uses.now c.requires.none.of.are c.requires.none.none;
+  pin_groups = none_used c.args.lib.now (plain_rows c.args.rows.now) c.args.pin_groups.now c.requires.none.of.are c.requires.none.none;
 }
 
 pub add_choice-requires-clause-part : goal.add_choice-requires-clause-part
 add_choice-requires-clause-part c =
-    subst₂ (λ n (q : Row). IsPartFor c.args.lib.now n (plain_part q.stand)) (sym c.loop-choice.invariant.count) (sym c.index-rows-choice.is) (c.requires.rows.parts c.loop-choice.choice c.index-rows-choice.result c.loop-choice-test.true)
+    subst₂ (λ n (q : ListedChoice). IsPartFor c.args.lib.now n (plain_part q.stand)) (sym c.loop-choice.invariant.count) (sym c.index-rows-choice.is) (c.requires.rows.parts c.loop-choice.choice c.index-rows-choice.result c.loop-choice-test.true)
 
 pub add_choice-requires-clause-of : goal.add_choice-requires-clause-of
 add_choice-requires-clause-of c = c.loop-choice.invariant.of
@@ -33,7 +33,7 @@ loop-choice-preserved c =
     record {
       count = c.in_ok-add_choice.ensures.count ∙ c.loop-choice.invariant.count;
       of = added.of;
-      uses = added.uses (plain_rows c.args.rows.now) at c.loop-choice.invariant.uses;
+      pin_groups = added.pin_groups (plain_rows c.args.rows.now) at c.loop-choice.invariant.pin_groups;
     }
 
 pub choices_by_group-requires-clause-groups : goal.choices_by_group-requires-clause-groups
@@ -42,12 +42,12 @@ choices_by_group-requires-clause-groups c = omega (arith, c.len-groups.ensures.l
 pub choices_by_group-requires-clause-owners : goal.choices_by_group-requires-clause-owners
 choices_by_group-requires-clause-owners c = ap length c.as_slice.ensures.value ∙ c.loop-choice.invariant.of.are.owners_each
 
-pub returns-clause-uses : goal.returns-clause-uses
-returns-clause-uses c =
+pub returns-clause-pin_groups : goal.returns-clause-pin_groups
+returns-clause-pin_groups c =
     let xs = plain_rows c.args.rows.now in
-    let u = c.loop-choice.uses in
+    let u = c.loop-choice.pin_groups in
     let n : c.loop-choice.choice ≡ length xs = omega (arith, c.loop-choice-test.false, c.loop-choice.auto.choice-end, length-map c.args.rows.now plain_row) in
-    let pins = subst (λ k. AreUsesTo c.args.lib.now xs k 0 u) n c.loop-choice.invariant.uses in
+    let pins = subst (λ k. AreUsesTo c.args.lib.now xs k 0 u) n c.loop-choice.invariant.pin_groups in
     let by_group = c.in_ok-by_group.by_group in
     let count : c.len-groups.result ≡ u.members.count = omega (arith, c.len-groups.ensures.len, c.loop-choice.invariant.of.are.count) in
     let these : AreUses c.args.lib.now xs (with_looks u by_group) = record {

@@ -5,7 +5,7 @@ use Rattle.lw_choices.proofs.pin_groups.add_all.Given as goal
 
 abbrev pub invariant-loop-choice : goal.invariant-loop-choice
 invariant-loop-choice l = record {
-  count : l.uses.links.count ≡ l.initial.uses.links.count;
-  of : AreGroupsTo l.choice l.uses;
-  uses : AreUsesTo l.lib (plain_rows l.rows) l.choice 0 l.uses;
+  count : l.pin_groups.links.count ≡ l.initial.pin_groups.links.count;
+  of : AreGroupsTo l.choice l.pin_groups;
+  pin_groups : AreUsesTo l.lib (plain_rows l.rows) l.choice 0 l.pin_groups;
 }

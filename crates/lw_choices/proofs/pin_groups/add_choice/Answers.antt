@@ -17,14 +17,14 @@ use Rattle.lw_genlib.proofs.Shared.{delays_at}
 
 pub add_pins-requires-clause-first : goal.add_pins-requires-clause-first
 add_pins-requires-clause-first c = record {
-  are = groups_first c.args.uses.now c.add_first.new.uses c.in_ok-add_first.ensures c.requires.of.are;
-  first = first_behind c.args.uses.now c.add_first.new.uses c.in_ok-add_first.ensures c.args.choice c.requires.of.next;
+  are = groups_first c.args.pin_groups.now c.add_first.new.pin_groups c.in_ok-add_first.ensures c.requires.of.are;
+  first = first_behind c.args.pin_groups.now c.add_first.new.pin_groups c.in_ok-add_first.ensures c.args.choice c.requires.of.next;
 }
 
 pub add_pins-requires-clause-pins : goal.add_pins-requires-clause-pins
 add_pins-requires-clause-pins c =
     let gate = c.in-Gate.gate in
-    let count = c.args.uses.now.links.count in
+    let count = c.args.pin_groups.now.links.count in
     let part = subst (λ (st : Stand). IsPartFor c.args.lib.now count (plain_part st)) c.in-Gate.is c.requires.part in
     let n = pins_at c.args.lib.now gate.cell.0 (length (numbers gate.pins)) c.cell.result.now c.cell.ensures part.of_library in
     let all = within_pins count c.as_slice.result.now (subst (λ ps. AllByRecursion (λ p. p < count) (numbers ps)) (sym c.as_slice.ensures.classes) part.within) in
@@ -36,14 +36,14 @@ add_pins-requires-clause-pins c =
 pub returns-in-Input-clause-added : goal.returns-in-Input-clause-added
 returns-in-Input-clause-added c =
     let added = c.in_ok-add_first.ensures in
-    let old = c.args.uses.now in
-    let new = c.add_first.new.uses in
+    let old = c.args.pin_groups.now in
+    let new = c.add_first.new.pin_groups in
     record {
       of = record {
         are = groups_first old new added c.requires.of.are;
         next = firsts_longer old new added ∙ ap (λ n. n + 1) c.requires.of.next;
       };
-      uses = λ xs at are.
+      pin_groups = λ xs at are.
           let here = at ∙ ap (λ (st : Stand). Some (record { class = c.args.row.now.class.0; part = plain_part st })) c.in-Input.is in
           input_used c.args.lib.now xs c.args.choice _ c.args.row.now.class.0 new here (first_used c.args.lib.now xs c.args.choice old new added are);
     }
@@ -52,8 +52,8 @@ pub returns-in_ok-add_pins-in-Gate-clause-added : goal.returns-in_ok-add_pins-in
 returns-in_ok-add_pins-in-Gate-clause-added c =
     let cells = c.args.lib.now in
     let first = c.in_ok-add_first.ensures in
-    let old = c.args.uses.now in
-    let mid = c.add_first.new.uses in
+    let old = c.args.pin_groups.now in
+    let mid = c.add_first.new.pin_groups in
     let added = c.in_ok-add_pins-in-Gate.ensures.added in
     let gate' = c.in-Gate.gate in
     record {
@@ -61,10 +61,10 @@ returns-in_ok-add_pins-in-Gate-clause-added c =
         are = added.are;
         next = ap length added.firsts ∙ (firsts_longer old mid first ∙ ap (λ n. n + 1) c.requires.of.next);
       };
-      uses = λ xs at are.
+      pin_groups = λ xs at are.
           let here = at ∙ ap (λ (st : Stand). Some (record { class = c.args.row.now.class.0; part = plain_part st })) c.in-Gate.is in
           let here' = subst (λ ps. slice_get xs c.args.choice ≡ Some (record { class = c.args.row.now.class.0; part = gate gate'.cell.0 (numbers ps) })) (sym c.as_slice.ensures.classes) here in
           let delays = delays_at cells gate'.cell.0 c.cell.result.now c.cell.ensures ∙ ap (map millionths) (sym c.delays-delays.ensures.delays) in
-          let all = added.uses cells xs c.args.row.now.class.0 gate'.cell.0 here' delays (first_used cells xs c.args.choice old mid first are) in
-          choice_used cells xs c.args.choice (length c.as_slice.result.now) gate'.cell.0 c.args.row.now.class.0 (numbers c.as_slice.result.now) c.add_pins.new.uses here' (length-map c.as_slice.result.now (λ (p : ClassId). p.0)) all;
+          let all = added.pin_groups cells xs c.args.row.now.class.0 gate'.cell.0 here' delays (first_used cells xs c.args.choice old mid first are) in
+          choice_used cells xs c.args.choice (length c.as_slice.result.now) gate'.cell.0 c.args.row.now.class.0 (numbers c.as_slice.result.now) c.add_pins.new.pin_groups here' (length-map c.as_slice.result.now (λ (p : ClassId). p.0)) all;
     }

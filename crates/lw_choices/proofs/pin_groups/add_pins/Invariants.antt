@@ -10,9 +10,9 @@ use Rattle.lw_pool.specs.Numbers.{numbers}
 
 abbrev pub invariant-loop-pin : goal.invariant-loop-pin
 invariant-loop-pin l = record {
-  count : l.uses.links.count ≡ l.initial.uses.links.count;
-  are : AreGroups l.uses;
-  firsts : l.uses.firsts.items ≡ l.initial.uses.firsts.items;
-  longer : length l.uses.members.classes ≡ length l.initial.uses.members.classes + l.pin;
-  uses : (cells : List CellParts) (xs : List Choice) (c cell : ℕ) → slice_get xs l.choice ≡ Some (record { class = c; part = gate cell (numbers l.pins) }) → delays_of (delays_of_cells cells) cell ≡ map millionths l.delays → AreUsesTo cells xs l.choice 0 l.initial.uses → AreUsesTo cells xs l.choice l.pin l.uses;
+  count : l.pin_groups.links.count ≡ l.initial.pin_groups.links.count;
+  are : AreGroups l.pin_groups;
+  firsts : l.pin_groups.firsts.items ≡ l.initial.pin_groups.firsts.items;
+  longer : length l.pin_groups.members.classes ≡ length l.initial.pin_groups.members.classes + l.pin;
+  pin_groups : (cells : List CellParts) (xs : List Choice) (c cell : ℕ) → slice_get xs l.choice ≡ Some (record { class = c; part = gate cell (numbers l.pins) }) → delays_of (delays_of_cells cells) cell ≡ map millionths l.delays → AreUsesTo cells xs l.choice 0 l.initial.pin_groups → AreUsesTo cells xs l.choice l.pin l.pin_groups;
 }

@@ -5,5 +5,5 @@ use Rattle.lw_choices.proofs.pin_groups.group_for.Goals as goal
 
 pub returns-in-Some-clause-added : goal.returns-in-Some-clause-added
 returns-in-Some-clause-added c =
-    let is = subst (λ ds. IsGroup c.args.uses.now.links.classes ds c.args.class.0 c.args.delay c.in-Some.group) c.as_slice-delays.ensures.value c.in-Some.ensures in
-    group_there c.args.uses.now c.args.class.0 c.args.delay c.in-Some.group is
+    let is = subst (λ ds. IsGroup c.args.pin_groups.now.links.classes ds c.args.class.0 c.args.delay c.in-Some.group) c.as_slice-delays.ensures.value c.in-Some.ensures in
+    group_there c.args.pin_groups.now c.args.class.0 c.args.delay c.in-Some.group is

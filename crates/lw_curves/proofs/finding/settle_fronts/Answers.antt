@@ -22,19 +22,19 @@ pub settle_all-requires : goal.settle_all-requires
 settle_all-requires c =
     let setup = c.args.setup.now in
     let rows = choices_of_setup setup in
-    let u = setup.uses.now in
-    let uses = c.requires.setup.uses in
+    let u = setup.pin_groups.now in
+    let pin_groups = c.requires.setup.pin_groups in
     let (g, pats, are) = c.requires.begun.listed in
     let s = task_of setup g pats in
     record {
       setup = c.requires.setup;
       time = omega arith;
       tallied =
-          let count = c.len-3.ensures.len ∙ sym uses.pins.are.count in
+          let count = c.len-3.ensures.len ∙ sym pin_groups.pins.are.count in
           let areas = c.in_ok-seen.ensures.areas ∙ ap (λ n. replicate n unseen) count in
           record {
             one_each = ap length areas ∙ length-replicate u.members.count unseen;
-            tallies = tallies_first setup.lib.now rows u uses c.in_ok-seen.seen.areas.items c.in_ok-seen.seen.tallies.items areas c.in_ok-seen.ensures.tallies;
+            tallies = tallies_first setup.lib.now rows u pin_groups c.in_ok-seen.seen.areas.items c.in_ok-seen.seen.tallies.items areas c.in_ok-seen.ensures.tallies;
           };
       seen = subst (λ ks. AreSeen u c.in_ok-seen.seen.areas.items ks c.in_ok-coming.coming) (sym c.requires.none.spots_none) (λ k g d (i, at) is le. cc);
       still =
@@ -47,7 +47,7 @@ pub returns-clause-settled : goal.returns-clause-settled
 returns-clause-settled c =
     let setup = c.args.setup.now in
     let rows = choices_of_setup setup in
-    let u = setup.uses.now in
+    let u = setup.pin_groups.now in
     let new = c.settle_all.new.fronts in
     let same = c.requires.begun.horizon_is ∙ sym c.in_ok-coming.ensures.horizon in
     let still : (g : Graph) (pats : List Pattern) → AreListedChoices (task_of setup g pats) rows → IsStillFor (task_of setup g pats) rows 0 c.args.fronts.now.spots (turns_of u c.in_ok-coming.coming c.args.queue.now) = λ g pats are.
@@ -73,7 +73,7 @@ pub returns-clause-stop : goal.returns-clause-stop
 returns-clause-stop c =
     let setup = c.args.setup.now in
     let rows = choices_of_setup setup in
-    let u = setup.uses.now in
+    let u = setup.pin_groups.now in
     let new = c.settle_all.new.fronts in
     let same = c.requires.begun.horizon_is ∙ sym c.in_ok-coming.ensures.horizon in
     if_err_by (λ fault. WhereListed setup.lib.now setup.starts.now setup.rows.now (λ s choices. IsStop s choices c.args.horizon fault)) c.settle_all.result (λ fault e g pats are.

@@ -12,8 +12,8 @@ started-requires c = c.requires.rows.few
 pub settle_setup-requires-clause-setup : goal.settle_setup-requires-clause-setup
 settle_setup-requires-clause-setup c = record {
   rows = c.requires.rows.each;
-  count = c.in_ok-uses.ensures.count;
-  uses = c.in_ok-uses.ensures.uses;
+  count = c.in_ok-pin_groups.ensures.count;
+  pin_groups = c.in_ok-pin_groups.ensures.pin_groups;
 }
 
 pub settle_setup-requires-clause-begun : goal.settle_setup-requires-clause-begun

@@ -13,7 +13,7 @@ index-delay-requires c =
 
 pub returns-then-delay-time-clause-seeing : goal.returns-then-delay-time-clause-seeing
 returns-then-delay-time-clause-seeing c =
-    let u = c.args.uses.now in
+    let u = c.args.pin_groups.now in
     let are = c.requires.are in
     let lt : c.args.group < length u.delays.items = omega (arith, c.requires.group_low, are.one_each, are.count) in
     seeing_early u c.args.fronts.now.spots c.args.seen.now.areas.items c.args.group c.args.time c.index-delay.result.now (read_at u.delays.items c.args.group c.index-delay.result.now lt c.index-delay.ensures) c.if-delay-time.true
@@ -28,7 +28,7 @@ class-class-requires c =
 
 pub returns-in_default-clause-seeing : goal.returns-in_default-clause-seeing
 returns-in_default-clause-seeing c =
-    let u = c.args.uses.now in
+    let u = c.args.pin_groups.now in
     let are = c.requires.are in
     let lt : c.args.group < length u.delays.items = omega (arith, c.requires.group_low, are.one_each, are.count) in
     seeing_none u c.args.fronts.now.spots c.args.seen.now.areas.items c.args.group c.args.time c.index-delay.result.now (read_at u.delays.items c.args.group c.index-delay.result.now lt c.index-delay.ensures) c.class-class.result.0 c.class-class.ensures.class (omega (arith, c.if-delay-time.false)) c.in_default.ensures
@@ -38,7 +38,7 @@ returns-in_default-clause-tallied c cells xs us are = are
 
 pub returns-then-new-old-clause-seeing : goal.returns-then-new-old-clause-seeing
 returns-then-new-old-clause-seeing c =
-    let u = c.args.uses.now in
+    let u = c.args.pin_groups.now in
     let g = c.args.group in
     let seen = c.args.seen.now.areas.items in
     let are = c.requires.are in
@@ -51,7 +51,7 @@ returns-then-new-old-clause-tallied c cells xs us are = are
 
 pub returns-clause-seeing : goal.returns-clause-seeing
 returns-clause-seeing c =
-    let u = c.args.uses.now in
+    let u = c.args.pin_groups.now in
     let g = c.args.group in
     let seen = c.args.seen.now.areas.items in
     let are = c.requires.are in
@@ -61,7 +61,7 @@ returns-clause-seeing c =
 
 pub returns-clause-tallied : goal.returns-clause-tallied
 returns-clause-tallied c cells xs us tallied =
-    let u = c.args.uses.now in
+    let u = c.args.pin_groups.now in
     let g = c.args.group in
     let seen = c.args.seen.now.areas.items in
     let new = slice_set seen g c.min.result in

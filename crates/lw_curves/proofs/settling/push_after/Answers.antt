@@ -11,7 +11,7 @@ returns-clause-due c delay dt =
     let new = c.push.new.self in
     let own = c.index-delay.result.now in
     let time = c.args.gain.time in
-    let same : own ≡ delay = same_Some own delay (sym (read_at c.args.uses.now.delays.items c.args.group own c.requires.group c.index-delay.ensures) ∙ dt) in
+    let same : own ≡ delay = same_Some own delay (sym (read_at c.args.pin_groups.now.delays.items c.args.group own c.requires.group c.index-delay.ensures) ∙ dt) in
     let within : time + own ≤ old.horizon = omega (arith, c.if-delay-horizon.false, c.horizon.ensures.horizon, c.requires.time) in
     subst (λ d. IsLetWait old new (time + d) c.args.group) same (record {
       horizon = c.in_ok-push.ensures.horizon;
@@ -23,7 +23,7 @@ returns-clause-due c delay dt =
 pub returns-then-delay-horizon-clause-due : goal.returns-then-delay-horizon-clause-due
 returns-then-delay-horizon-clause-due c delay dt =
     let own = c.index-delay.result.now in
-    let same : own ≡ delay = same_Some own delay (sym (read_at c.args.uses.now.delays.items c.args.group own c.requires.group c.index-delay.ensures) ∙ dt) in
+    let same : own ≡ delay = same_Some own delay (sym (read_at c.args.pin_groups.now.delays.items c.args.group own c.requires.group c.index-delay.ensures) ∙ dt) in
     record {
       horizon = refl;
       kept = λ t m w. w;

@@ -11,7 +11,7 @@ invariant-loop-time l = record {
   count : length l.fronts.least ≡ length l.initial.fronts.least;
   horizon : l.coming.horizon ≡ l.initial.coming.horizon;
   tallied : AreTalliedIn l.setup l.seen;
-  seen : AreSeen l.setup.uses.now l.seen.areas.items l.fronts.spots l.coming;
+  seen : AreSeen l.setup.pin_groups.now l.seen.areas.items l.fronts.spots l.coming;
   still : WhereStill l.setup 0 l.initial.fronts.spots (turns_in l.setup l.initial.coming l.initial.queue) (λ s choices. (now : ℕ) × (now ≤ l.initial.coming.horizon) × IsStillFor s choices now l.fronts.spots (turns_in l.setup l.coming l.queue));
 }
 

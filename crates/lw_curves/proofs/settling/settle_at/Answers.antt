@@ -35,7 +35,7 @@ push_groups-requires-clause-class c =
     omega (arith, falls.0, c.requires.setup.count, c.loop-class.invariant.count)
 
 pub push_groups-requires-clause-are : goal.push_groups-requires-clause-are
-push_groups-requires-clause-are c = c.requires.setup.uses.pins.are
+push_groups-requires-clause-are c = c.requires.setup.pin_groups.pins.are
 
 pub loop-class-preserved : goal.loop-class-preserved
 loop-class-preserved c = record {
@@ -44,11 +44,11 @@ loop-class-preserved c = record {
   still = λ g pats st.
       let s = task g pats c.args.setup.now.lib.now c.args.setup.now.starts.now in
       let xs = plain_rows c.args.setup.now.rows.now in
-      let u = c.args.setup.now.uses.now in
+      let u = c.args.setup.now.pin_groups.now in
       let next = c.gain_at.new in
       let now = c.loop-class.invariant.still g pats st in
       let (are, time, gaining) = subst (λ o. IsAfter s xs c.args.time next.fronts.spots (turns_of u next.coming next.queue) o) c.in-Some.is (c.in_ok-class.ensures.gain.after g pats now) in
-      let us = c.requires.setup.uses in
+      let us = c.requires.setup.pin_groups in
       let added = c.in_ok-push_groups.ensures.added in
       let class = c.in-Some.class.0 in
       let more = groups_more s xs u c.args.time class next.coming c.push_groups.new.to next.queue us added in
@@ -58,8 +58,8 @@ loop-class-preserved c = record {
   tallied = c.in_ok-class.ensures.kept.tallied;
   seen =
       let next = c.gain_at.new in
-      let (old, area, are, gained) = subst (AreSeenAfter c.args.setup.now.uses.now next.seen.areas.items next.fronts.spots next.coming c.args.time) c.in-Some.is c.in_ok-class.ensures.gain.seen in
-      seen_pushed c.args.setup.now.uses.now next.seen.areas.items old next.fronts.spots c.in-Some.class.0 c.args.time area next.coming c.push_groups.new.to are gained c.in_ok-push_groups.ensures.added;
+      let (old, area, are, gained) = subst (AreSeenAfter c.args.setup.now.pin_groups.now next.seen.areas.items next.fronts.spots next.coming c.args.time) c.in-Some.is c.in_ok-class.ensures.gain.seen in
+      seen_pushed c.args.setup.now.pin_groups.now next.seen.areas.items old next.fronts.spots c.in-Some.class.0 c.args.time area next.coming c.push_groups.new.to are gained c.in_ok-push_groups.ensures.added;
   backed = λ g pats st backed. c.in_ok-class.ensures.gain.backed g pats (c.loop-class.invariant.still g pats st) (c.loop-class.invariant.backed g pats st backed);
 }
 
@@ -89,7 +89,7 @@ returns-clause-gained c =
     let setup = c.args.setup.now in
     let next = c.gain_at.new in
     record {
-      seen = subst (AreSeenAfter setup.uses.now next.seen.areas.items next.fronts.spots next.coming c.args.time) c.in_default.is c.in_ok-class.ensures.gain.seen;
-      still = λ g pats st. subst (λ o. IsAfter (task g pats setup.lib.now setup.starts.now) (plain_rows setup.rows.now) c.args.time next.fronts.spots (turns_of setup.uses.now next.coming next.queue) o) c.in_default.is (c.in_ok-class.ensures.gain.after g pats (c.loop-class.invariant.still g pats st));
+      seen = subst (AreSeenAfter setup.pin_groups.now next.seen.areas.items next.fronts.spots next.coming c.args.time) c.in_default.is c.in_ok-class.ensures.gain.seen;
+      still = λ g pats st. subst (λ o. IsAfter (task g pats setup.lib.now setup.starts.now) (plain_rows setup.rows.now) c.args.time next.fronts.spots (turns_of setup.pin_groups.now next.coming next.queue) o) c.in_default.is (c.in_ok-class.ensures.gain.after g pats (c.loop-class.invariant.still g pats st));
       backed = λ g pats st backed. c.in_ok-class.ensures.gain.backed g pats (c.loop-class.invariant.still g pats st) (c.loop-class.invariant.backed g pats st backed);
     }

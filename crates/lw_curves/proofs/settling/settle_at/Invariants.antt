@@ -10,7 +10,7 @@ invariant-loop-class l = record {
   count : length l.fronts.least ≡ length l.initial.fronts.least;
   horizon : l.coming.horizon ≡ l.initial.coming.horizon;
   tallied : AreTalliedIn l.setup l.seen;
-  seen : AreSeen l.setup.uses.now l.seen.areas.items l.fronts.spots l.coming;
+  seen : AreSeen l.setup.pin_groups.now l.seen.areas.items l.fronts.spots l.coming;
   still : WhereStill l.setup l.time l.initial.fronts.spots (turns_in l.setup l.initial.coming l.initial.queue) (λ s choices. IsStillFor s choices l.time l.fronts.spots (turns_in l.setup l.coming l.queue));
   backed : StayBacked l.setup l.time l.initial.fronts l.fronts l.initial.coming l.initial.queue;
 }

@@ -13,16 +13,16 @@ index-end-requires c = omega (arith, c.requires.group, c.requires.by_group.2.one
 
 pub loop-at-init : goal.loop-at-init
 loop-at-init c s xs seen fallen places us has numbers_are listed is =
-    let starts = c.args.uses.now.by_group.starts.items in
+    let starts = c.args.pin_groups.now.by_group.starts.items in
     let here : c.args.group < length starts = omega (arith, c.requires.group, listed.one_more) in
     let next : c.args.group + 1 < length starts = omega (arith, c.requires.group, listed.one_more) in
     let st = read_at starts c.args.group c.index-first.result.now here c.index-first.ensures in
     let et = read_at starts (c.args.group + 1) c.index-end.result.now next c.index-end.ensures in
-    falling_first s xs c.args.uses.now us fallen c.args.group c.args.fall places seen c.index-first.result.now c.index-end.result.now c.args.tallies.now has listed st et is
+    falling_first s xs c.args.pin_groups.now us fallen c.args.group c.args.fall places seen c.index-first.result.now c.index-end.result.now c.args.tallies.now has listed st et is
 
 pub index-requires : goal.index-requires
 index-requires c =
-    let u = c.args.uses.now in
+    let u = c.args.pin_groups.now in
     let starts = u.by_group.starts.items in
     let next : c.args.group + 1 < length starts = omega (arith, c.requires.group, c.requires.by_group.2.one_more) in
     let end = c.index-end.result.now in
@@ -32,7 +32,7 @@ index-requires c =
 
 pub loop-at-preserved : goal.loop-at-preserved
 loop-at-preserved c s xs seen fallen places us has numbers_are listed is =
-    let u = c.args.uses.now in
+    let u = c.args.pin_groups.now in
     let starts = u.by_group.starts.items in
     let next : c.args.group + 1 < length starts = omega (arith, c.requires.group, listed.one_more) in
     let end = c.index-end.result.now in
@@ -49,4 +49,4 @@ loop-at-preserved c s xs seen fallen places us has numbers_are listed is =
 pub returns : goal.returns
 returns c s xs seen fallen us has is =
     let (places, numbers_are, listed) = c.requires.by_group in
-    falling_over s xs c.args.uses.now us fallen c.args.group c.args.fall places c.loop-at.at c.index-end.result.now c.loop-at.tallies (omega (arith, c.loop-at-test.false)) (c.loop-at.invariant s xs seen fallen places us has numbers_are listed is)
+    falling_over s xs c.args.pin_groups.now us fallen c.args.group c.args.fall places c.loop-at.at c.index-end.result.now c.loop-at.tallies (omega (arith, c.loop-at-test.false)) (c.loop-at.invariant s xs seen fallen places us has numbers_are listed is)

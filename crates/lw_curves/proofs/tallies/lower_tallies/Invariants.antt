@@ -9,4 +9,4 @@ use Rattle.lw_curves.proofs.tallies.lower_tallies.Given as goal
 
 abbrev pub invariant-loop-at : goal.invariant-loop-at
 invariant-loop-at l =
-    (cells : List CellParts) (xs : List Choice) (seen fallen places : List ℕ) → AreUses cells xs l.uses → HasFallen l.group l.fall seen fallen → l.uses.by_group.numbers.items ≡ owners_of l.uses.owners.items places → AreMembersListed l.uses.members.classes l.uses.members.count l.uses.by_group.starts.items places → AreTallies cells xs l.uses seen l.initial.tallies → IsFalling cells xs l.uses fallen l.fall places l.at l.end l.tallies
+    (cells : List CellParts) (xs : List Choice) (seen fallen places : List ℕ) → AreUses cells xs l.pin_groups → HasFallen l.group l.fall seen fallen → l.pin_groups.by_group.numbers.items ≡ owners_of l.pin_groups.owners.items places → AreMembersListed l.pin_groups.members.classes l.pin_groups.members.count l.pin_groups.by_group.starts.items places → AreTallies cells xs l.pin_groups seen l.initial.tallies → IsFalling cells xs l.pin_groups fallen l.fall places l.at l.end l.tallies

@@ -16,36 +16,36 @@ index-end-requires c = omega (arith, c.requires.ready.group_low, c.requires.read
 pub loop-place-init : goal.loop-place-init
 loop-place-init c = record {
   horizon = refl;
-  looking = λ g pats ts us. looking_first (task g pats c.args.at.now.setup.now.lib.now ts) (plain_rows c.args.at.now.setup.now.rows.now) c.args.at.now.fronts.now.spots (HasUnseen c.args.at.now.setup.now.uses.now c.args.at.now.seen.now.areas.items c.args.at.now.fronts.now.spots c.args.time) c.args.at.now.setup.now.uses.now.by_group.numbers.items c.index-first.result.now c.args.queue.now c.args.time;
+  looking = λ g pats ts us. looking_first (task g pats c.args.at.now.setup.now.lib.now ts) (plain_rows c.args.at.now.setup.now.rows.now) c.args.at.now.fronts.now.spots (HasUnseen c.args.at.now.setup.now.pin_groups.now c.args.at.now.seen.now.areas.items c.args.at.now.fronts.now.spots c.args.time) c.args.at.now.setup.now.pin_groups.now.by_group.numbers.items c.index-first.result.now c.args.queue.now c.args.time;
 }
 
 pub index-number-requires : goal.index-number-requires
 index-number-requires c =
-    let starts = c.args.at.now.setup.now.uses.now.by_group.starts.items in
+    let starts = c.args.at.now.setup.now.pin_groups.now.by_group.starts.items in
     let next : c.args.group + 1 < length starts = omega (arith, c.requires.ready.group_low, c.requires.ready.by_group.2.one_more) in
     let end = c.index-end.result.now in
     let et = read_at starts (c.args.group + 1) end next c.index-end.ensures in
-    let low = listed_low c.args.at.now.setup.now.uses.now.members.classes c.args.at.now.setup.now.uses.now.owners.items c.args.at.now.setup.now.uses.now.members.count starts c.args.at.now.setup.now.uses.now.by_group.numbers.items c.requires.ready.by_group (c.args.group + 1) end et in
+    let low = listed_low c.args.at.now.setup.now.pin_groups.now.members.classes c.args.at.now.setup.now.pin_groups.now.owners.items c.args.at.now.setup.now.pin_groups.now.members.count starts c.args.at.now.setup.now.pin_groups.now.by_group.numbers.items c.requires.ready.by_group (c.args.group + 1) end et in
     omega (arith, low, c.loop-place-test.true)
 
 pub loop-place-preserved : goal.loop-place-preserved
 loop-place-preserved c =
-    let starts = c.args.at.now.setup.now.uses.now.by_group.starts.items in
-    let numbers = c.args.at.now.setup.now.uses.now.by_group.numbers.items in
+    let starts = c.args.at.now.setup.now.pin_groups.now.by_group.starts.items in
+    let numbers = c.args.at.now.setup.now.pin_groups.now.by_group.numbers.items in
     let next : c.args.group + 1 < length starts = omega (arith, c.requires.ready.group_low, c.requires.ready.by_group.2.one_more) in
     let end = c.index-end.result.now in
     let et = read_at starts (c.args.group + 1) end next c.index-end.ensures in
-    let low = listed_low c.args.at.now.setup.now.uses.now.members.classes c.args.at.now.setup.now.uses.now.owners.items c.args.at.now.setup.now.uses.now.members.count starts c.args.at.now.setup.now.uses.now.by_group.numbers.items c.requires.ready.by_group (c.args.group + 1) end et in
+    let low = listed_low c.args.at.now.setup.now.pin_groups.now.members.classes c.args.at.now.setup.now.pin_groups.now.owners.items c.args.at.now.setup.now.pin_groups.now.members.count starts c.args.at.now.setup.now.pin_groups.now.by_group.numbers.items c.requires.ready.by_group (c.args.group + 1) end et in
     let in' : c.loop-place.place < length numbers = omega (arith, low, c.loop-place-test.true) in
     let here = read_at numbers c.loop-place.place c.index-number.result.now in' c.index-number.ensures in
     record {
       horizon = c.in_ok-look_at.ensures.horizon ∙ c.loop-place.invariant.horizon;
-      looking = λ g pats ts us. looking_next (task g pats c.args.at.now.setup.now.lib.now ts) (plain_rows c.args.at.now.setup.now.rows.now) c.args.at.now.fronts.now.spots (HasUnseen c.args.at.now.setup.now.uses.now c.args.at.now.seen.now.areas.items c.args.at.now.fronts.now.spots c.args.time) numbers c.index-first.result.now c.args.queue.now c.args.time c.loop-place.queue c.look_at.new.queue c.loop-place.place c.index-number.result.now here (c.in_ok-look_at.ensures.looked g pats ts us) (c.loop-place.invariant.looking g pats ts us);
+      looking = λ g pats ts us. looking_next (task g pats c.args.at.now.setup.now.lib.now ts) (plain_rows c.args.at.now.setup.now.rows.now) c.args.at.now.fronts.now.spots (HasUnseen c.args.at.now.setup.now.pin_groups.now c.args.at.now.seen.now.areas.items c.args.at.now.fronts.now.spots c.args.time) numbers c.index-first.result.now c.args.queue.now c.args.time c.loop-place.queue c.look_at.new.queue c.loop-place.place c.index-number.result.now here (c.in_ok-look_at.ensures.looked g pats ts us) (c.loop-place.invariant.looking g pats ts us);
     }
 
 pub returns-clause-looked : goal.returns-clause-looked
 returns-clause-looked c g pats ts us =
-    let u = c.args.at.now.setup.now.uses.now in
+    let u = c.args.at.now.setup.now.pin_groups.now in
     let starts = u.by_group.starts.items in
     let first = c.index-first.result.now in
     let end = c.index-end.result.now in

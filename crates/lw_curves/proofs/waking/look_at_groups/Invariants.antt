@@ -8,7 +8,7 @@ abbrev pub invariant-loop-place : goal.invariant-loop-place
 invariant-loop-place l = record {
   horizon : l.coming.horizon ≡ l.initial.coming.horizon;
   tallied : AreTalliedIn l.setup l.seen;
-  seen : AreSeen l.setup.uses.now l.seen.areas.items l.fronts.spots l.coming;
+  seen : AreSeen l.setup.pin_groups.now l.seen.areas.items l.fronts.spots l.coming;
   still : WhereStill l.setup l.time l.fronts.spots (turns_in l.setup l.initial.coming l.initial.queue) (λ s choices. IsStillFor s choices l.time l.fronts.spots (turns_in l.setup l.coming l.queue));
 }
 

@@ -1,7 +1,7 @@
 use Rattle.std.proofs.Common.{◌≡◌, ◌<◌, length, min, sym, subst, subst₂, arith}
 use Rattle.std.proofs.lemmas.List.{length-map}
 use Rattle.std.proofs.lemmas.Option.{slice_get_within}
-use Rattle.lw_choices.specs.declared.choices.Row.{Row}
+use Rattle.lw_choices.specs.declared.choices.ListedChoice.{ListedChoice}
 use Rattle.lw_choices.specs.Areas.{most_area}
 use Rattle.lw_curves.specs.Fronts.{IsLessOr}
 use Rattle.lw_choices.specs.Tasks.{task}
@@ -28,7 +28,7 @@ is_less-requires c =
     let lr : c.args.number < length c.args.at.now.setup.now.rows.now = omega (arith, lt, c.requires.tallied.tallies.one_each, length-map c.args.at.now.setup.now.rows.now plain_row) in
     let (r, same, at) = choice_in c.args.at.now.setup.now.rows.now c.args.number lr in
     let class = (c.requires.tallied.tallies.each c.args.number (plain_row r) tally at tt).class_is in
-    let low = subst (λ (q : Row). q.class.0 < length c.args.at.now.fronts.now.least) (sym same) (c.requires.class_low c.args.number r lr) in
+    let low = subst (λ (q : ListedChoice). q.class.0 < length c.args.at.now.fronts.now.least) (sym same) (c.requires.class_low c.args.number r lr) in
     record {
       class = omega (arith, class, low);
       small = omega (arith, c.min-area.ensures);
@@ -44,8 +44,8 @@ returns-then-bound-ge-UNSEEN-clause-no_more c f g pats starts us =
     let lr : c.args.number < length c.args.at.now.setup.now.rows.now = omega (arith, lt, c.requires.tallied.tallies.one_each, length-map c.args.at.now.setup.now.rows.now plain_row) in
     let (r, same, at) = choice_in c.args.at.now.setup.now.rows.now c.args.number lr in
     let is = c.requires.tallied.tallies.each c.args.number (plain_row r) tally at tt in
-    let of = subst (λ (q : Row). IsOfLibrary c.args.at.now.setup.now.lib.now (plain_part q.stand)) (sym same) (c.requires.of_library c.args.number r lr) in
-    tally_done (task g pats c.args.at.now.setup.now.lib.now starts) (plain_rows c.args.at.now.setup.now.rows.now) c.args.at.now.setup.now.uses.now us c.args.at.now.seen.now.areas.items c.args.at.now.fronts.now.spots c.args.time c.args.number (plain_row r) tally at of is (λ few. absurd (omega (arith, few, c.bound-bound.ensures.value, c.if-bound-ge-UNSEEN.true)))
+    let of = subst (λ (q : ListedChoice). IsOfLibrary c.args.at.now.setup.now.lib.now (plain_part q.stand)) (sym same) (c.requires.of_library c.args.number r lr) in
+    tally_done (task g pats c.args.at.now.setup.now.lib.now starts) (plain_rows c.args.at.now.setup.now.rows.now) c.args.at.now.setup.now.pin_groups.now us c.args.at.now.seen.now.areas.items c.args.at.now.fronts.now.spots c.args.time c.args.number (plain_row r) tally at of is (λ few. absurd (omega (arith, few, c.bound-bound.ensures.value, c.if-bound-ge-UNSEEN.true)))
 
 pub returns-clause-no_more : goal.returns-clause-no_more
 returns-clause-no_more c f g pats starts us =
@@ -56,9 +56,9 @@ returns-clause-no_more c f g pats starts us =
     let lr : c.args.number < length c.args.at.now.setup.now.rows.now = omega (arith, lt, c.requires.tallied.tallies.one_each, length-map c.args.at.now.setup.now.rows.now plain_row) in
     let (r, same, at) = choice_in c.args.at.now.setup.now.rows.now c.args.number lr in
     let is = c.requires.tallied.tallies.each c.args.number (plain_row r) tally at tt in
-    let of = subst (λ (q : Row). IsOfLibrary c.args.at.now.setup.now.lib.now (plain_part q.stand)) (sym same) (c.requires.of_library c.args.number r lr) in
+    let of = subst (λ (q : ListedChoice). IsOfLibrary c.args.at.now.setup.now.lib.now (plain_part q.stand)) (sym same) (c.requires.of_library c.args.number r lr) in
     let area = c.min-area.result in
     let least : area ≡ min most_area (bound_of tally) = omega (arith, c.min-area.ensures, c.bound-bound.ensures.value) in
     let had = subst (IsLessOr c.args.at.now.fronts.now.spots tally.class.0 c.args.time area) f c.is_less.ensures in
     let had' = subst₂ (λ k a. HasAtMost c.args.at.now.fronts.now.spots k c.args.time a) is.class_is least had in
-    tally_done (task g pats c.args.at.now.setup.now.lib.now starts) (plain_rows c.args.at.now.setup.now.rows.now) c.args.at.now.setup.now.uses.now us c.args.at.now.seen.now.areas.items c.args.at.now.fronts.now.spots c.args.time c.args.number (plain_row r) tally at of is (λ few. had')
+    tally_done (task g pats c.args.at.now.setup.now.lib.now starts) (plain_rows c.args.at.now.setup.now.rows.now) c.args.at.now.setup.now.pin_groups.now us c.args.at.now.seen.now.areas.items c.args.at.now.fronts.now.spots c.args.time c.args.number (plain_row r) tally at of is (λ few. had')

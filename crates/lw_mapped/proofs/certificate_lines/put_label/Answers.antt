@@ -1,7 +1,7 @@
 use Rattle.std.proofs.Common.{◌∷◌, ◌∙◌, subst}
 use Rattle.lw_io.specs.Writers.{Writes}
 use Rattle.lw_io.proofs.Putting.{Writes-both}
-use Rattle.lw_mapped.proofs.marks.put_label.Goals as goal
+use Rattle.lw_mapped.proofs.certificate_lines.put_label.Goals as goal
 
 pub returns : goal.returns
 returns g c =

@@ -3,7 +3,7 @@ use Rattle.lw_mapped.specs.Texts.{optional_net}
 use Rattle.lw_mapped.proofs.TextParts.{nets_more}
 use Rattle.lw_io.specs.Writers.{Writes}
 use Rattle.lw_io.proofs.Putting.{Writes-both}
-use Rattle.lw_mapped.proofs.marks.put_nets.Goals as goal
+use Rattle.lw_mapped.proofs.certificate_lines.put_nets.Goals as goal
 
 pub loop-g-preserved : goal.loop-g-preserved
 loop-g-preserved g c =
