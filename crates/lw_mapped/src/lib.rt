@@ -20,6 +20,7 @@
 
 mod certificate;
 mod certificate_lines;
+mod certificate_lines;
 mod closing;
 mod command;
 mod contents;
