@@ -90,7 +90,7 @@ def script_of():
 
 
 def seconds_of(log):
-    """What each flow took, from the times of that script: reading counts for each, and a round for all behind it."""
+    """What each flow took, from the times of that script: reading counts for each, and a round for all after it."""
     parts = [float(one) for one in re.findall(r"elapse:\s*([0-9.]+)", abc.said(log))]
     found = [sum(parts[:1] + parts[k:k + 1]) for k in (1, 2)]
     for k in range(1, 5):
