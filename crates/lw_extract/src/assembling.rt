@@ -18,7 +18,7 @@ use lw_pattern::Patterns;
 use lw_pool::{ClassId, Classes, Name, Names, NetId};
 use std::alloc::{AllocError, Global};
 
-// The classes of the gates.
+// The classes of the gates, in the order of a list of matches.
 fn classes_of(alloc: Global, chosen: &[Chosen]) -> Result<Classes, AllocError>
     ensures { IfOk result (λ classes. numbers classes ≡ chosen_classes chosen.now) }
 {
@@ -29,7 +29,8 @@ fn classes_of(alloc: Global, chosen: &[Chosen]) -> Result<Classes, AllocError>
     Ok(Classes::from_vec(classes))
 }
 
-// The names of the inputs and of the gates of some classes.
+// The names of all nets: of the inputs, and of the gates of these classes. A gate has the name of
+// the first output of its class, and else a free one.
 fn names_of(
     alloc: Global,
     graph: &Graph,
@@ -46,7 +47,8 @@ fn names_of(
     net_names(alloc, inputs, outputs, roots, classes, gates)
 }
 
-// The netlist of matches, over the nets of their classes and of the inputs'.
+// The netlist of a list of matches. `nets` has the net of the class of each input and match, and
+// none for other classes.
 pub(crate) fn assemble_over(
     alloc: Global,
     graph: &Graph,
