@@ -18,8 +18,8 @@
 //! The words of this crate:
 //!
 //! * certificate: labels for some classes, and the class of the net of some gates;
-//! * label: the claimed earliest arrival of a class, in millionths of the library's unit of time; in
-//!   `labelling`, `bounding` and `trial` a number in units of any cost;
+//! * label: the claimed earliest arrival of a class, in millionths of the library's unit of time;
+//!   in `labelling`, `bounding` and `trial` a number in units of any cost;
 //! * frame: how many inputs and outputs the circuit itself has, and its latches;
 //! * root: the class of an output in the graph of the network;
 //! * match: a pattern of a cell at a class, with a class for each pin. A class is low if a match
