@@ -1,4 +1,4 @@
-//! Laws over definitions: functions with empty bodies, whose clauses are the laws.
+//! Theorems: functions with empty bodies, whose clauses are the theorems.
 ghost use Rattle.lw_trade.specs.Trades.{BuiltNetsAreCovers, PinsComeBefore};
 
 /// In a netlist that is built from points by their choices the net of each exact point stands for a
