@@ -69,7 +69,7 @@ impl TakesLines<Library> for MappedReader {
     }
 }
 
-// Gives a reader the lines that are finished.
+// Gives a reader the lines that are finished, and takes them from `lines`.
 fn give_lines<C, R: TakesLines<C>>(lines: &mut Lines, over: &C, reader: &mut R)
     requires { (marked : Bool) × IsGivenSome
         (λ r ls. R.given r over.now ls) R.accepts marked lines.old reader.old }
@@ -84,7 +84,8 @@ fn give_lines<C, R: TakesLines<C>>(lines: &mut Lines, over: &C, reader: &mut R)
     }
 }
 
-/// Gives a new reader the lines of a text.
+/// Gives a new reader the lines of a text. If `marked`, a `#@` that begins a line is kept and
+/// begins no comment; `over` is what the reader reads the lines against.
 pub fn read_lines<C, R: TakesLines<C>>(
     alloc: Global,
     bytes: &[u8],
