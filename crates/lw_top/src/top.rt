@@ -55,7 +55,7 @@ pub fn run<F: Shelf, O: Sink, E: Sink>(
         → ((text : List ℕ) × IsMappingText (map string_bytes words.now.items) (bytes_of files) text
         × IsDone O.taken O.is_finished out.old out.new text) }
 
-    // At 6, over known files and where a mapping was asked for, no tree that the command's laws
+    // At 6, over known files and where a mapping was asked for, no tree that the command's rules
     // derive for the root whose name is reported has a cover.
     ensures no_cover { (files : List File) → F.files shelf.old ≡ Some files →
         AsksForMapping (map string_bytes words.now.items) → result ≡ 6
