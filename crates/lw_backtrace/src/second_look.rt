@@ -22,8 +22,9 @@ pub(crate) fn is_cut(curves: &Curves, class: ClassId, time: u64) -> bool
     points[place].area >= MOST_AREA
 }
 
-/// Whether what a walk has found is right: there are no more gates than points, each is that of a
-/// point of its own, has its cell and the nets of its pins, and is used; and so have the roots.
+/// Whether what a walk has found is right. There are no more gates than points, and each is that of
+/// a point of its own, has its cell and the nets of its pins, and is used. The roots have their
+/// nets.
 pub(crate) fn is_right(plan: &Plan, trail: &Trail) -> bool
     ensures { IsTrue result → IsRightWalk plan.now trail.now }
 {

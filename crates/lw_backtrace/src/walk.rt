@@ -14,11 +14,11 @@ use lw_graph::Graph;
 use lw_pool::{ClassId, Numbers};
 use std::alloc::{AllocError, Global};
 
-/// Walks from the roots down: each root takes the last point of its class by its time, and each
-/// pin of the gate of a point the last point of the pin's class by the point's time, less the
-/// delay of the pin. But a root whose last point has the cut area 2^62 takes any point that comes
-/// by its time, and shares gates. Where that fails, a walk in which no root does so is tried. Where
-/// that fails too, the answer is that memory is out.
+/// Walks from the roots down. Each root takes the last point of its class by its time. Each pin of
+/// the gate of a point takes the last point of the pin's class by the point's time, less the delay
+/// of the pin. But a root whose last point has the cut area 2^62 takes any point that comes by its
+/// time, and shares gates. Where that fails, a walk in which no root does so is tried. Where that
+/// fails too, the answer is that memory is out.
 pub fn walk_down(
     alloc: Global,
     graph: &Graph,

@@ -140,9 +140,10 @@ impl<C: Cost> Labelling<'_, C> {
     }
 }
 
-/// The first class that fails, and none exactly where the labels are a potential: no class lacks a
-/// label, or has one above, what a match at it whose pins are all labelled or an input of it costs.
-/// Then each cover costs at least the label of its class. It takes no memory.
+/// The first class that fails, and none exactly where the labels are a potential. A class fails if
+/// an input of it, or a match at it whose pins are all labelled, costs less than its label, or it
+/// has none. Where no class fails, each cover costs at least the label of its class. It takes no
+/// memory.
 pub fn bound<C: Cost>(
     graph: &Graph,
     pats: &Patterns,

@@ -74,9 +74,9 @@ pub(crate) fn assemble_over(
 }
 
 /// The netlist that a list of matches makes, a gate for each in their order. Each match is one at
-/// its class by some numbers of pins of the cells, each pin is an input's class or stands earlier
-/// in the list, no class stands twice or is an input's, and each output's class is an input's or
-/// stands in the list.
+/// its class by some numbers of pins of the cells, and each pin is an input's class or stands
+/// earlier in the list. No class stands twice or is an input's, and each output's class is an
+/// input's or stands in the list.
 pub fn assemble(
     alloc: Global,
     graph: &Graph,

@@ -67,9 +67,9 @@ fn cover_with<C: Cost>(
 }
 
 /// The netlist that the labels of a graph's classes give to some outputs, by a table of bounds for
-/// them where one is at hand: a gate for each class that is needed, the chosen match of the class.
-/// Each net costs the label of its class. `NoCover` comes exactly where the class of an output has
-/// no label.
+/// them where one is at hand. It has a gate for each class that is needed, the chosen match of the
+/// class. Each net costs the label of its class. `NoCover` comes exactly where the class of an
+/// output has no label.
 pub fn extract_with<C: Cost>(
     alloc: Global,
     graph: &Graph,

@@ -26,6 +26,7 @@ enum ReadError {
 impl From<Failed> for ReadError {
     ghost from_gives = { λ _ e. e ≡ ReadFailed };
 
+    // The shelf failed.
     fn from(_e: Failed) -> ReadError {
         ReadError::Failed
     }
@@ -34,6 +35,7 @@ impl From<Failed> for ReadError {
 impl From<AllocError> for ReadError {
     ghost from_gives = { λ _ e. e ≡ OutOfMemory };
 
+    // Memory ran out.
     fn from(_e: AllocError) -> ReadError {
         ReadError::Memory
     }

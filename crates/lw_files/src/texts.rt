@@ -37,6 +37,7 @@ impl TakesLines<()> for LibReader {
 
     ghost accepts = { λ line. HasNoHash line };
 
+    // Takes the next line of a library.
     fn take_line(&mut self, _over: &(), line: &Line) {
         // The reader keeps a fault, and reports it at its end.
         let _ = self.line(line);
@@ -50,6 +51,7 @@ impl TakesLines<()> for Reader {
 
     ghost accepts = { λ line. Unit {0} };
 
+    // Takes the next line of a network.
     fn take_line(&mut self, _over: &(), line: &Line) {
         // The reader keeps a fault, and reports it at its end.
         let _ = self.line(line);
@@ -63,6 +65,7 @@ impl TakesLines<Library> for MappedReader {
 
     ghost accepts = { λ line. Unit {0} };
 
+    // Takes the next line of a mapped netlist, by the cells of the library.
     fn take_line(&mut self, over: &Library, line: &Line) {
         // The reader keeps a fault, and reports it at its end.
         let _ = self.line(line, over);

@@ -30,8 +30,8 @@ pub struct Counts {
 }
 
 /// The sizes of a network that was drawn and mapped: its nodes, the classes of its graph, the gates
-/// of its netlist, the greatest arrival, and how often stored matches were read, if they were not
-/// too many to store.
+/// of its netlist, and the greatest arrival. It has how often stored matches were read, if they
+/// were not too many to store.
 #[derive(Clone, Copy)]
 pub struct Sizes {
     pub nodes: u32,

@@ -176,12 +176,12 @@ fn of_choices(
     netlist
 }
 
-/// What a library and a model come to by a deadline: the netlist of least area, in which each
-/// output arrives by it, or at its least time where that is later, and each use of a shared part
-/// counts. Without a deadline the area is the least of all. `NoCover` tells the first output that
-/// has no cover, and comes exactly where there is one. `Points` comes exactly where there is none,
-/// and where the classes have more than 8,000,000 points up to the latest of these times. `Forms`
-/// and `Splits` come exactly where there are more than are dealt with.
+/// What a library and a model come to by a deadline: the netlist of least area, where each use of a
+/// shared part counts. Each output arrives by the deadline, or at its least time where that is
+/// later. Without a deadline the area is the least of all. `NoCover` tells the first output that
+/// has no cover, and comes exactly where there is one. Where each has one, `Points` comes exactly
+/// if there is a deadline and the classes have more than 8,000,000 points up to the latest of these
+/// times. `Forms` and `Splits` come exactly where there are more than are dealt with.
 pub fn trade(
     alloc: Global,
     lib: &Library,

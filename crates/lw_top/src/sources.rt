@@ -140,6 +140,7 @@ impl TakesLines<Inputs> for Vectors {
 
     ghost accepts = { λ line. Unit {0} };
 
+    // Takes the next line as a vector. A fault is kept until all lines are given.
     fn take_line(&mut self, _over: &Inputs, line: &Line) {
         // The vectors keep a fault, which `fault` reports when all lines are given.
         let _ = self.line(line);

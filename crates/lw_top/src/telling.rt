@@ -99,5 +99,6 @@ fn put_unsaid<E: Sink>(out: &mut Writer<'_, E>, why: &NoVerilog)
     put_no_verilog(out, why);
 }
 
+// The line for words of no written form.
 const USAGE: &[u8] =
     b"usage: map [-w K] [-i] [-c] LIB IN | check [-w K] [-i] LIB IN MAPPED | time LIB MAPPED | sim IN VECTORS | sim -g LIB MAPPED VECTORS | graph [-w K] [-i] IN | big SEED N LIB | trade [-w K] [-i] T LIB IN | lut L [-w K] [-i] IN | verilog LIB MAPPED | unverilog LIB VER";
