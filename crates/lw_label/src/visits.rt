@@ -8,10 +8,10 @@ use lw_pool::ClassId;
 use std::alloc::{AllocError, Global};
 use std::marker::Model;
 
-// The order of visits, by places, each of which is a class with its complement; and when each place
-// was visited last and when something changed there, or in its parts, their parts and so on. Times
-// are numbers of visits. They decide what is passed over, and so how fast labels come, but not
-// which: what rests on nothing being left to change is a round that passes over nothing.
+// The order of visits, by places, each of which is a class with its complement. It has when each
+// place was visited last, and when something changed there, or in its parts, their parts and so on.
+// Times are numbers of visits. They decide what is passed over, and so how fast labels come, but
+// not which: what rests on nothing being left to change is a round that passes over nothing.
 #[derive(Drop)]
 pub(crate) struct Visits {
     order: Vec<u32>,

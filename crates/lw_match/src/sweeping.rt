@@ -57,7 +57,7 @@ pub(crate) fn is_near(numbers: &[u64], root: Root, top: u64) -> bool
 }
 
 /// Whether a list is empty, as the row of a class without pairs is, so that no number in it is
-/// below the top.
+/// below `top`, which the contract alone names.
 pub(crate) fn is_bare(numbers: &[u64], top: u64) -> bool
     ensures { IsTrue result → (place shift : ℕ) → IsFar numbers.now place shift top }
 {
