@@ -13,7 +13,7 @@ processor, and a signal is a difference, that of the time among them. Where test
 counts as not compared, and any end without a signal will do.
 
 Each tenth case is of another kind (tests/hard.py), not damaged: pins that repeat with -i, nested brackets, names that collide, wide
-Ands, or 'trade' in 4 to 64 MB, where status 8 will do too. A kind that is known to fail is drawn only where it is named by -k, which
+Ands, or 'trade' in 3 to 8 MB, where status 8 will do too. A kind that is known to fail is drawn only where it is named by -k, which
 takes cases of that kind alone.
 
 CASES is 10000 where neither it nor SECONDS is given; SEED is 1. COMMAND is one word of those above, as 'sim-g'. -o runs one case
@@ -289,7 +289,7 @@ class Fuzz:
             self.put("MAPPED", ours(["map", *words[1:4], "-c", "LIB", "IN"])[1])
         if "VER" in words:
             self.put("VER", self.verilog(draw))
-        return kind, words, draw.choice([4, 5, 6, 8, 12, 64]) << 20 if kind == "memory" else MEMORY
+        return kind, words, draw.randint(13, 32) << 18 if kind == "memory" else MEMORY
 
     def damaged(self, draw):
         """A case of damaged files: the row that they are of, and words. The files stand in the folder."""
@@ -316,7 +316,7 @@ class Fuzz:
         except Slow:
             wanted = None
         command = name if is_hard else words[0] if words and words[0] in FORMS else "other words"
-        self.counted[command, wanted[0] if wanted else "not compared"] += 1
+        self.counted[command, got[0] if wanted else "not compared"] += 1
         if got[0] >= 0 and (wanted is None or got == wanted) or memory < MEMORY and got == (8, b"", b"lwmap: out of memory\n"):
             return None
         said = [f"case {case} of seed {self.seed}, of {name}: lwmap {' '.join(words)}"]
