@@ -220,7 +220,7 @@ names_that_collide() {
     command -v python3 >/dev/null || { echo "there is no python3" && return 9; }
     two_cells >LIB && python3 "$tests/collide.py" 100000 >MAPPED && last=$(sed -n 's/^\.outputs //p' MAPPED)
     printf '%s\n' '.model m' '.inputs i0' ".outputs $last" ".names i0 $last" '0 1' '.end' >IN && printf '%s\n' 0 1 >VECTORS
-    answered 0.5 200 time LIB MAPPED && holds out "arrival $last 1" 'max 1' 'area 100000' "step $last inv i0 1" || return
+    answered 0.5 200 time LIB MAPPED && holds out "arrival $last 1" 'max 1' 'area 100000' "step $last inv a 1" || return
     answered 0.5 200 sim -g LIB MAPPED VECTORS && holds out 1 0 || return
     refused_within 0.5 200 9 "no: gate $(sed -n 's/.*O=//p;T;q' MAPPED) is no match" check LIB IN MAPPED || return
     answered 0.5 200 verilog LIB MAPPED && mv out VER && answered 0.5 200 unverilog LIB VER && same out MAPPED
