@@ -126,7 +126,7 @@ impl<C: Cost> Labelling<'_, C> {
         false
     }
 
-    // The first class at which `has_low_match` finds one.
+    // The first class of which `has_low_match` holds, and none if it holds of no class.
     fn first_low_class(&self) -> Option<ClassId>
         requires { HasCells C.costs self.now }
         ensures { IsLeastOf (IsLowIn C.costs self.now) (option_map class_number result) }

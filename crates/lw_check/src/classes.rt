@@ -10,7 +10,8 @@ use crate::case::Case;
 use lw_fixed::Micro;
 use lw_pool::ClassId;
 
-// The first class from `classes` on, the number of classes of the graph, that has a label.
+// The first class from `classes` on, the number of classes of the graph, that has a label; none if
+// none has.
 fn first_labelled(labels: &[Option<Micro>], classes: u32) -> Option<u32>
     requires { length labels.now ≤ most_classes }
     ensures { result ≡ find (nat_le classes) (labelled_from 0 labels.now) }
@@ -23,7 +24,8 @@ fn first_labelled(labels: &[Option<Micro>], classes: u32) -> Option<u32>
     None
 }
 
-// The first of the classes of gates that is `classes` or more, the number of classes of the graph.
+// The first of the classes of gates that is `classes` or more, the number of classes of the graph;
+// none if none is.
 fn first_beyond(nets: &[Option<ClassId>], classes: u32) -> Option<u32>
     ensures { result ≡ find (nat_le classes) (filter_map (option_map class_number) nets.now) }
 {

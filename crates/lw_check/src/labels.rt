@@ -67,7 +67,7 @@ fn flat(label: Option<u64>) -> Option<Mark>
     }
 }
 
-// Marks with these labels.
+// Marks that have these labels as costs, and no height; none where a class has no label.
 fn marks_of(alloc: Global, labels: &[Option<u64>]) -> Result<Vec<Option<Mark>>, AllocError>
     ensures { IfOk result (λ marks. marks.items ≡ map flat_mark labels.now) }
 {

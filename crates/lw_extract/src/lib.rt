@@ -32,6 +32,7 @@
 #![tactic(auto)]
 
 mod assembling;
+mod attaining;
 mod choosing;
 mod extracting;
 mod fault;
@@ -43,6 +44,7 @@ mod ordering;
 mod ports;
 
 pub use assembling::assemble;
+pub use attaining::attaining_matches;
 pub use choosing::Chosen;
 pub use extracting::{extract, extract_with};
 pub use fault::ExtractFault;

@@ -40,8 +40,9 @@ pub struct Mapping {
     pub steps: Option<u64>,
 }
 
-/// The ports at which the graph of a network is covered.
-pub(crate) fn ports(alloc: Global, net: &Network, choices: &Choices) -> Result<Ports, AllocError>
+/// The ports at which the graph of a network is covered: the names of the model, its inputs and its
+/// outputs, and the class of each output.
+pub fn ports(alloc: Global, net: &Network, choices: &Choices) -> Result<Ports, AllocError>
     ensures { IfOk result (ArePortsOf net.now choices.now) }
 {
     let roots = Vec::from_slice(alloc, choices.roots.as_slice())?;

@@ -102,7 +102,7 @@ fn leaves_of(word: &str) -> Option<u8>
     }
 }
 
-/// Options, and the words behind them.
+/// Options, and the words after them.
 #[derive(Clone, Copy)]
 pub struct Begun<'a> {
     options: Options,
@@ -310,8 +310,8 @@ fn from_verilog_of(words: &[String]) -> Option<Command<'_>>
 // What each time is below.
 const TIME_UNITS: u64 = 1_000_000;
 
-// The deadline that a word is: `none`, or a decimal below 1000000 in millionths. None for other
-// words.
+// The deadline that a word is: none for `none`, or a decimal below 1000000, in millionths. Other
+// words have no answer.
 fn deadline_of(word: &str) -> Option<Option<Micro>>
     ensures { result ≡ deadline_of word.now }
 {
@@ -392,7 +392,7 @@ fn library_word<'a>(command: Command<'a>) -> &'a str
     }
 }
 
-// The word for the file of the network, empty if the command reads none.
+// The word for the file of the network, which a refusal names; empty if the command reads none.
 fn network_word<'a>(command: Command<'a>) -> &'a str
     ensures { result.now ≡ file_in (plain_command command.entry) which.Network }
 {
@@ -407,7 +407,8 @@ fn network_word<'a>(command: Command<'a>) -> &'a str
     }
 }
 
-// The word for the file of the netlist, mapped or in Verilog, empty if the command reads none.
+// The word for the file of the netlist, mapped or in Verilog, which a refusal names; empty if the
+// command reads none.
 fn mapped_word<'a>(command: Command<'a>) -> &'a str
     ensures { result.now ≡ file_in (plain_command command.entry) which.Mapped }
 {
@@ -421,7 +422,7 @@ fn mapped_word<'a>(command: Command<'a>) -> &'a str
     }
 }
 
-// The word for the file of the vectors, empty if the command reads none.
+// The word for the file of the vectors, which a refusal names; empty if the command reads none.
 fn vectors_word<'a>(command: Command<'a>) -> &'a str
     ensures { result.now ≡ file_in (plain_command command.entry) which.Vectors }
 {
@@ -431,7 +432,8 @@ fn vectors_word<'a>(command: Command<'a>) -> &'a str
     }
 }
 
-/// The word for one of the command's files, empty if it reads none or there is no command.
+/// The word for one of the command's files, empty if it reads none or there is no command. By it
+/// `telling` names the file in the line of a refusal; no file is opened by it.
 pub fn file_word<'a>(command: Option<Command<'a>>, which: Which) -> &'a [u8]
     ensures { result.now ≡ file_word (asked command.entry) which }
 {
