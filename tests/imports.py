@@ -1,61 +1,87 @@
 #!/usr/bin/env python3
-"""Looks for names that a `use` line of a spec or a proof asks for and the file that it names does not give out:
+"""Looks for what a `use` line of a definition, a proof or a source asks for and its crate does not have:
 
   python3 tests/imports.py
 
-It reads the files alone and takes a second, where the gate meets such a name when it comes to the crate. The last line is
-'N passed, M failed', by names.
+That is a module without a file or without its line in Lib.antt, or a name that the file does not give out. Modules that the
+checker makes itself begin with a small letter, as `declared`, and are left out. It reads the files alone and takes some seconds,
+where the gate meets such a line when it comes to the crate. The last line is 'N passed, M failed', by names and modules.
 """
 import glob
 import os
 import re
 import sys
 
-root = os.path.join(os.path.dirname(os.path.abspath(__file__)), "..", "crates")
-asks = re.compile(r"(?m)^(?:pub )?use Rattle\.(lw_\w+)\.(specs|proofs)\.([\w.]+)\.\{([^}]*)\}")
-word = r"[^\s(){}:,]+"
-said = re.compile(rf"^(\s*)(?:\w+ )*?pub (?:(?:abbrev|unfoldable|record|data|ruleset|pattern) )*({word})")
+ROOT = os.path.join(os.path.dirname(os.path.abspath(__file__)), "..", "crates")
+ASKS = re.compile(r"(?m)^\s*(?:pub |ghost )?use Rattle\.(lw_\w+)\.(specs|proofs)\.([A-Z]\w*(?:\.\w+)*)(?:\.\{([^}]*)\}| as )")
+WORD = r"[^\s(){}:,]+"
+SAID = re.compile(rf"^(\s*)(?:\w+ )*?pub (?:(?:abbrev|unfoldable|record|data|ruleset|pattern) )*({WORD})")
+
+
+def read(path):
+    with open(path, encoding="utf-8") as it:
+        return it.read()
 
 
 def given_out(path):
-    """Returns the names that a file gives out: what is `pub`, what it passes on, and what stands inside of either."""
+    """The names that a file gives out: what is `pub`, what it passes on, and what stands inside of either."""
     names, inside = set(), None
-    for line in open(path, encoding="utf-8"):
+    for line in read(path).split("\n"):
         depth = len(line) - len(line.lstrip())
         if inside is not None and line.strip() and depth <= inside:
             inside = None
-        found = said.match(line)
+        found = SAID.match(line)
         if found:
             names.add(found[2])
             inside = depth if inside is None else inside
         elif inside is not None:
-            names.update(re.findall(rf"^\s*({word}) :", line))
+            names.update(re.findall(rf"^\s*({WORD}) :", line))
         if line.startswith("pub use "):
             names.update(it.split(" as ")[-1].strip() for it in re.findall(r"\{([^}]*)\}", line) for it in it.split(","))
             names.update(re.findall(r"\.([^.{}\s]+)$", line.strip()))
     return names
 
 
+class Modules:
+    def __init__(self):
+        self.names, self.listed = {}, {}
+
+    def of(self, folder, module):
+        """The file of a module and, if it stands in that, the type that is a module of its own; or None."""
+        if folder not in self.listed:
+            lib = os.path.join(folder, "Lib.antt")
+            self.listed[folder] = set(re.findall(r"(?m)^(?:pub )?mod (\w+)", read(lib))) if os.path.isfile(lib) else set()
+        parts = module.split(".")
+        for count in range(len(parts), 0, -1):
+            path = os.path.join(folder, *parts[:count]) + ".antt"
+            if os.path.isfile(path):
+                if path not in self.names:
+                    self.names[path] = given_out(path)
+                known = parts[0] in self.listed[folder] and set(parts[count:]) <= self.names[path]
+                return path if known else None
+        return None
+
+
 def main():
-    known, asked, lacking = {}, 0, []
-    for part in ("specs", "proofs"):
-        for path in sorted(glob.glob(f"{root}/*/{part}/**/*.antt", recursive=True)):
-            with open(path, encoding="utf-8") as it:
-                text = it.read()
-            for crate, where, module, names in asks.findall(text):
-                file = f"{root}/{crate}/{where}/{module.replace('.', '/')}.antt"
-                if not os.path.isfile(file):
-                    continue
-                if file not in known:
-                    known[file] = given_out(file)
-                for name in (it.split(" as ")[0].strip() for it in names.split(",")):
-                    asked += 1
-                    if name not in known[file]:
-                        lacking.append(f"{os.path.relpath(path, root)}: {crate}.{where}.{module} has no {name}")
+    modules, passed, lacking = Modules(), 0, []
+    paths = [path for form in ("specs/**/*.antt", "proofs/**/*.antt", "src/**/*.rt") for path in glob.glob(f"{ROOT}/*/{form}", recursive=True)]
+    for path in sorted(paths):
+        for crate, part, module, names in ASKS.findall(read(path)):
+            where = f"{os.path.relpath(path, ROOT)}: {crate}.{part}"
+            file = modules.of(os.path.join(ROOT, crate, part), module)
+            if file is None:
+                lacking.append(f"{where} has no module {module}")
+                continue
+            passed += not names
+            for name in (it.split(" as ")[0].strip() for it in names.split(",") if it.strip()):
+                if name in modules.names[file]:
+                    passed += 1
+                else:
+                    lacking.append(f"{where}.{module} has no {name}")
     for line in lacking:
         print(line)
-    print(f"{asked - len(lacking)} passed, {len(lacking)} failed")
-    return 1 if lacking else 0
+    print(f"{passed} passed, {len(lacking)} failed")
+    return 1 if lacking or not passed else 0
 
 
 sys.exit(main())

@@ -1,5 +1,5 @@
 // Forms that share a class, and pairs that are found with and without an index.
-use crate::sketch::{Sketch, graph_of};
+use crate::sketch::{AND_OF_THREE, Sketch, graph_of};
 use lw_graph::{Graph, Pair};
 use lw_pool::ClassId;
 use std::process::Abort;
@@ -15,22 +15,45 @@ const SHARED: Sketch<'static> = Sketch {
 };
 
 /// Two classes, and the class that holds their pair.
-const HOLDERS: [(u32, u32, Option<ClassId>); 4] = [
+type Held = (u32, u32, Option<ClassId>);
+
+const SHARED_HOLDERS: [Held; 4] = [
     (2, 4, Some(ClassId(6))),
     (4, 2, Some(ClassId(6))),
     (2, 2, None),
     (6, 2, None),
 ];
 
-fn check_holders(rt: &impl Abort, graph: &Graph) {
-    for (x, y, class) in HOLDERS {
-        if x < graph.classes() && y < graph.classes() {
-            assert!(rt; graph.holder(ClassId(x), ClassId(y)) == class);
+const HOLDERS_OF_THREE: [Held; 6] = [
+    (4, 2, Some(ClassId(9))),
+    (2, 4, Some(ClassId(9))),
+    (8, 6, Some(ClassId(15))),
+    (6, 8, Some(ClassId(15))),
+    (2, 2, None),
+    (9, 15, None),
+];
+
+fn check_holders(rt: &impl Abort, graph: &Graph, holders: &[Held]) -> Result<(), Fail> {
+    for (x, y, class) in holders {
+        if *x >= graph.classes() || *y >= graph.classes() {
+            return Err(Fail::from("the graph has the classes"));
         }
+        assert!(rt;
+            graph.holder(ClassId(*x), ClassId(*y)) == *class,
+            "{x} and {y}"
+        );
     }
+    Ok(())
 }
 
-// Looks at the classes of the graph of `SHARED`, and for their pairs without an index and with one.
+// Looks for pairs without an index and with one.
+fn check_index(rt: &impl Abort, graph: &mut Graph, holders: &[Held]) -> Result<(), Fail> {
+    check_holders(rt, graph, holders)?;
+    graph.make_index()?;
+    check_holders(rt, graph, holders)
+}
+
+// Looks at the classes of the graph of `SHARED`, and for their pairs.
 fn check_shared(rt: &impl Abort, graph: &mut Graph) -> Result<(), Fail> {
     if graph.classes() != 8 {
         return Err(Fail::from("the forms have eight classes"));
@@ -40,14 +63,17 @@ fn check_shared(rt: &impl Abort, graph: &mut Graph) -> Result<(), Fail> {
         y: ClassId(4),
     };
     assert!(rt; graph.nands(ClassId(6)) == [pair].as_slice());
-    check_holders(rt, graph);
-    graph.make_index()?;
-    check_holders(rt, graph);
-    Ok(())
+    check_index(rt, graph, &SHARED_HOLDERS)
 }
 
 #[test]
 fn forms_share_classes_whose_pairs_are_found(rt: HostRuntime) -> Result<(), Fail> {
     let mut graph = graph_of(rt.alloc(), SHARED)?;
     check_shared(&rt, &mut graph)
+}
+
+#[test]
+fn pairs_of_an_and_of_three_are_found(rt: HostRuntime) -> Result<(), Fail> {
+    let mut graph = graph_of(rt.alloc(), AND_OF_THREE)?;
+    check_index(&rt, &mut graph, &HOLDERS_OF_THREE)
 }

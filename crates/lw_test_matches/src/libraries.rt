@@ -11,6 +11,10 @@ use lw_pattern::{Patterns, patterns};
 use lw_words::Lines;
 use std::alloc::{AllocError, Global};
 
+/// An inverter and NANDs of two and three pins.
+pub(crate) const NANDS: &str =
+    "GATE inv 1 O=!a;PIN * INV 1 999 1 0 1 0\nGATE nand2 2 O=!(a*b);PIN * INV 1 999 1.5 0 1.5 0\nGATE nand3 3 O=!(a*b*c);PIN * INV 1 999 2 0 2 0\n";
+
 // Feeds a small text, whole.
 fn feed(lines: &mut Lines, bytes: &[u8]) -> Result<(), AllocError>
     requires unfinished { is_finished lines.old ≡ false }
@@ -48,6 +52,26 @@ fn read_text(reader: &mut LibReader, alloc: Global, text: &str) -> Result<(), Li
 pub(crate) fn library_of(alloc: Global, text: &str) -> Result<Library, LibFault> {
     let mut reader = LibReader::new(alloc);
     match read_text(&mut reader, alloc, text) {
+        Ok(()) => reader.end(),
+        Err(fault) => {
+            drop(reader);
+            Err(fault)
+        }
+    }
+}
+
+fn read_inverters(reader: &mut LibReader, alloc: Global, count: u32) -> Result<(), LibFault> {
+    for k in 0..count {
+        let text = format!(in alloc; "GATE inv{k} 1 O=!a;PIN * INV 1 999 1 0 1 0\n")?;
+        read_text(reader, alloc, &text)?;
+    }
+    Ok(())
+}
+
+/// A library of so many inverters.
+pub(crate) fn inverters(alloc: Global, count: u32) -> Result<Library, LibFault> {
+    let mut reader = LibReader::new(alloc);
+    match read_inverters(&mut reader, alloc, count) {
         Ok(()) => reader.end(),
         Err(fault) => {
             drop(reader);

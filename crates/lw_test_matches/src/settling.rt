@@ -1,13 +1,14 @@
 // Stores against the matches of cursors, and marks that are settled against those that are found in
-// rounds, in graphs that are drawn.
+// rounds, in graphs that are drawn; the sizes of stores that are known.
 ghost use Rattle.std.specs.Prelude.{◌≡◌, ◌<◌, ℕ, length, OnOk};
 ghost use Rattle.lw_cost.specs.Least.{AreOfCells};
 ghost use Rattle.lw_test_matches.specs.Fitting.{Fits};
 
 use crate::drawing::{Dice, drawn_graphs};
 use crate::finding::LIBRARIES;
-use crate::libraries::{Cells, library_of, no_starts, patterns_of};
+use crate::libraries::{Cells, NANDS, inverters, library_of, no_starts, patterns_of};
 use crate::plain::all_matches;
+use crate::sketch::{AND_OF_THREE, Sketch, graph_of};
 use crate::steep::SteepCost;
 use lw_genlib::Library;
 use lw_graph::Graph;
@@ -15,7 +16,7 @@ use lw_label::{DelayCost, relabel};
 use lw_match::{Cost, Mark, Match};
 use lw_pattern::Patterns;
 use lw_pool::ClassId;
-use lw_settle::{Store, settle, store_matches};
+use lw_settle::{Store, StoreFault, settle, store_matches};
 use std::alloc::{AllocError, Global};
 use std::process::Abort;
 use std::test::Fail;
@@ -87,7 +88,8 @@ fn steps_of(marks: &[Option<Mark>], matches: &[Vec<Match>]) -> u64 {
     steps
 }
 
-// Settles a graph by a cost whose inputs cost nothing, and compares with marks by rounds.
+// Settles a graph by a cost whose inputs cost nothing, compares with marks by rounds, and says how
+// often a match was read.
 fn check_cost<C: Cost>(
     rt: &impl Abort,
     alloc: Global,
@@ -95,7 +97,7 @@ fn check_cost<C: Cost>(
     pats: &Patterns,
     cost: &C,
     matches: &[Vec<Match>],
-) -> Result<(), Fail>
+) -> Result<u64, Fail>
     requires of_cells { AreOfCells (C.costs cost.now).pin_counts pats.now }
     requires none { (i : ℕ) → (C.costs cost.now).leaf i ≡ 0 }
 {
@@ -105,7 +107,7 @@ fn check_cost<C: Cost>(
     assert_eq!(rt; settled.marks(), labels.marks());
     drop(settled);
     assert_eq!(rt; store.done(), steps_of(labels.marks(), matches));
-    Ok(())
+    Ok(store.done())
 }
 
 fn check_store(
@@ -158,5 +160,68 @@ fn stores_settle_as_rounds(rt: HostRuntime) -> Result<(), Fail> {
     for text in LIBRARIES {
         check_library(&rt, rt.alloc(), text, &mut dice)?;
     }
+    Ok(())
+}
+
+// Stores the matches in the graph of `AND_OF_THREE` and settles it.
+fn check_and_of_three(
+    rt: &impl Abort,
+    alloc: Global,
+    cells: Cells<'_>,
+    graph: &Graph,
+) -> Result<(), Fail>
+    requires { Fits cells.lib.now cells.pats.now }
+{
+    let Cells { lib, pats } = cells;
+    let store = store_matches(alloc, graph, pats)?;
+    assert_eq!(rt; store.matches(), 40);
+    assert_eq!(rt; store.pins(), 76);
+    assert_eq!(rt; store.done(), 0);
+    drop(store);
+    let matches = all_matches(alloc, graph, pats)?;
+    let starts = no_starts(alloc);
+    let delays = DelayCost::new(lib, &starts);
+    let readings = check_cost(rt, alloc, graph, pats, &delays, &matches)?;
+    assert_eq!(rt; readings, 112);
+    Ok(())
+}
+
+// The classes of true and false have no label: 74 uses and 38 prices are read.
+#[test]
+fn an_and_of_three_is_settled_by_112_readings(rt: HostRuntime) -> Result<(), Fail> {
+    let alloc = rt.alloc();
+    let lib = library_of(alloc, NANDS)?;
+    let pats = patterns_of(alloc, &lib)?;
+    let (lib, pats) = (&lib, &pats);
+    let graph = graph_of(alloc, AND_OF_THREE)?;
+    check_and_of_three(&rt, alloc, Cells { lib, pats }, &graph)
+}
+
+// How many matches are stored in the graph of so many inputs alone.
+fn stored_over(alloc: Global, pats: &Patterns, inputs: u32) -> Result<Option<u32>, Fail> {
+    let sketch = Sketch {
+        inputs,
+        samples: &[],
+        facts: &[],
+        links: &[],
+    };
+    let graph = graph_of(alloc, sketch)?;
+    match store_matches(alloc, &graph, pats) {
+        Ok(store) => Ok(Some(store.matches())),
+        Err(StoreFault::TooMany) => Ok(None),
+        Err(StoreFault::Memory) => Err(Fail::from("there is memory for a store")),
+    }
+}
+
+// Each of 2,048 classes has 4,096 matches, which are as many as are stored; one input more has two
+// classes more.
+#[test]
+fn the_most_matches_are_stored(rt: HostRuntime) -> Result<(), Fail> {
+    let alloc = rt.alloc();
+    let lib = inverters(alloc, 4096)?;
+    let pats = patterns_of(alloc, &lib)?;
+    drop(lib);
+    assert_eq!(rt; stored_over(alloc, &pats, 1023)?, Some(8_388_608));
+    assert_eq!(rt; stored_over(alloc, &pats, 1024)?, None);
     Ok(())
 }

@@ -18,6 +18,21 @@ pub(crate) struct Sketch<'a> {
     pub(crate) links: &'a [(u32, u32)],
 }
 
+/// The And of three inputs, those of two of them, and their complements.
+pub(crate) const AND_OF_THREE: Sketch<'static> = Sketch {
+    inputs: 3,
+    samples: &[false, false, false, false],
+    facts: &[
+        (9, 2, 4),
+        (11, 2, 6),
+        (13, 4, 6),
+        (15, 2, 12),
+        (15, 4, 10),
+        (15, 6, 8),
+    ],
+    links: &[],
+};
+
 // The samples of true and of so many inputs.
 fn first_samples(alloc: Global, inputs: u32) -> Result<Vec<bool>, AllocError>
     ensures { IfOk result (λ v. v.items ≡ true ∷ replicate inputs false) }
@@ -131,7 +146,7 @@ fn fill(draft: &mut Draft, samples: &mut Vec<bool>, sketch: Sketch<'_>) -> Resul
 
 /// The graph of a sketch.
 pub(crate) fn graph_of(alloc: Global, sketch: Sketch<'_>) -> Result<Graph, Fail> {
-    if sketch.inputs > 1000 {
+    if sketch.inputs > 2000 {
         return Err(Fail::from("there are few inputs"));
     }
     let mut draft = Draft::new(alloc, sketch.inputs)?;

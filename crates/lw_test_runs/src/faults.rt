@@ -20,13 +20,15 @@ struct Row<'a> {
     err: &'a [u8],
 }
 
-/// The number of the one call of each that fails, or 0, and the most bytes of a read or a write.
+/// The number of the one call of each that fails, or 0, the most bytes of a read or a write, and
+/// how many bytes out takes in all.
 #[derive(Clone, Copy)]
 struct Faults {
     shelf: u32,
     out: u32,
     err: u32,
     chunk: usize,
+    room: usize,
 }
 
 const CHUNK: usize = 7;
@@ -36,9 +38,10 @@ const NONE: Faults = Faults {
     out: 0,
     err: 0,
     chunk: CHUNK,
+    room: 2000,
 };
 
-const LIB: &[u8] =
+pub(crate) const LIB: &[u8] =
     b"GATE inv 1 O=!a;\nPIN * INV 1 999 1 0 1 0\nGATE nand2 2 O=!(a*b);\nPIN * INV 1 999 1.5 0 1.5 0\nGATE nand3 3 O=!(a*b*c);\nPIN * INV 1 999 2 0 2 0\n";
 
 const NAND: &[u8] = b"GATE nand2 2 O=!(a*b);\nPIN * INV 1 999 1.5 0 1.5 0\n";
@@ -175,7 +178,7 @@ const ROWS: [Row<'static>; 17] = [
     },
 ];
 
-fn file(alloc: Global, name: &[u8], bytes: &[u8]) -> Result<File, AllocError>
+pub(crate) fn file(alloc: Global, name: &[u8], bytes: &[u8]) -> Result<File, AllocError>
     requires { 0 < length name.now }
     ensures { IfOk result (λ file. file.name ≡ name.now) }
 {
@@ -207,7 +210,7 @@ fn shelf(alloc: Global, fails: u32, chunk: usize) -> Result<MemShelf, AllocError
     Ok(MemShelf::new(files, fails, chunk))
 }
 
-fn words(alloc: Global, text: &str) -> Result<Vec<String>, AllocError> {
+pub(crate) fn words(alloc: Global, text: &str) -> Result<Vec<String>, AllocError> {
     let mut words = Vec::new(alloc);
     for word in text.split_whitespace() {
         words.push(String::from_str(alloc, word)?)?;
@@ -221,7 +224,7 @@ fn holds(rt: &impl Abort, alloc: Global, row: Row<'_>, faults: Faults) -> Result
     let mut shelf = shelf(alloc, faults.shelf, chunk)?;
     let out_fails = Numbers::new(Vec::from_slice(alloc, &[faults.out])?);
     let err_fails = Numbers::new(Vec::from_slice(alloc, &[faults.err])?);
-    let mut out = MemSink::new(alloc, out_fails, chunk, 2000)?;
+    let mut out = MemSink::new(alloc, out_fails, chunk, faults.room)?;
     let mut err = MemSink::new(alloc, err_fails, chunk, 2000)?;
     let status = run(
         alloc,
@@ -304,6 +307,27 @@ fn calls_fail_in_turn(rt: HostRuntime) -> Result<(), Fail> {
         } else {
             err_fails(&rt, alloc, row)?;
         }
+    }
+    Ok(())
+}
+
+// A stream that takes 40 bytes has these, whatever a write takes, and then no more.
+#[test]
+fn a_full_stream_has_a_prefix(rt: HostRuntime) -> Result<(), Fail> {
+    let row = Row {
+        words: "map LIB IN",
+        reads: &[],
+        status: 7,
+        out: b".model and3\n.inputs a b c\n.outputs f\n.ga",
+        err: b"lwmap: cannot write\n",
+    };
+    for chunk in [1, 2, 3, CHUNK, 100] {
+        let faults = Faults {
+            chunk,
+            room: 40,
+            ..NONE
+        };
+        holds(&rt, rt.alloc(), row, faults)?;
     }
     Ok(())
 }
