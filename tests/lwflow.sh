@@ -133,6 +133,12 @@ awk 'BEGIN { print ".model large\n.inputs a b\n.outputs n263000\n.names a b n0\n
     for (i = 1; i <= 263000; i++) print ".names n" i - 1 " " (i % 2 ? "a" : "b") " n" i "\n11 1"; print ".end" }' >"$room/large.blif"
 run "more signals than lwmap takes" 1 'large.blif: the network has more than 262144 signals, .*tools/yosys-lwmap' -q -l $library "$room/large.blif"
 run "an area within 110% of the least delay" 0 'every step was shown' -q --area 110% -l $library bench/circuits/rca8_y.blif
+for status in 0 1; do
+    printf '#!/bin/sh\nexit %s\n' $status >"$room/lwequal" && chmod +x "$room/lwequal"
+    LWEQUAL_PROGRAM=$room/lwequal python3 lwflow -q -o "$room/made" --effort fast -l $library bench/circuits/rca8_y.blif >"$room/out" 2>"$room/err" &&
+        grep -q '^shown: network .*, by cec' "$room/out" && ! grep -q 'by lwequal' "$room/out"
+    verdict "an lwequal that says nothing and ends with $status is not believed" $?
+done
 
 # Liberty.
 osu=/usr/share/qflow/tech/osu035/osu035_stdcells.lib
