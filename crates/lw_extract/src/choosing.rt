@@ -22,7 +22,12 @@ pub struct Chosen {
 }
 
 // The chosen match of a class: the first of those that attain its label and its height.
-fn choice<C: Cost>(job: &Job<C>, bounds: &Bounds, tops: &mut Tops, class: ClassId) -> Option<Match>
+pub(crate) fn choice<C: Cost>(
+    job: &Job<C>,
+    bounds: &Bounds,
+    tops: &mut Tops,
+    class: ClassId,
+) -> Option<Match>
     requires ready { CanCover C.costs job.now }
     requires bounds { AreJobBounds job.now bounds.now }
     requires class { IsInnerClass job.now.graph.now class.0 }

@@ -20,7 +20,7 @@ use lw_pool::ClassId;
 use std::alloc::{AllocError, Global};
 
 // The first of the roots that has no mark.
-fn first_uncovered(marks: &[Option<Mark>], roots: &[ClassId]) -> Option<u32>
+pub(crate) fn first_uncovered(marks: &[Option<Mark>], roots: &[ClassId]) -> Option<u32>
     requires few { length roots.now < 2 ^ 32 }
     requires in_range { All (λ root. root.0 < length marks.now) roots.now }
     ensures { MatchOption result (All

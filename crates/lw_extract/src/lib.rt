@@ -21,6 +21,7 @@
 #![tactic(auto)]
 
 mod assembling;
+mod attaining;
 mod choosing;
 mod extracting;
 mod fault;
@@ -32,6 +33,7 @@ mod ordering;
 mod ports;
 
 pub use assembling::assemble;
+pub use attaining::{ClassMatches, attaining_matches};
 pub use choosing::Chosen;
 pub use extracting::{extract, extract_with};
 pub use fault::ExtractFault;

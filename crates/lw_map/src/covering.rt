@@ -41,7 +41,7 @@ pub struct Mapping {
 }
 
 /// The ports at which the graph of a network is covered.
-pub(crate) fn ports(alloc: Global, net: &Network, choices: &Choices) -> Result<Ports, AllocError>
+pub fn ports(alloc: Global, net: &Network, choices: &Choices) -> Result<Ports, AllocError>
     ensures { IfOk result (ArePortsOf net.now choices.now) }
 {
     let roots = Vec::from_slice(alloc, choices.roots.as_slice())?;

@@ -35,7 +35,7 @@ pub use certifying::certificate;
 pub use checking::check;
 pub use choices::{Choices, decompose};
 pub use counting::{Counts, Sizes, all_at_once, big, graph};
-pub use covering::{Mapping, cover};
+pub use covering::{Mapping, cover, ports};
 pub use fault::MapFault;
 pub use labelling::Labeller;
 pub use laws::tabled_texts_are_mappings;
