@@ -51,7 +51,7 @@ class Prover:
         return self.known[one, other]
 
     def steps(self, netlist):
-        """The steps behind a netlist, from the design on."""
+        """The steps to a netlist, from the design on."""
         last = netlist.network
         chain = []
         while last.parent is not None:
@@ -66,13 +66,12 @@ class Prover:
         return found
 
     def link(self, one, other):
-        what = f"{one.said} to {other.said}" if one.said != other.said else other.said
         verdict, why, by = self.compared(one.file, other.file)
         if verdict == "undecided" and one.file != "cut.blif":
             whole = self.compared("cut.blif", other.file)
             if whole.verdict == "equal":
                 verdict, why, by = whole
-        return Step(f"{what}, by {by}", verdict, why)
+        return Step(f"{one.name} to {other.name}, by {by}", verdict, why)
 
     def checked(self, netlist):
         """The netlist that lwmap wrote: equivalent by theorem, and lwmap check looks at its certificate."""
