@@ -21,7 +21,7 @@ def judged(one):
 
 
 def is_ours(one):
-    return one["by"].startswith("lwmap")
+    return one["by"].startswith(("lwmap", "lwarea"))
 
 
 def read_by(one):
