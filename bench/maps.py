@@ -136,7 +136,7 @@ def circuits(found):
         print(f"### Circuits of {folder} with {library}\n")
         titles = ["circuit"]
         for name in ("`lwmap`", "`map`"):
-            titles += [f"{name}: delay", "area", "median ms", "range", "MB"]
+            titles += [f"{name}: delay", "area", "median ms", "least", "most", "MB"]
         for name in ("`dch; map`", "three rounds", "`lwmap` after them"):
             titles += [f"{name}: delay", "area"]
         head(*titles)
@@ -151,10 +151,8 @@ def circuits(found):
 
 
 def spread(seconds):
-    """Median and range in milliseconds."""
-    if not seconds:
-        return "-", "-"
-    return f"{1000 * statistics.median(seconds):.1f}", f"{1000 * seconds[0]:.1f} to {1000 * seconds[-1]:.1f}"
+    """Median, least and most in milliseconds."""
+    return [f"{1000 * number:.1f}" for number in (statistics.median(seconds), seconds[0], seconds[-1])] if seconds else ["-"] * 3
 
 
 def with_all(found):
