@@ -3,92 +3,95 @@
 
   area.py [-t] [-l LIB] [-e EFFORTS] [-p PART]
 
-For each circuit of bench/circuits and each effort (EFFORTS, 123 without the option) it maps with the deadlines 'each', 'max', '102%' and the
-delay of ABC's 'strash; map', by a library of bench/libs (mcnc without the option). It prints a table of means of ratios to ABC's
-netlist, and one of processor time and memory beside 'lwmap map'. With -p every third circuit is taken, from PART on.
+For each circuit of bench/circuits and bench/further and each effort (EFFORTS, 123 without the option) it maps with the deadlines 'each', 'max',
+'102%' and ABC's delay, by a library of bench/libs (mcnc without the option): the circuit as given beside ABC's 'map', and ABC's netlist after
+four rounds beside itself. It prints a table of means of ratios to ABC's netlist, with processor time and memory beside 'lwmap map'. With -p
+every third circuit of bench/circuits is taken, from PART on. 'sh bench/all.sh' prints the same tables.
 
-With -t it is a test at effort 2: the means of area may not be above those of bench/area.csv, whose lines are 'LIB,DEADLINE,MEAN',
+With -t it is a test at effort 2, as given: the means of area may not be above those of bench/area.csv, whose lines are 'LIB,DEADLINE,MEAN',
 and no area above that of 'lwmap map'. The last line is then 'N passed, N failed'.
 """
 import csv
 import getopt
+import glob
 import os
-import subprocess
 import sys
 import tempfile
 
-from lib import program, script
-from measure import Library, Room, head, mean, row, said, tell
+from lib import fronts, program, script
+from maps import SCRIPTS
+from measure import Library, Room, head, mean, ratio, row, said
+from parts import both_mapped
 
 HERE = os.path.dirname(os.path.realpath(__file__))
 RECORD = os.path.join(HERE, "area.csv")
 SECONDS_EACH = 60
-
-
-def area_program():
-    found = subprocess.run(["sh", os.path.join(program.ROOT, "release", "program.sh"), "lwarea"], stdout=subprocess.PIPE, check=False)
-    if found.returncode:
-        raise script.Fault("there is no lwarea")
-    return os.fsdecode(found.stdout).rstrip("\n")
+COMMANDS = {"as given": SCRIPTS["map"], "after four rounds": f"{fronts.rounds(4)}; map"}
+DEADLINES = {"each": "each", "max": "max", "102%": "102%", "abc": "ABC's delay"}
+# The greatest effort takes long, so all libraries but this one go without it.
+WHOLE = "mcnc"
 
 
 def circuits(part):
-    folder = os.path.join(HERE, "circuits")
-    found = sorted(os.path.join(folder, name) for name in os.listdir(folder) if name.endswith(".blif"))
-    return found if part is None else found[part::3]
+    """The files of circuits, or every third one of bench/circuits."""
+    if part is None:
+        return sorted(glob.glob(os.path.join(HERE, "circuits", "*.blif")) + glob.glob(os.path.join(HERE, "further", "*.blif")))
+    return sorted(glob.glob(os.path.join(HERE, "circuits", "*.blif")))[part::3]
 
 
-class Measured:
-    """One circuit: what ABC and 'map' come to, and then each effort with each deadline."""
-
-    def __init__(self, room, recover, library, network):
-        self.room, self.recover, self.library, self.network = room, recover, library, network
-        self.name = os.path.splitext(os.path.basename(network))[0]
-        _, self.abc = room.mapped_by_abc(library, network, "strash; map")
-        self.run, self.least = room.mapped(library, network, "map")
-
-    def with_deadline(self, effort, deadline):
-        """The run, and delay and area."""
-        time = f"{self.abc[0]:.6f}" if deadline == "abc" else deadline
-        words = [self.recover, "-e", effort, "-t", time, self.library.path, self.network]
-        run = self.room.once(words, "recovered.blif")
-        return run, self.library.size(run.out) if run.ok() else None
-
-
-DEADLINES = ("each", "max", "102%", "abc")
-
-
-def measure(room, recover, library, part, efforts, deadlines):
-    """By effort and deadline the ratios of delay and area to ABC's, and those of time and memory to 'map'; and what failed."""
-    found, failed = {(e, d): ([], [], [], []) for e in efforts for d in deadlines}, []
-    for network in circuits(part):
-        of = Measured(room, recover, library, network)
-        if not of.abc or not of.least:
-            continue
-        tell(of.name)
-        for effort in efforts:
-            for deadline in deadlines:
-                run, size = of.with_deadline(effort, deadline)
-                if not size:
-                    failed.append(f"{of.name} -e {effort} -t {deadline}: ended with {run.status}")
-                    continue
-                if size[1] > of.least[1] + 1e-9:
-                    failed.append(f"{of.name} -e {effort} -t {deadline}: area {size[1]}, that of map is {of.least[1]}")
-                delays, areas, times, memories = found[effort, deadline]
-                delays.append(size[0] / of.abc[0])
-                areas.append(size[1] / of.abc[1])
-                times.append(max(run.seconds, 1e-3) / max(of.run.seconds, 1e-3))
-                memories.append(run.memory / of.run.memory if of.run.memory else 1)
-    return found, failed
-
-
-def show(found, efforts, deadlines):
-    head("effort", *(f"{d}: delay, area" for d in deadlines), "time to map", "most", "memory to map")
+def circuit(room, library, network, commands, efforts, deadlines):
+    """Delay, area, processor seconds and megabytes of ABC's netlist, of 'map' and of lwarea by effort and deadline; and what failed. After
+    rounds the network of both is ABC's netlist."""
+    theirs, ours, run, path = both_mapped(room, library, network, commands)
+    if not theirs or not ours:
+        return {"failed": ["no netlist of ABC or of map"]}
+    f = {"failed": [], "map s": max(run.seconds, 1e-3), "map MB": run.memory}
+    (f["abc"], f["abc area"]), (f["map"], f["map area"]) = theirs, ours
     for effort in efforts:
-        rows = [found[effort, d] for d in deadlines]
-        times = [t for one in rows for t in one[2]]
-        row(effort, *(f"{said(mean(one[0]))}, {said(mean(one[1]))}" for one in rows), said(mean(times), 1), said(max(times, default=None), 1),
-            said(mean([m for one in rows for m in one[3]]), 1))
+        for deadline in deadlines:
+            word, key = f"{f['abc']:.6f}" if deadline == "abc" else deadline, f"{effort} {deadline}"
+            run = room.once([program.path("lwarea"), "-e", effort, "-t", word, library.path, path], "recovered.blif")
+            if not run.ok():
+                f["failed"].append(f"-e {effort} -t {word}: ended with {run.status}")
+                continue
+            f[key], f[key + " area"] = library.size(run.out)
+            f[key + " s"], f[key + " MB"] = max(run.seconds, 1e-3), run.memory
+            if f[key + " area"] > f["map area"] + 1e-9:
+                f["failed"].append(f"-e {effort} -t {word}: area {f[key + ' area']}, that of map is {f['map area']}")
+    return f
+
+
+def title(*first):
+    columns = [cell for shown in DEADLINES.values() for cell in (f"{shown}: delay", "area")]
+    head(*first, "effort", "circuits", *columns, "time to `map`", "greatest", "memory to `map`")
+
+
+def show(figures, efforts, *first):
+    """A row for each effort: delay and area to ABC's netlist, time and memory to those of 'map'."""
+    for effort in efforts:
+        keys, cells = [f"{effort} {deadline}" for deadline in DEADLINES], []
+        for key in keys:
+            cells += [ratio(figures, key, "abc")[0], ratio(figures, key + " area", "abc area", 2)[0]]
+        times, memories = [[f[f"{key} {unit}"] / f[f"map {unit}"] for f in figures.values() for key in keys if f.get(f"{key} {unit}") and f[f"map {unit}"]]
+                           for unit in ("s", "MB")]
+        number = sum(all(f.get(key) for key in keys) for f in figures.values())
+        row(*first, effort, number, *cells, said(mean(times), 1), said(max(times, default=None), 1), said(mean(memories), 1))
+
+
+def part(room, kept, libraries, every, efforts):
+    """The part of bench/all.sh."""
+    room.limit, before, failed = SECONDS_EACH, room.limit, []
+    print(f"### Area with `lwarea`\n\nRatios to ABC's netlist after the same commands. A run may take {room.limit} s.\n")
+    title("library", "commands")
+    for library in libraries:
+        tried = [effort for effort in efforts if effort != "3" or library.name == WHOLE]
+        for kind, commands in COMMANDS.items():
+            figures = {name: kept.of("area", library.name, kind, name, make=lambda: circuit(room, library, path, commands, tried, DEADLINES))
+                       for name, path in every.items()}
+            show(figures, tried, library.name, kind)
+            failed += [f"{library.name}, {name} {kind}: {line}" for name, f in figures.items() for line in f["failed"]]
+    room.limit = before
+    print("".join(f"\n* {line}" for line in failed) + "\n")
 
 
 def recorded(library):
@@ -96,10 +99,10 @@ def recorded(library):
         return {deadline: float(mean_area) for name, deadline, mean_area in csv.reader(file) if name == library}
 
 
-def test(found, failed, most):
-    passed = 0
+def test(figures, most):
+    passed, failed = 0, [f"{name}: {line}" for name, f in figures.items() for line in f["failed"]]
     for deadline, limit in most.items():
-        area = mean(found["2", deadline][1])
+        area = mean([f[f"2 {deadline} area"] / f["abc area"] for f in figures.values() if f.get(f"2 {deadline} area")])
         if area is None or area > limit + 5e-4:
             failed.append(f"-t {deadline}: area {said(area)}, recorded {limit}")
         else:
@@ -112,20 +115,23 @@ def test(found, failed, most):
 
 def main(words):
     options = dict(getopt.getopt(words, "tl:e:p:")[0])
-    name, efforts = options.get("-l", "mcnc"), options.get("-e", "123")
-    part = int(options["-p"]) if "-p" in options else None
+    name, efforts = options.get("-l", WHOLE), options.get("-e", "123")
+    files = circuits(int(options["-p"]) if "-p" in options else None)
     with tempfile.TemporaryDirectory() as folder:
         room = Room(folder, program.path())
         room.limit = SECONDS_EACH
         library = Library(room, name, os.path.join(HERE, "libs", name + ".genlib"))
-        most = recorded(name)
-        efforts, deadlines = ("2", list(most)) if "-t" in options else (efforts, DEADLINES)
-        found, failed = measure(room, area_program(), library, part, efforts, deadlines)
+        program.path("lwarea")
         if "-t" in options:
-            sys.exit(test(found, failed, most))
-        show(found, efforts, deadlines)
-        for line in failed:
-            print("failed:", line)
+            most = recorded(name)
+            sys.exit(test({file: circuit(room, library, file, COMMANDS["as given"], "2", most) for file in files}, most))
+        title("commands")
+        for kind, commands in COMMANDS.items():
+            figures = {file: circuit(room, library, file, commands, efforts, DEADLINES) for file in files}
+            show(figures, efforts, kind)
+            for file, f in figures.items():
+                for line in f["failed"]:
+                    print(f"failed: {os.path.basename(file)} {kind}: {line}", file=sys.stderr)
 
 
 if __name__ == "__main__":

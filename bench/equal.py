@@ -2,70 +2,57 @@
 """Measures lwequal beside ABC's cec; equal.sh says how it is called and what it prints."""
 import os
 import random
-import resource
-import subprocess
 import sys
 import tempfile
-from collections import namedtuple
 from glob import glob
 
-ROOT = os.path.dirname(os.path.dirname(os.path.realpath(__file__)))
-sys.path.insert(0, ROOT + "/tools")
-from lib import program  # noqa: E402
+from lib import fronts, program, script
+from measure import ABC, Library, Room, head, row
 
-LIBRARY = os.environ.get("LIBRARY", ROOT + "/bench/libs/mcnc.genlib")
+HERE = os.path.dirname(os.path.realpath(__file__))
+LIBRARY = os.environ.get("LIBRARY", os.path.join(HERE, "libs", "mcnc.genlib"))
 RUNS = int(os.environ.get("RUNS", "2"))
 LIMIT = int(os.environ.get("SECONDS_EACH", "60"))
-ROUND = "if -g -K 6; strash; dch; "
-FRONTS = {"dch": "dch; ", "2 rounds": ROUND * 2, "4 rounds": ROUND * 4}
-CHANGED = ("dch", "2 rounds", "4 rounds", "lwmap")
-Took = namedtuple("Took", "status out err seconds memory")
+FRONTS = {"dch; map": "strash; dch; map", "two rounds": fronts.rounds(2) + "; map", "four rounds": fronts.rounds(4) + "; map"}
 SAID = {0: "equal", 1: "differ", 2: "undecided"}
 
 
-def once(command):
-    """A run: its status, what it wrote, its processor seconds and its kilobytes."""
-    with tempfile.TemporaryFile() as out, tempfile.TemporaryFile() as err:
-        process = subprocess.Popen(command, stdin=subprocess.DEVNULL, stdout=out, stderr=err,
-                                   preexec_fn=lambda: resource.setrlimit(resource.RLIMIT_CPU, (LIMIT, LIMIT)))
-        _, code, usage = os.wait4(process.pid, 0)
-        process.returncode = os.waitstatus_to_exitcode(code)
-        out.seek(0), err.seek(0)
-        texts = (out.read().decode(errors="replace"), err.read().decode(errors="replace"))
-    return Took(process.returncode, *texts, usage.ru_utime + usage.ru_stime, usage.ru_maxrss)
+def text_of(path):
+    with open(path, encoding="utf-8", errors="replace") as file:
+        return file.read()
 
 
-def least(command):
-    """The run of least seconds among a few."""
-    return min((once(command) for _ in range(RUNS)), key=lambda took: took.seconds)
+def least(room, command):
+    """The run of least seconds among a few, and what it wrote on both streams."""
+    runs = []
+    for _ in range(RUNS):
+        run = room.once(command)
+        runs.append((run.seconds, run, text_of(run.out), text_of(room.path("err"))))
+    return min(runs, key=lambda one: one[0])[1:]
 
 
-def abc(script):
-    """What ABC says, and how long it took."""
-    return least(["berkeley-abc", "-q", script])
-
-
-def netlists(circuit, room):
+def netlists(room, library, circuit):
     """The netlists that a circuit is compared with, by name."""
     made = {}
-    for name, front in FRONTS.items():
-        file = f"{room}/{name.replace(' ', '')}.blif"
-        once(["berkeley-abc", "-q", f"read_genlib {LIBRARY}; read_blif {circuit}; strash; {front}map; write_blif {file}"])
-        made[name] = file
-    file = room + "/lwmap.blif"
-    took = once([program.path(), "map", LIBRARY, circuit])
-    if took.status == 0:
-        with open(file, "w", encoding="utf-8") as out:
-            out.write(took.out)
-        made["lwmap"] = file
-    return {name: file for name, file in made.items() if os.path.exists(file)}
+    for name, commands in FRONTS.items():
+        file = room.path(name.replace(" ", "").replace(";", "") + ".blif")
+        room.mapped_by_abc(library, circuit, commands)
+        if os.path.exists(room.path("abc.blif")):
+            os.replace(room.path("abc.blif"), file)
+            made[name] = file
+    ours = {"lwmap": [program.path(), "map", library.path, circuit]}
+    if program.has("lwarea"):
+        ours["lwarea"] = [program.path("lwarea"), library.path, circuit]
+    for name, command in ours.items():
+        if room.once(command, name + ".blif").ok():
+            made[name] = room.path(name + ".blif")
+    return made
 
 
 def changed(file, seed):
     """The netlist with one gate exchanged for another cell with the same pins, drawn by the seed; None where there is none."""
     draw = random.Random(seed)
-    with open(file, encoding="utf-8") as given:
-        lines = given.read().split("\n")
+    lines = text_of(file).split("\n")
     pins = {}
     for line in lines:
         words = line.split()
@@ -86,40 +73,66 @@ def changed(file, seed):
     return result
 
 
-def beside(circuit, other):
-    """lwequal and cec on one pair: what both say, outputs left, conflicts, seconds of both, kilobytes."""
-    ours = least([program.path("lwequal"), "-l", LIBRARY, "-s", circuit, other])
-    theirs = abc(f"read_genlib {LIBRARY}; cec {circuit} {other}")
-    text = theirs.out + theirs.err
+def compared(room, library, circuit, other):
+    """lwequal and cec on one pair: what both say, outputs left, conflicts, seconds of both, megabytes of both. ABC's reader gets the
+    netlist as plain nodes."""
+    ours, out, err = least(room, [program.path("lwequal"), "-l", library.peers, "-s", circuit, other])
+    theirs, text, _ = least(room, [ABC, "-s", "-q", f"cec {circuit} {library.plain(room, other)}"])
     said = "differ" if "NOT EQUIVALENT" in text else "equal" if "are equivalent" in text else "undecided"
-    counts = ours.err.split()
+    counts = err.split()
     conflicts = int(counts[counts.index("conflicts") + 1]) if "conflicts" in counts else 0
-    return (SAID.get(ours.status, f"status {ours.status}"), said, ours.out.count("undecided "), conflicts, ours.seconds, theirs.seconds, ours.memory)
+    return [SAID.get(ours.status, f"status {ours.status}"), said, out.count("undecided "), conflicts, ours.seconds, theirs.seconds,
+            ours.memory, theirs.memory]
+
+
+def circuit_rows(room, library, circuit):
+    """The rows of a circuit: the other network, and what both came to."""
+    before, room.limit = room.limit, LIMIT
+    made = netlists(room, library, circuit)
+    pairs = list(made.items())
+    pairs += [(name + ", one gate changed", changed(file, os.path.basename(circuit) + name)) for name, file in made.items()]
+    rows = [[other, *compared(room, library, circuit, file)] for other, file in pairs if file]
+    room.limit = before
+    return rows
+
+
+def table(rows):
+    """Prints the sums by kind of the other network."""
+    head("other network", "pairs", "equal", "differ", "outputs left", "as `cec` says", "conflicts", "s of `lwequal`", "of `cec`", "greatest s", "of `cec`",
+         "greatest MB", "of `cec`")
+    for kind in dict.fromkeys(one[0] for one in rows):
+        of = [one for one in rows if one[0] == kind]
+        row(kind, len(of), sum(one[1] == "equal" for one in of), sum(one[1] == "differ" for one in of), sum(one[3] for one in of),
+            sum(one[1] == one[2] for one in of), sum(one[4] for one in of), *[f"{sum(one[k] for one in of):.1f}" for k in (5, 6)],
+            *[f"{max(one[k] for one in of):.1f}" for k in (5, 6)], *[f"{max(one[k] for one in of):.0f}" for k in (7, 8)])
+
+
+def part(room, kept, library, every):
+    """The part of bench/all.sh."""
+    print(f"### `lwequal` and `cec`\n\nEach circuit and netlists of it with {library.name}. A run may take {LIMIT} s.\n")
+    table([one for name, path in every.items() for one in kept.of("equal", name, make=lambda: circuit_rows(room, library, path))])
+    print()
 
 
 def main(words):
-    circuits = sorted(glob(ROOT + "/bench/circuits/*.blif") + glob(ROOT + "/bench/further/*.blif"), key=os.path.basename)
-    chosen = [file for file in circuits if not words or os.path.basename(file).removesuffix(".blif") in words]
-    print("circuit, other network: lwequal, cec, outputs left, conflicts, seconds of lwequal, of cec, kB")
+    files = sorted(glob(os.path.join(HERE, "circuits", "*.blif")) + glob(os.path.join(HERE, "further", "*.blif")), key=os.path.basename)
     rows = []
-    for circuit in chosen:
-        name = os.path.basename(circuit).removesuffix(".blif")
-        with tempfile.TemporaryDirectory(prefix="equal.") as room:
-            made = netlists(circuit, room)
-            pairs = list(made.items())
-            pairs += [(front + ", one gate changed", changed(made[front], name + front)) for front in CHANGED if front in made]
-            for other, file in pairs:
-                if file:
-                    rows.append((other, *beside(circuit, file)))
-                    print(f"{name}, {other}: {rows[-1][1]}, {rows[-1][2]}, {rows[-1][3]}, {rows[-1][4]}, {rows[-1][5]:.2f}, {rows[-1][6]:.2f}, {rows[-1][7]}",
-                          flush=True)
-    for kind in dict.fromkeys(row[0] for row in rows):
-        of = [row for row in rows if row[0] == kind]
-        same = sum(row[1] == row[2] for row in of)
-        print(f"all of '{kind}': {len(of)} pairs, {sum(row[1] == 'equal' for row in of)} equal, {sum(row[1] == 'differ' for row in of)} differ, "
-              f"{sum(row[3] for row in of)} outputs left, as cec says {same}; {sum(row[5] for row in of):.1f} s, cec {sum(row[6] for row in of):.1f} s; "
-              f"at most {max(row[7] for row in of) / 1000:.0f} MB")
+    with tempfile.TemporaryDirectory() as folder:
+        room = Room(folder, program.path())
+        library = Library(room, "library", LIBRARY)
+        program.path("lwequal")
+        print("circuit, other network: lwequal, cec, outputs left, conflicts, seconds of lwequal, of cec, MB of lwequal, of cec")
+        for file in files:
+            name = os.path.basename(file).removesuffix(".blif")
+            for one in circuit_rows(room, library, file) if not words or name in words else []:
+                rows.append(one)
+                print(f"{name}, {one[0]}: " + ", ".join(f"{value:.2f}" if isinstance(value, float) else str(value) for value in one[1:]), flush=True)
+    print()
+    table(rows)
 
 
 if __name__ == "__main__":
-    main(sys.argv[1:])
+    if not ABC:
+        print("skipped: berkeley-abc is not on this machine")
+    else:
+        script.run("equal", main)
