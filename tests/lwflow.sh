@@ -147,6 +147,12 @@ printf '#!/bin/sh\necho lwarea: out of memory >&2; exit 8\n' >"$room/lwarea" && 
 LWAREA_PROGRAM=$room/lwarea python3 lwflow -q -o "$room/made" -l $library bench/circuits/rca8_y.blif >"$room/out" 2>"$room/err" &&
     grep -q '^  kept .* lwmap -w 6' "$room/out" && grep -q '^left out: lwarea -w 6 -t max, after 3 rounds: lwarea: out of memory' "$room/out"
 verdict "an lwarea that fails is left out" $?
+for status in 0 1; do
+    printf '#!/bin/sh\nexit %s\n' $status >"$room/lwequal" && chmod +x "$room/lwequal"
+    LWEQUAL_PROGRAM=$room/lwequal python3 lwflow -q -o "$room/made" --effort fast -l $library bench/circuits/rca8_y.blif >"$room/out" 2>"$room/err" &&
+        grep -q '^shown: network .*, by cec' "$room/out" && ! grep -q 'by lwequal' "$room/out"
+    verdict "an lwequal that says nothing and ends with $status is not believed" $?
+done
 
 # Liberty.
 osu=/usr/share/qflow/tech/osu035/osu035_stdcells.lib

@@ -5,20 +5,20 @@ from collections import namedtuple
 from . import abc, program, runs
 
 Answer = namedtuple("Answer", "verdict why by")
-VERDICTS = {0: "equal", 1: "different"}
+# The verdicts by status, with the word that the answer begins with.
+VERDICTS = {0: ("equal", "equal"), 1: ("different", "differ ")}
 
 
 def by_lwequal(one, other, room, log, limit):
-    """What lwequal says of two networks in BLIF: its verdict, None where it has none, and the output that differs."""
+    """What lwequal says of two networks in BLIF: its verdict, None if it has none, and the output that differs."""
     if not (one.endswith(".blif") and other.endswith(".blif") and program.has("lwequal")):
         return None, ""
     out = os.path.join(room, log + ".out")
     ended = runs.run([program.path("lwequal"), one, other], os.path.join(room, log), cwd=room, limit=limit, out=out)
-    verdict = VERDICTS.get(ended.status)
-    if verdict != "different":
-        return verdict, ""
+    verdict, word = VERDICTS.get(ended.status, (None, ""))
     with open(out, encoding="utf-8", errors="replace") as file:
-        return verdict, file.readline().rstrip("\n").removeprefix("differ ")
+        said = file.readline().rstrip("\n")
+    return (verdict, said.removeprefix(word)) if said.startswith(word) else (None, "")
 
 
 def compared(one, other, room, log, limit):
