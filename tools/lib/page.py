@@ -118,7 +118,7 @@ def answer(found):
     if is_ours(kept):
         said += [compared(kept, found[key], name) for key, name in (("abc", "ABC's best netlist of this search"),) if found[key]]
     elif found["lwmap"]:
-        said.append(compared(kept, found["lwmap"], "the best netlist of lwmap"))
+        said.append(compared(kept, found["lwmap"], "the best netlist of lwmap and lwarea"))
     if found["abc_as_given"] and name_of(found["abc_as_given"]) != name_of(kept):
         said.append(compared(kept, found["abc_as_given"], "ABC's map on the design as given"))
     parts += [f"<p>It is {text(one)}.</p>" for one in said]

@@ -58,7 +58,7 @@ def text(found):
     parts = [f"{design['top']}: {design['kind']}, {design['nodes']} nodes, {design['registers']} registers; {found['library']['file']}, "
              f"{found['library']['cells']} cells; effort {found['effort']}, {len(found['netlists'])} netlists\n\n",
              " " * 16 + "".join(f"{head:>13}" for head in heads) + "\n"]
-    for name, key in (("kept", "kept"), ("least, lwmap", "lwmap"), ("least, ABC", "abc"), ("ABC, as given", "abc_as_given")):
+    for name, key in (("kept", "kept"), ("least, ours", "lwmap"), ("least, ABC", "abc"), ("ABC, as given", "abc_as_given")):
         if found[key]:
             parts.append(line(name, found[key], loads))
     parts.append("\n" + won(found, loads))
