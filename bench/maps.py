@@ -6,8 +6,10 @@ from lib import fronts
 from measure import ABC, UNMAP, common, counted, head, mean, plain, ratio, row, said
 
 ROUNDS = fronts.rounds(3)
-SCRIPTS = {"map": "strash; map", "dch; map": "strash; dch; map", "three rounds": f"{ROUNDS}; map"}
-MAPPED = ["dch; map", "three rounds"]
+SCRIPTS = {"map": "strash; map", "dch; map": "strash; dch; map", "one round": f"{fronts.rounds(1)}; map", "three rounds": f"{ROUNDS}; map"}
+MAPPED = ["dch; map", "one round", "three rounds"]
+# What networks as given are compared with.
+BASELINES = ["map", "dch; map", "three rounds"]
 FRONTS = {"strash": "strash", "if -K 4": "strash; if -K 4; sop"}
 AFTER = ["after " + name for name in [*FRONTS, *MAPPED]]
 
@@ -75,12 +77,12 @@ def measure(room, kept, libraries, sets):
 def summary(found, verdicts):
     print("### Summary\n")
     titles = ["set, library", "circuits"]
-    for name in SCRIPTS:
+    for name in BASELINES:
         titles += [f"to {name}: delay", "lower/equal/higher", "area"]
     head(*titles)
     for (folder, library), figures in found.items():
         cells = [f"{folder}, {library}", f"{sum('given' in f for f in figures.values())} of {len(figures)}"]
-        for name in SCRIPTS:
+        for name in BASELINES:
             delay, _, order = ratio(figures, "given", name)
             cells += [delay, order, ratio(figures, "given area", name + " area", 2)[0]]
         row(*cells)
@@ -107,7 +109,7 @@ def after(found):
 def front_ends(found):
     print("### Front ends\n")
     columns = ["given", *AFTER, *MAPPED]
-    head("set, library", "circuits in common", *columns[:-2], *["ABC: " + name for name in MAPPED])
+    head("set, library", "circuits in common", *columns[:-len(MAPPED)], *["ABC: " + name for name in MAPPED])
     for (folder, library), figures in found.items():
         among = common(figures, ["map", *columns])
         row(f"{folder}, {library}", len(among), *[ratio(figures, name, "map", 3, among)[0] + ", " +
@@ -144,7 +146,7 @@ def circuits(found):
             cells = [circuit]
             for name in ("given", "map"):
                 cells += [plain(f.get(name)), plain(f.get(name + " area")), *spread(f.get(name + " s")), f"{f.get(name + ' MB', 0):.0f}"]
-            for name in (*MAPPED, "after three rounds"):
+            for name in (*BASELINES[1:], "after three rounds"):
                 cells += [plain(f.get(name)), plain(f.get(name + " area"))]
             row(*cells)
         print()
