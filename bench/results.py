@@ -4,8 +4,8 @@
   results.py PRINTED..
 
 Each table of the page is exchanged for the printed one whose first row begins with its own, or, if there are several, for that of them with
-the same heading too. A printed table that the page lacks is told with its heading, as is a table of the page that was not printed. What the page says
-in words is not changed: read it against the new tables.
+the same heading too. A printed table that the page lacks goes to the end of the section with its heading, if that has no table; else it is told,
+as is a table of the page that was not printed. What the page says in words is not changed: read it against the new tables.
 """
 import os
 import sys
@@ -52,6 +52,20 @@ def fitting(table, printed):
     return (named or (same if len(same) == 1 else [None]))[0]
 
 
+def added(lines, table):
+    """Whether a table was put at the end of the section of its heading, which had none."""
+    named = [place for place, line in enumerate(lines) if line.startswith("#") and line.strip("# ") == table.heading]
+    if not named:
+        return False
+    end = next((place for place in range(named[0] + 1, len(lines)) if lines[place].startswith("#")), len(lines))
+    if any(line.startswith("|") for line in lines[named[0]:end]):
+        return False
+    while not lines[end - 1]:
+        end -= 1
+    lines[end:end] = ["", *table.rows]
+    return True
+
+
 def main(words):
     if not words:
         raise Fault("usage: python3 bench/results.py PRINTED..")
@@ -64,8 +78,9 @@ def main(words):
             lines[table.first:table.last] = found.rows
         else:
             print(f"not printed: {table.heading}: {table.head()[:60]}")
-    for table in printed:
-        if table not in taken:
+    further = [table for table in printed if table not in taken]
+    for table in further:
+        if not added(lines, table):
             print(f"not on the page: {table.heading}: {table.head()[:60]}")
     with open(PAGE, "w", encoding="utf-8") as out:
         out.write("\n".join(lines))
