@@ -126,7 +126,7 @@ def front_ends(found):
 
 
 def recovery(found):
-    print("### `lwarea` after the same commands, to `map` of ABC\n")
+    print("### Front ends with `lwarea`\n")
     columns = ["given recovered", *(f"after {name} recovered" for name in MAPPED)]
     head("set, library", "circuits in common", *(column.removesuffix(" recovered") for column in columns))
     for (folder, library), figures in found.items():
