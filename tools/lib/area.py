@@ -30,7 +30,7 @@ def asked(work, area, netlist):
         ours = [one for one in work.netlists if one.ours()] if kind == "each" else work.netlists
         return kind if work.loads or netlist.delay <= min(one.delay for one in ours) else None
     if work.loads:
-        part = int(100 * latest / netlist.rank()[0]) if netlist.rank()[0] else MOST
+        part = int(100 * latest / netlist.rank()[0] + 1e-6) if netlist.rank()[0] else MOST
         return f"{min(max(part, LEAST), MOST)}%"
     return genlib.show(latest) if netlist.delay <= latest else None
 

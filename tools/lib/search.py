@@ -16,7 +16,7 @@ Effort = namedtuple("Effort", "fronts rounds loop widths search proof area recov
 EFFORTS = {
     "fast": Effort(("if4",), 1, 0, (6,), 2, 2, 1, 2),
     "normal": Effort(("if4", "dch+map"), 3, 0, (6,), 10, 10, 2, 4),
-    "best": Effort(("if4", "dch+map"), 4, 20, (6, 8), 30, 40, 3, 6),
+    "best": Effort(("if4", "dch+map"), 4, 20, (6, 8), 30, 40, 3, 4),
 }
 # The program whose theorem speaks of a netlist, its width, and its command with a certificate, without the files; None where it has none.
 Maker = namedtuple("Maker", "program width certified", defaults=(None, None))
