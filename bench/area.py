@@ -1,15 +1,16 @@
 #!/usr/bin/env python3
 """Delay and area of lwarea by effort and deadline, beside ABC's 'map'.
 
-  area.py [-t] [-l LIB] [-e EFFORTS] [-p PART]
+  area.py [-t | -r] [-l LIB] [-e EFFORTS] [-p PART]
 
 For each circuit of bench/circuits and bench/further and each effort (EFFORTS, 123 without the option) it maps with the deadlines 'each', 'max',
 '102%' and ABC's delay, by a library of bench/libs (mcnc without the option): the circuit as given beside ABC's 'map', and ABC's netlist after
 four rounds beside itself. It prints a table of means of ratios to ABC's netlist, with processor time and memory beside 'lwmap map'. With -p
-every third circuit of bench/circuits is taken, from PART on. 'sh bench/all.sh' prints the same tables.
+every third circuit is taken, from PART on. 'sh bench/all.sh' prints the same tables.
 
-With -t it is a test at effort 2, as given: the means of area may not be above those of bench/area.csv, whose lines are 'LIB,DEADLINE,MEAN',
-and no area above that of 'lwmap map'. The last line is then 'N passed, N failed'.
+With -r it writes bench/area.csv, a line 'circuit,deadline,area' for each circuit as given and each deadline but ABC's delay, at effort 2 with
+mcnc. With -t it is a test: none of these areas may be above the recorded one, nor above that of 'lwmap map'. Areas that are smaller are
+printed too, and the file is then to be written anew. The last line is 'N passed, N failed'. Neither needs ABC.
 """
 import csv
 import getopt
@@ -20,7 +21,7 @@ import tempfile
 
 from lib import fronts, program, script
 from maps import SCRIPTS
-from measure import Library, Room, head, mean, ratio, row, said
+from measure import Library, Room, head, mean, plain, ratio, row, said
 from parts import both_mapped
 
 HERE = os.path.dirname(os.path.realpath(__file__))
@@ -28,15 +29,16 @@ RECORD = os.path.join(HERE, "area.csv")
 SECONDS_EACH = 60
 COMMANDS = {"as given": SCRIPTS["map"], "after four rounds": f"{fronts.rounds(4)}; map"}
 DEADLINES = {"each": "each", "max": "max", "102%": "102%", "abc": "ABC's delay"}
+RECORDED = ("each", "max", "102%")
 # The greatest effort takes long, so all libraries but this one go without it.
 WHOLE = "mcnc"
 
 
 def circuits(part):
-    """The files of circuits, or every third one of bench/circuits."""
-    if part is None:
-        return sorted(glob.glob(os.path.join(HERE, "circuits", "*.blif")) + glob.glob(os.path.join(HERE, "further", "*.blif")))
-    return sorted(glob.glob(os.path.join(HERE, "circuits", "*.blif")))[part::3]
+    """The files of circuits by name, all or every third one."""
+    found = glob.glob(os.path.join(HERE, "circuits", "*.blif")) + glob.glob(os.path.join(HERE, "further", "*.blif"))
+    named = sorted((os.path.basename(path).removesuffix(".blif"), path) for path in found)
+    return dict(named if part is None else named[part::3])
 
 
 def circuit(room, library, network, commands, efforts, deadlines):
@@ -94,27 +96,46 @@ def part(room, kept, libraries, every, efforts):
     print("".join(f"\n* {line}" for line in failed) + "\n")
 
 
-def recorded(library):
+def areas(room, library, network):
+    """The area by each deadline of the record, None where there is no netlist; and what is above that of 'map'."""
+    found, failed = {}, []
+    _, least = room.mapped(library, network, "map")
+    for deadline in RECORDED:
+        run = room.once([program.path("lwarea"), "-e", "2", "-t", deadline, library.path, network], "recovered.blif")
+        found[deadline] = library.size(run.out)[1] if run.ok() else None
+        if run.ok() and least and found[deadline] > least[1] + 1e-9:
+            failed.append(f"-t {deadline}: area {found[deadline]}, that of map is {least[1]}")
+    return found, failed
+
+
+def record(room, library, files):
+    with open(RECORD, "w", encoding="ascii", newline="") as file:
+        lines = csv.writer(file, lineterminator="\n")
+        for name, path in files.items():
+            lines.writerows([name, deadline, plain(area)] for deadline, area in areas(room, library, path)[0].items() if area is not None)
+
+
+def test(room, library, files):
     with open(RECORD, encoding="ascii", newline="") as file:
-        return {deadline: float(mean_area) for name, deadline, mean_area in csv.reader(file) if name == library}
-
-
-def test(figures, most):
-    passed, failed = 0, [f"{name}: {line}" for name, f in figures.items() for line in f["failed"]]
-    for deadline, limit in most.items():
-        area = mean([f[f"2 {deadline} area"] / f["abc area"] for f in figures.values() if f.get(f"2 {deadline} area")])
-        if area is None or area > limit + 5e-4:
-            failed.append(f"-t {deadline}: area {said(area)}, recorded {limit}")
-        else:
+        recorded = {(name, deadline): float(area) for name, deadline, area in csv.reader(file) if name in files}
+    passed, failed = 0, []
+    for name, path in files.items():
+        found, above = areas(room, library, path)
+        failed += [f"{name}: {line}" for line in above]
+        for deadline, area in found.items():
+            then = recorded.get((name, deadline))
+            if area is None or then is None or area > then + 1e-9:
+                failed.append(f"{name} -t {deadline}: area {area}, recorded {then}")
+                continue
             passed += 1
-    for line in failed:
-        print("worse:", line)
-    print(f"{passed} passed, {len(failed)} failed")
+            if area < then - 1e-9:
+                print(f"better: {name} -t {deadline}: area {plain(area)}, recorded {plain(then)}")
+    print("".join(f"worse: {line}\n" for line in failed) + f"{passed} passed, {len(failed)} failed")
     return 1 if failed or not passed else 0
 
 
 def main(words):
-    options = dict(getopt.getopt(words, "tl:e:p:")[0])
+    options = dict(getopt.getopt(words, "trl:e:p:")[0])
     name, efforts = options.get("-l", WHOLE), options.get("-e", "123")
     files = circuits(int(options["-p"]) if "-p" in options else None)
     with tempfile.TemporaryDirectory() as folder:
@@ -122,16 +143,15 @@ def main(words):
         room.limit = SECONDS_EACH
         library = Library(room, name, os.path.join(HERE, "libs", name + ".genlib"))
         program.path("lwarea")
-        if "-t" in options:
-            most = recorded(name)
-            sys.exit(test({file: circuit(room, library, file, COMMANDS["as given"], "2", most) for file in files}, most))
+        if "-t" in options or "-r" in options:
+            sys.exit((test if "-t" in options else record)(room, library, files))
         title("commands")
         for kind, commands in COMMANDS.items():
-            figures = {file: circuit(room, library, file, commands, efforts, DEADLINES) for file in files}
+            figures = {circuit_name: circuit(room, library, path, commands, efforts, DEADLINES) for circuit_name, path in files.items()}
             show(figures, efforts, kind)
-            for file, f in figures.items():
+            for circuit_name, f in figures.items():
                 for line in f["failed"]:
-                    print(f"failed: {os.path.basename(file)} {kind}: {line}", file=sys.stderr)
+                    print(f"failed: {circuit_name} {kind}: {line}", file=sys.stderr)
 
 
 if __name__ == "__main__":
