@@ -3,8 +3,7 @@
 
   python3 docs/pictures/means.py [PAGE [PICTURE]]
 
-The table has the columns: commands, ABC's delay and area, lwmap's delay and area, and the area of lwarea, whose delay is that of lwmap. Both
-scales are logarithmic.
+The table has the columns: commands, ABC's delay and area, lwmap's delay and area. Both scales are logarithmic.
 """
 import math
 import os
@@ -13,20 +12,20 @@ import sys
 
 ROOT = os.path.dirname(os.path.dirname(os.path.dirname(os.path.realpath(__file__))))
 WIDTH, HEIGHT, LEFT, RIGHT, TOP, BOTTOM = 760, 430, 70, 30, 64, 74
-NOTE = "Geometric means of 49 circuits, library mcnc, ABC 1.01, December 2026; logarithmic scales"
+NOTE = "Geometric means of 49 circuits, library mcnc, lwmap 0.2.0, ABC 1.01, December 2026; logarithmic scales"
 DELAYS, AREAS = (0.6, 1.05), (0.8, 2.0)
 STYLE = """text { font-family: sans-serif; font-size: 13px; fill: #1f2328 } .grid { stroke: #d0d7de } .pair { stroke: #8c959f; stroke-dasharray: 4 3 }
-.abc { fill: #ffffff; stroke: #57606a; stroke-width: 2 } .lwmap { fill: #b84a0a } .lwarea { fill: #0969da } .note { font-size: 11px } .title { font-size: 16px; font-weight: bold }
+.abc { fill: #ffffff; stroke: #57606a; stroke-width: 2 } .lwmap { fill: #b84a0a } .note { font-size: 11px } .title { font-size: 16px; font-weight: bold }
 .back { fill: #ffffff }
-@media (prefers-color-scheme: dark) { text { fill: #e6edf3 } .back { fill: #0d1117 } .grid { stroke: #30363d } .abc { fill: #0d1117; stroke: #9da7b3 } .lwmap { fill: #f0883e } .lwarea { fill: #58a6ff } }"""
+@media (prefers-color-scheme: dark) { text { fill: #e6edf3 } .back { fill: #0d1117 } .grid { stroke: #30363d } .abc { fill: #0d1117; stroke: #9da7b3 } .lwmap { fill: #f0883e } }"""
 
 
 def rows_of(page):
-    """Name and five figures of each row of the table."""
+    """Name and four figures of each row of the table."""
     with open(page, encoding="utf-8") as text:
         cells = [[cell.strip() for cell in line.split("|")[1:-1]] for line in text if line.startswith("|")]
-    return [(row[0].replace("`", ""), *map(float, row[1:6])) for row in cells
-            if len(row) >= 6 and all(re.fullmatch(r"\d\.\d\d", cell) for cell in row[1:6])]
+    return [(row[0].replace("`", ""), *map(float, row[1:5])) for row in cells
+            if len(row) >= 5 and all(re.fullmatch(r"\d\.\d\d", cell) for cell in row[1:5])]
 
 
 def place(value, bounds, start, end):
@@ -56,21 +55,19 @@ def grid():
 
 def points(rows):
     for name, *figures in rows:
-        (ax, ay), (bx, by), cy = (x_of(figures[0]), y_of(figures[1])), (x_of(figures[2]), y_of(figures[3])), y_of(figures[4])
-        yield f'<line class="pair" x1="{ax:.1f}" y1="{ay:.1f}" x2="{bx:.1f}" y2="{cy:.1f}"/><line class="pair" x1="{bx:.1f}" y1="{by:.1f}" x2="{bx:.1f}" y2="{cy:.1f}"/>'
+        (ax, ay), (bx, by) = ((x_of(d), y_of(a)) for d, a in (figures[:2], figures[2:]))
+        yield f'<line class="pair" x1="{ax:.1f}" y1="{ay:.1f}" x2="{bx:.1f}" y2="{by:.1f}"/>'
         yield f'<circle class="abc" cx="{ax:.1f}" cy="{ay:.1f}" r="6"/><circle class="lwmap" cx="{bx:.1f}" cy="{by:.1f}" r="6"/>'
-        yield f'<circle class="lwarea" cx="{bx:.1f}" cy="{cy:.1f}" r="6"/>'
         yield text(ax, ay + 22, name)
 
 
 def picture(rows):
     parts = [text(LEFT, 24, "Delay and area relative to ABC's strash; map", "title", "start"),
              f'<circle class="abc" cx="{LEFT + 6}" cy="42" r="6"/>', text(LEFT + 18, 46, "ABC's map", anchor="start"),
-             f'<circle class="lwmap" cx="{LEFT + 116}" cy="42" r="6"/>', text(LEFT + 128, 46, "lwmap", anchor="start"),
-             f'<circle class="lwarea" cx="{LEFT + 196}" cy="42" r="6"/>', text(LEFT + 208, 46, "lwarea; each after the same commands of ABC", anchor="start"),
+             f'<circle class="lwmap" cx="{LEFT + 116}" cy="42" r="6"/>', text(LEFT + 128, 46, "lwmap, after the same commands of ABC", anchor="start"),
              text((LEFT + WIDTH - RIGHT) / 2, HEIGHT - 26, "delay"), text(LEFT, HEIGHT - 6, NOTE, "note", "start"), text(20, TOP - 8, "area", anchor="start"), *grid(), *points(rows)]
     return (f'<svg xmlns="http://www.w3.org/2000/svg" viewBox="0 0 {WIDTH} {HEIGHT}" width="{WIDTH}" height="{HEIGHT}" role="img">'
-            f'<title>Delay and area of ABC, lwmap and lwarea, geometric means</title><style>{STYLE}</style>'
+            f'<title>Delay and area of ABC and lwmap, geometric means</title><style>{STYLE}</style>'
             f'<rect class="back" width="{WIDTH}" height="{HEIGHT}"/>' + "\n".join(parts) + "</svg>\n")
 
 
