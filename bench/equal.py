@@ -2,7 +2,6 @@
 """Measures lwequal beside ABC's cec; equal.sh says how it is called and what it prints."""
 import os
 import random
-import sys
 import tempfile
 from glob import glob
 

@@ -8,7 +8,6 @@ the same heading too. A printed table that the page lacks goes to the end of the
 as is a table of the page that was not printed. What the page says in words is not changed: read it against the new tables.
 """
 import os
-import sys
 
 from lib import script
 from lib.script import Fault
