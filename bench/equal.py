@@ -79,7 +79,7 @@ def compared(room, library, circuit, other):
     theirs, text, _ = least(room, [ABC, "-s", "-q", f"cec {circuit} {library.plain(room, other)}"])
     said = "differ" if "NOT EQUIVALENT" in text else "equal" if "are equivalent" in text else "undecided"
     counts = err.split()
-    conflicts = int(counts[counts.index("conflicts") + 1]) if "conflicts" in counts else 0
+    conflicts = int(counts[counts.index("conflicts") + 1].rstrip(",")) if "conflicts" in counts else 0
     return [SAID.get(ours.status, f"status {ours.status}"), said, out.count("undecided "), conflicts, ours.seconds, theirs.seconds,
             ours.memory, theirs.memory]
 
