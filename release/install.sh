@@ -77,9 +77,11 @@ cp -- "$root"/bench/libs/*.genlib "$share/libs/"
 cp -- "$root/release/install.sh" "$share/release/"
 cat >"$share/release/program.sh" <<'PROGRAM'
 #!/bin/sh
-# Prints the path of the installed program, or of the one that LWMAP_PROGRAM names.
-program=$(readlink -f -- "${LWMAP_PROGRAM:-$(dirname -- "$(readlink -f -- "$0")")/../../../bin/lwmap}")
-[ -x "$program" ] && [ ! -d "$program" ] || { echo "lwmap: there is no program ${LWMAP_PROGRAM:-$program}" >&2 && exit 69; }
+# Prints the path of an installed program, lwmap or the one that is named, or of the one that LWMAP_PROGRAM or the like names.
+name=${1:-lwmap}
+eval "named=\${$(printf '%s' "$name" | tr '[:lower:]' '[:upper:]')_PROGRAM:-}"
+program=$(readlink -f -- "${named:-$(dirname -- "$(readlink -f -- "$0")")/../../../bin/$name}")
+[ -x "$program" ] && [ ! -d "$program" ] || { echo "$name: there is no program ${named:-$program}" >&2 && exit 69; }
 printf '%s\n' "$program"
 PROGRAM
 for program in $programs lwflow yosys-lwmap; do

@@ -1,10 +1,11 @@
-# Read by rows.sh, hostile.sh and memory.sh, which set 'tests': where the program is, and how a case is tried.
-# It is the program that release/program.sh finds, or else builds.
+# Read by rows.sh, equal.sh, hostile.sh and memory.sh, which set 'tests' and may set 'tried': where the program of that name is (lwmap
+# without one), and how a case is tried. It is the program that release/program.sh finds, or else builds.
 # shellcheck shell=sh disable=SC2034,SC2154
 export LC_ALL=C
 root=$(dirname -- "$tests")
 examples=$root/examples
-program=$(sh "$root/release/program.sh" build) || exit
+tried=${tried:-lwmap}
+program=$(sh "$root/release/program.sh" build "$tried") || exit
 room=$(mktemp -d) || exit 1
 trap 'rm -rf "$room"' EXIT
 trap 'exit 1' HUP INT TERM
@@ -43,11 +44,21 @@ run() {
     "$program" "$@" </dev/null >out 2>err
 }
 
+# A row: its files but these four lie in the folder, and the words are the lines of the file words.
+row() {
+    row=$1
+    cp -R "$row/." . && rm words stdout stderr status || return 1
+    set --
+    while IFS= read -r word; do set -- "$@" "$word"; done <"$row/words"
+    mkdir "$room/at/.got" && "$program" "$@" </dev/null >.got/stdout 2>.got/stderr
+    status $? "$(cat "$row/status")" && same .got/stdout "$row/stdout" && same .got/stderr "$row/stderr"
+}
+
 # A run of these words is refused: with this status, nothing on standard output, and this line on standard error.
 refused() { # STATUS LINE WORD..
     wanted_status=$1 && wanted_line=$2 && shift 2
     run "$@"
-    status $? "$wanted_status" && holds out && holds err "lwmap: $wanted_line"
+    status $? "$wanted_status" && holds out && holds err "$tried: $wanted_line"
 }
 
 inverter_files() {

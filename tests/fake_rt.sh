@@ -6,12 +6,13 @@ echo "the build speaks"
 [ ! -e "${here:?}/fails" ] || exit 1
 echo built >>"${here:?}/built"
 mkdir -p out
-cat >out/lwmap <<'END'
+name=${PWD##*/}
+cat >"out/$name" <<'END'
 #!/bin/sh
 echo "in $(pwd)"
 [ $# -eq 0 ] || printf '<%s>\n' "$@"
 read -r line && echo "read $line"
-echo "lwmap: the program speaks" >&2
+echo "${0##*/}: the program speaks" >&2
 exit 5
 END
-chmod +x out/lwmap
+chmod +x "out/$name"

@@ -101,7 +101,7 @@ crate() { # PAGE NAME
 clause() { # PAGE OWNER CLAUSE
     looked=$((looked + 1))
     case ${2##*::} in
-    run) files=crates/lw_top/src/top.rt && wanted="(ensures|requires) $3\b" ;;
+    run) files=$(grep -rlE "pub fn run\b" --include='*.rt' crates/*/src) && wanted="(ensures|requires) $3\b" ;;
     [A-Z]*) files=$(grep -rlE "(record|data|inductive|trait) $2\b" --include='*.antt' crates/*/specs) && wanted="^ *(pub )?$3 *:" ;;
     *) files=$(grep -rlE "fn ${2##*::}\b" --include='*.rt' crates/*/src) && wanted="(ensures|requires) $3\b" ;;
     esac

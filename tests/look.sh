@@ -118,6 +118,10 @@ install() {
     cmp "$prefix/bin/lwmap" release/lwmap >"$room/out" 2>&1 && (cd / && plainly "$prefix/bin/lwmap" map "$root/examples/plain/plain.genlib" "$root/examples/plain/chain.blif") |
         cmp - examples/plain/chain.mapped.blif >"$room/out" 2>&1
     verdict "the installed lwmap" $?
+    for program in $(awk '{ print $2 }' release/SHA256SUMS) lwnone; do
+        [ "$(plainly sh "$prefix/share/lwmap/release/program.sh" "$program" 2>"$room/out")" = "$(readlink -f "$prefix/bin/$program" | grep -v lwnone)" ]
+        verdict "where the installed $program is" $?
+    done
     if ! lacks "the installed lwflow was not run" python3 berkeley-abc; then
         (cd / && plainly "$prefix/bin/lwflow" -q --effort fast -o "$room/installed" -l "$prefix/share/lwmap/libs/mcnc.genlib" "$root/bench/circuits/rca8_y.blif") >"$room/out" 2>&1 &&
             [ -s "$room/installed/report.html" ]

@@ -6,9 +6,9 @@
 PAGE is README.md, docs/TUTORIAL.md, docs/HOWTO.md and docs/COMMANDS.md without arguments. A block is a run of indented lines. One
 that begins with a command is run by the shell, in a folder with the repository's files and with what earlier blocks of the page left.
 Its status has to be 0, unless the next block is what it printed. Each block after it, up to the next heading, has to occur in what the
-section's commands printed or in a file of that folder. Blocks with placeholders such as LIB are not run, and nothing of a page is run
-for which a tool is not installed; -v names what is skipped. The last line is 'N passed, N failed, N skipped', and the status is 0 if
-none failed.
+section's commands printed or in a file of that folder. Blocks with placeholders such as LIB are not run, nor blocks with one of our programs that
+release/program.sh does not find; nothing of a page is run for which a tool is not installed. -v names what is skipped. The last line is
+'N passed, N failed, N skipped', and the status is 0 if none failed.
 """
 import itertools
 import os
@@ -18,6 +18,7 @@ import shutil
 import subprocess
 import sys
 import tempfile
+from functools import lru_cache
 
 ROOT = os.path.dirname(os.path.dirname(os.path.realpath(__file__)))
 PAGES = ["README.md", "docs/TUTORIAL.md", "docs/HOWTO.md", "docs/COMMANDS.md"]
@@ -49,6 +50,17 @@ def lacks(page):
     text = "\n".join(block for _, block in blocks_of(page))
     missing = [tool for tool in TOOLS if re.search(rf"\b{tool}\b|\./lwflow", text) and not shutil.which(tool)]
     return missing + ([LIBERTY] if LIBERTY in text and not os.path.exists(LIBERTY) else [])
+
+
+@lru_cache(None)
+def is_there(program):
+    return subprocess.run(["sh", os.path.join(ROOT, "release", "program.sh"), program], stdout=subprocess.DEVNULL, stderr=subprocess.DEVNULL,
+                          check=False).returncode == 0
+
+
+def can_run(block):
+    """Whether a block of commands has no placeholders, and our programs that it calls are there."""
+    return not PLACEHOLDER.search(block) and all(is_there(name) for name in re.findall(r"\./(lwmap|lwarea|lwequal)\b", block))
 
 
 def bounded():
@@ -99,7 +111,7 @@ class Trial:
         """The blocks of a section; those after a command that is skipped are skipped."""
         printed = []
         for place, block in enumerate(blocks):
-            if COMMAND.match(block) and PLACEHOLDER.search(block):
+            if COMMAND.match(block) and not can_run(block):
                 return self.skip(name)
             if COMMAND.match(block):
                 status, said = run(block, self.folder)

@@ -1,4 +1,4 @@
-# Cases of the scripts in release/, and of the script lwmap with a released program, for tests/rows.sh, which reads this file
+# Cases of the scripts in release/, and of the scripts at the root with a released program, for tests/rows.sh, which reads this file
 # behind the functions that are used here. The program and the kit are stand-ins (tests/fake_rt.sh).
 # shellcheck shell=sh disable=SC2015,SC2154
 
@@ -104,14 +104,14 @@ compared() { # STATUS LINE
 
 release_is_compared() {
     release_files
-    compared 0 'same: the released program is, byte for byte, what these sources and this kit give' && built_once || return
-    compared 0 'same: the released program is, byte for byte, what these sources and this kit give' && built_once || return
+    compared 0 'same: the released programs are, byte for byte, what these sources and this kit give' && built_once || return
+    compared 0 'same: the released programs are, byte for byte, what these sources and this kit give' && built_once || return
     echo '# more' >>"$at/lwmap"
-    compared 1 'release/lwmap does not have the sum of release/SHA256SUMS' || return
+    compared 1 'the released programs do not have the sums of release/SHA256SUMS' || return
     (cd "$at" && sha256sum lwmap >SHA256SUMS)
-    compared 1 'the released program is not what these sources and this kit give' && built_once || return
+    compared 1 'the released lwmap is not what these sources and this kit give' && built_once || return
     rm -r 'a copy/crates/lwmap/out' && touch fails
-    compared 1 'the program could not be built'
+    compared 1 'lwmap could not be built'
 }
 
 release_is_not_compared() {
@@ -151,7 +151,7 @@ release_is_made() {
     git_here add -A && git_here commit -q -m b && git_here clone -q . ../cloned && mv 'a copy' first && mv cloned 'a copy' || return
     without_rt script
     status $? 5 && holds err 'lwmap: the program speaks' && built_once || return
-    compared 0 'same: the released program is, byte for byte, what these sources and this kit give' && holds built built built
+    compared 0 'same: the released programs are, byte for byte, what these sources and this kit give' && holds built built built
 }
 
 release_is_not_made() {
@@ -160,9 +160,44 @@ release_is_not_made() {
     echo >'a copy/crates/other/src/more.rt' && echo >>'a copy/lwmap'
     made 1 'not committed: lwmap crates/other/src/more.rt ' || return
     git_here add -A && git_here commit -q -m b && echo >'a copy/crates/low/src/more.rt' && git_here add -A && git_here commit -q -m c || return
-    made 1 'there is no fresh build; the gate makes one' || return
+    made 1 'there is no fresh build of lwmap; the gate makes one' || return
     script
     without_rt made 1 "there is no 'rt version'" || return
     rm -rf 'a copy/.git'
     made 1 && grep -q '^make: this is no checkout of git' err && [ ! -e 'a copy/release/lwmap' ]
+}
+
+# A second program beside it.
+second_program() {
+    mkdir -p 'a copy/crates/lwequal/src' && echo IN1 >'a copy/crates/lwequal/args' && cp "$root/lwequal" 'a copy/lwequal'
+    echo 'lwequal: low' >>'a copy/crates.txt' && echo lwequal >>'a copy/release/programs'
+    touch -t 202001010000 'a copy/crates.txt' 'a copy/crates/lwequal/src'
+}
+
+second_program_is_built_and_released() {
+    command -v git >/dev/null || { echo "git is not on this machine" && return 9; }
+    checkout_files
+    second_program && git_here add -A && git_here commit -q -m b || return
+    made 1 'there is no fresh build of lwequal; the gate makes one' || return
+    (cd elsewhere && '../a copy/lwequal' one 'two words' >../out 2>../err </dev/null)
+    status $? 5 && grep -qx '<two words>' out && tail -n 1 err >last && holds last 'lwequal: the program speaks' && holds built built built || return
+    made 0 && same "$here/a copy/release/lwequal" 'a copy/crates/lwequal/out/lwequal' || return
+    sed 's/^[^ ]*  //' 'a copy/release/SHA256SUMS' >names && holds names lwmap lwequal || return
+    compared 0 'same: the released programs are, byte for byte, what these sources and this kit give' || return
+    echo '# more' >>'a copy/release/lwequal'
+    compared 1 'the released programs do not have the sums of release/SHA256SUMS' || return
+    rm 'a copy/release/lwequal'
+    compared 1 'the release has no file lwequal' || return
+    sed -i '/lwequal/d' 'a copy/release/SHA256SUMS'
+    compared 1 'the release does not hold the programs of release/programs' || return
+    echo >>'a copy/crates/lwequal/src/main.rt'
+    compared 0 'skipped: the release is of other sources than this checkout, so it was not built again and compared'
+}
+
+no_program_of_another_name() {
+    script_files
+    sh 'a copy/release/program.sh' lwother >out 2>err
+    status $? 69 && holds out && holds err 'lwother: release/programs has no program lwother' || return
+    second_program && LWEQUAL_PROGRAM=none sh 'a copy/release/program.sh' lwequal >out 2>err
+    status $? 69 && holds err 'lwequal: there is no program none, which LWEQUAL_PROGRAM names'
 }

@@ -9,16 +9,6 @@ tests=$(dirname -- "$(readlink -f -- "$0")")
 # shellcheck source=tests/cases.sh
 . "$tests/cases.sh"
 
-# A row: its files but these four lie in the folder, and the words are the lines of the file words.
-row() {
-    row=$1
-    cp -R "$row/." . && rm words stdout stderr status || return 1
-    set --
-    while IFS= read -r word; do set -- "$@" "$word"; done <"$row/words"
-    mkdir "$room/at/.got" && "$program" "$@" </dev/null >.got/stdout 2>.got/stderr
-    status $? "$(cat "$row/status")" && same .got/stdout "$row/stdout" && same .got/stderr "$row/stderr"
-}
-
 # An example, by the library of its folder, with the text that is wanted.
 example() { # MAPPED
     run map "$(dirname "$1")"/*.genlib "${1%.mapped.blif}.blif"
@@ -311,11 +301,12 @@ script_files() {
     touch -t 202001010000 'a copy/crates.txt' 'a copy/crates/lwmap/src/main.rt' 'a copy/crates/low/src/lib.rt' 'a copy/crates/other/src/lib.rt'
     touch -t 202001010000 'a copy/crates/lwmap/src' 'a copy/crates/low/src' 'a copy/crates/other/src'
     mkdir 'a copy/release' && cp "$root"/release/*.sh "$root"/release/*.awk 'a copy/release' && cp "$root/lwmap" 'a copy/lwmap'
+    echo lwmap >'a copy/release/programs' && echo map >'a copy/crates/lwmap/args'
     cp "$tests/fake_rt.sh" bin/rt && chmod +x bin/rt
     here=$(pwd)
     PATH=$here/bin:$PATH
     export here
-    unset LWMAP_PROGRAM LWMAP_BUILD
+    unset LWMAP_PROGRAM LWEQUAL_PROGRAM LWMAP_BUILD
 }
 
 # Calls the script from another folder.
@@ -369,7 +360,7 @@ script_says_where_the_build_fails() {
 script_says_where_rt_is_not_there() {
     script_files
     rm bin/rt
-    for tool in sh awk find dirname readlink touch mkdir; do ln -s "$(command -v $tool)" bin/; done
+    for tool in sh awk find dirname readlink touch mkdir grep tr; do ln -s "$(command -v $tool)" bin/; done
     PATH=$here/bin script map LIB IN
     status $? 69 && holds out && tail -n 1 err >last && holds last 'lwmap: the program could not be built'
 }
@@ -420,7 +411,8 @@ for it in unreadable_file standard_output_is_full standard_output_takes_a_part s
     script_says_where_rt_is_not_there script_takes_a_program_that_is_named \
     script_runs_the_released_program script_runs_no_release_of_other_sources sources_have_one_hash_in_each_folder \
     script_prefers_a_fresh_build script_builds_where_it_is_told script_runs_no_release_that_the_system_cannot \
-    no_program_where_none_is_to_be_built release_is_compared release_is_not_compared release_is_made release_is_not_made; do
+    no_program_where_none_is_to_be_built release_is_compared release_is_not_compared release_is_made release_is_not_made \
+    second_program_is_built_and_released no_program_of_another_name; do
     [ $# -eq 0 ] || case " $* " in *" $it "*) ;; *) continue ;; esac
     attempt "$it" "$it"
 done

@@ -4,7 +4,7 @@ import os
 import re
 from collections import namedtuple
 
-from . import abc, program, registers, runs, search, timing
+from . import abc, equality, program, registers, runs, search, timing
 from .script import Fault
 
 Step = namedtuple("Step", "what verdict why")
@@ -22,7 +22,10 @@ def same(room, top, what, files, limit):
             number, free, settled = registers.compare(top, *(os.path.join(room, file) for file in files), folder, refused)
         except Fault as fault:
             return Step(what, "different" if str(fault).startswith("difference") else "undecided", str(fault))
-        verdict, why = abc.cec("given.blif", "made.blif", folder, "cec.log", limit)
+        verdict, why, by = equality.compared("given.blif", "made.blif", folder, "cec.log", limit)
+        if by == "lwequal" and verdict == "different":
+            # (cec names all outputs that differ)
+            why = abc.cec("given.blif", "made.blif", folder, "cec.log", limit)[1] or why
         wrong = {(name, settled[name]) for name in re.findall(r"\bA?D:(\S+)", why) if name in settled}
         if verdict != "different" or not wrong:
             break
@@ -30,7 +33,7 @@ def same(room, top, what, files, limit):
     with open(os.path.join(folder, "settled.json"), "w", encoding="utf-8") as out:
         json.dump(settled, out)
     how = (f", {number} registers by name" if number else "") + (", an x of the Verilog being anything" if free else "")
-    return Step(what + how, verdict, why)
+    return Step(f"{what}{how}, by {by}", verdict, why)
 
 
 class Prover:
@@ -39,12 +42,12 @@ class Prover:
     def __init__(self, work):
         self.work, self.known = work, {}
 
-    def cec(self, one, other):
+    def compared(self, one, other):
         if (one, other) not in self.known:
             log = f"cec.{len(self.known)}.log"
             self.known[one, other] = None
             work = self.work
-            self.known[one, other] = abc.cec(one, other, work.room, log, work.proof)
+            self.known[one, other] = equality.compared(one, other, work.room, log, work.proof)
         return self.known[one, other]
 
     def steps(self, netlist):
@@ -63,23 +66,25 @@ class Prover:
         return found
 
     def link(self, one, other):
-        what = f"{one.name} to {other.name}"
-        verdict, why = self.cec(one.file, other.file)
-        if verdict == "undecided" and one.file != "cut.blif" and self.cec("cut.blif", other.file)[0] == "equal":
-            verdict, why = "equal", ""
-        return Step(what + ", by cec", verdict, why)
+        verdict, why, by = self.compared(one.file, other.file)
+        if verdict == "undecided" and one.file != "cut.blif":
+            whole = self.compared("cut.blif", other.file)
+            if whole.verdict == "equal":
+                verdict, why, by = whole
+        return Step(f"{one.name} to {other.name}, by {by}", verdict, why)
 
     def checked(self, netlist):
-        """The netlist that lwmap wrote: equivalent by theorem, and lwmap check looks at its certificate."""
-        work = self.work
-        if not netlist.width:
-            return Step("front to netlist, by the theorem of lwmap trade", "equal", "")
+        """A netlist of ours: equivalent by theorem, and lwmap check looks at its certificate, if it can have one."""
+        work, maker = self.work, netlist.maker
+        by_theorem = Step(f"front to netlist, by the theorem of {maker.program}", "equal", "")
+        if not maker.certified:
+            return by_theorem
         given, width = work.restored(netlist.network.file), str(netlist.width)
         made, checked = "certified.blif", "lwmap check"
-        command = [program.path(), "map", "-w", width, "-c", work.library.file, given]
-        ended = runs.run(command, work.path("certify.log"), cwd=work.room, limit=work.search * 2, out=work.path(made))
+        ended = runs.run([*maker.certified, work.library.file, given], work.path("certify.log"), cwd=work.room, limit=work.search * 2,
+                         out=work.path(made))
         if ended.status:
-            return Step("front to netlist, by the theorem of lwmap map", "equal", "no certificate: " + runs.tail(ended.log))
+            return by_theorem._replace(why="no certificate: " + runs.tail(ended.log))
         netlist.certified = made
         command = [program.path(), "check", "-w", width, work.library.file, given, made]
         ended = runs.run(command, work.path("check.log"), cwd=work.room, limit=work.proof, out=work.path("check.out"))
@@ -94,4 +99,5 @@ class Prover:
         work = self.work
         plain = search.plain_of(work, netlist, "plain.mapped.blif").file
         work.write("plain.sized.blif", timing.unmap(work.library.sized_cells(), work.path(netlist.sized[2])))
-        return Step("netlist to sized netlist, by cec", *self.cec(plain, "plain.sized.blif"))
+        verdict, why, by = self.compared(plain, "plain.sized.blif")
+        return Step(f"netlist to sized netlist, by {by}", verdict, why)

@@ -9,4 +9,5 @@ mod rows;
 
 pub use laws::{equal_literals_tell, placed_networks_stay};
 pub use nets::net_literals;
-pub use pairs::{Placed, compare_nets, place_network};
+pub use pairs::{Placed, compare_nets, input_literals, place_network};
+pub use rows::or;

@@ -21,8 +21,12 @@ pub struct Placed<'a> {
     pub literals: &'a [Literal],
 }
 
-// The literals of shared inputs.
-fn input_literals(alloc: Global, gates: &[Gate], places: &[u32]) -> Result<Vec<Literal>, AllocError>
+/// The literals of shared inputs.
+pub fn input_literals(
+    alloc: Global,
+    gates: &[Gate],
+    places: &[u32],
+) -> Result<Vec<Literal>, AllocError>
     requires aig { IsAig gates.now }
     requires inputs { HasInputs gates.now places.now }
     ensures literals { IfOk result (λ lits. lits.items ≡ map input_literal places.now) }

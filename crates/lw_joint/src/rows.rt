@@ -30,8 +30,8 @@ fn and_column(
     }
 }
 
-// The disjunction of two literals.
-fn or(
+/// The disjunction of two literals, or none where there is no room for a node of the graph.
+pub fn or(
     sweep: &mut Sweep,
     alloc: Global,
     left: Literal,

@@ -1,0 +1,4 @@
+pub mod Numerals
+pub mod Files
+pub mod Sided
+pub mod Values

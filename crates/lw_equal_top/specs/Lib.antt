@@ -1,0 +1,12 @@
+pub mod Words
+pub mod Requests
+pub mod Shown
+pub mod Statuses
+pub mod Sources
+pub mod Reading
+pub mod Compared
+pub mod Texts
+pub mod Pages
+pub mod Telling
+pub mod Outcomes
+pub mod Promises

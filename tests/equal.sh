@@ -1,0 +1,230 @@
+#!/bin/sh
+# Runs lwequal on every row of tests/equal and on the cases below, which files alone cannot say. The program is the one that
+# release/program.sh finds, or else builds. With words it runs those rows and cases alone, as in:
+# sh tests/equal.sh differ two_runs_agree
+# SECONDS_EACH is the most that one run may take (60). The last line is 'N passed, N failed'. The status is 0 where none failed and
+# at least one ran.
+set -u
+tests=$(dirname -- "$(readlink -f -- "$0")")
+tried=lwequal
+# shellcheck source=tests/cases.sh
+. "$tests/cases.sh"
+limit=${SECONDS_EACH:-60}
+
+run() {
+    timeout "$limit" "$program" "$@" </dev/null >out 2>err
+}
+
+# A small adder whose carry goes from bit to bit, and one whose first bits are written otherwise.
+adder() { # BITS WAY
+    awk -v n="$1" -v way="$2" 'BEGIN {
+        line = ""
+        for (i = 0; i < n; i++) line = line " a" i " b" i
+        print ".model m\n.inputs" line
+        line = ""
+        for (i = 0; i < n; i++) line = line " s" i
+        print ".outputs" line " c" n "\n.names c0"
+        for (i = 0; i < n; i++) {
+            print ".names a" i " b" i " p" i "\n10 1\n01 1"
+            print ".names p" i " c" i " s" i "\n10 1\n01 1"
+            if (way == "majority") print ".names a" i " b" i " c" i " c" i + 1 "\n11- 1\n1-1 1\n-11 1"
+            else print ".names p" i " a" i " c" i " c" i + 1 "\n1-1 1\n01- 1"
+        }
+        print ".end"
+    }'
+}
+
+# An assignment that was told is one: the values of lwmap sim differ under it.
+confirmed() { # ONE OTHER
+    { sed 1d out | sed 's/.* //' | tr -d '\n' && echo; } >VECTORS
+    first=$("$mapper" sim "$1" VECTORS) && second=$("$mapper" sim "$2" VECTORS) && [ "$first" != "$second" ] ||
+        { echo "not confirmed: $first $second" && return 1; }
+}
+
+adders_are_equal() {
+    adder 32 majority >ONE && adder 32 choice >OTHER
+    run ONE OTHER
+    status $? 0 && holds out equal && holds err
+}
+
+wrong_gate_is_found() {
+    adder 16 majority >ONE
+    for bit in 0 7 15; do
+        adder 16 choice | awk -v at=".names p$bit a$bit c$bit c$((bit + 1))" '$0 == at { print; getline; print "1-0 1"; next } { print }' >OTHER
+        run ONE OTHER
+        status $? 1 && holds err && grep -q '^differ [sc]' out && [ "$(wc -l <out)" -eq 33 ] && confirmed ONE OTHER || return
+    done
+}
+
+two_runs_agree() {
+    adder 16 majority >ONE && adder 16 choice | sed 's/^1-1 1$/1-0 1/' >OTHER
+    run -s ONE OTHER
+    cp out first && cp err counted
+    run -s ONE OTHER
+    status $? 1 && same out first && same err counted
+}
+
+counts_on_standard_error() {
+    adder 8 majority >ONE && adder 8 choice >OTHER
+    run -s ONE OTHER
+    status $? 0 && holds out equal && [ "$(wc -l <err)" -eq 1 ] &&
+        grep -qxE 'lwequal: points 9, nodes [0-9]+, pairs equal [0-9]+, apart [0-9]+, left [0-9]+, conflicts [0-9]+' err || { cat err && return 1; }
+}
+
+# Two multipliers whose rows are added in opposite orders; with few conflicts they stay undecided.
+multiplier() { # BITS FIRST STEP
+    awk -v n="$1" -v first="$2" -v step="$3" 'BEGIN {
+        line = ""
+        for (i = 0; i < n; i++) line = line " a" i " b" i
+        print ".model m\n.inputs" line
+        line = ""
+        for (k = 0; k < 2 * n; k++) line = line " m" k
+        print ".outputs" line
+        for (k = 0; k < 2 * n; k++) { sum[k] = "z"; }
+        print ".names z"
+        for (t = 0; t < n; t++) {
+            i = first + step * t
+            carry = "z"
+            for (k = i; k < 2 * n; k++) {
+                j = k - i
+                term = "z"
+                if (j < n) { term = "p" i "_" j; print ".names a" i " b" j " " term "\n11 1" }
+                s = "s" t "_" k; c = "c" t "_" k
+                print ".names " sum[k] " " term " " carry " " s "\n100 1\n010 1\n001 1\n111 1"
+                print ".names " sum[k] " " term " " carry " " c "\n11- 1\n1-1 1\n-11 1"
+                sum[k] = s; carry = c
+            }
+        }
+        for (k = 0; k < 2 * n; k++) print ".names " sum[k] " m" k "\n1 1"
+        print ".end"
+    }'
+}
+
+limit_is_reached() {
+    multiplier 6 0 1 >ONE && multiplier 6 5 -1 >OTHER
+    run -n 1 ONE OTHER
+    status $? 2 && holds err && [ -s out ] && ! grep -qv '^undecided m[0-9]*$' out
+}
+
+library_of_too_many_bytes() {
+    adder 2 majority >ONE && zeros LIB 67108865
+    refused 5 'limit: LIB has more than 67108864 bytes' -l LIB ONE ONE
+}
+
+network_of_too_many_bytes() {
+    adder 2 majority >ONE && zeros OTHER 67108865
+    refused 5 'limit: OTHER has more than 67108864 bytes' ONE OTHER || return
+    refused 5 'limit: OTHER has more than 67108864 bytes' OTHER none
+}
+
+standard_output_is_full() {
+    [ -c /dev/full ] || { echo "there is no /dev/full" && return 9; }
+    adder 2 majority >ONE
+    for word in -h -v; do
+        "$program" $word >/dev/full 2>err
+        status $? 7 && holds err 'lwequal: cannot write' || return
+    done
+    "$program" ONE ONE >/dev/full 2>err
+    status $? 7 && holds err 'lwequal: cannot write' || return
+    "$program" -s ONE ONE >&- 2>err
+    status $? 7 && holds err 'lwequal: cannot write'
+}
+
+standard_error_is_closed() {
+    adder 2 majority >ONE
+    "$program" -s ONE ONE >out 2>&-
+    status $? 0 && holds out equal || return
+    "$program" ONE none >out 2>&-
+    status $? 12 && holds out
+}
+
+file_by_a_pipe() {
+    adder 2 majority >ONE
+    "$program" ONE /dev/stdin <ONE >out 2>err
+    status $? 0 && holds out equal && holds err
+}
+
+folder_is_no_file() {
+    adder 2 majority >ONE && mkdir folder
+    refused 12 'cannot read folder' ONE folder
+}
+
+word_that_is_not_utf8() {
+    adder 2 majority >ONE
+    run ONE "$(printf 'I\377')"
+    status $? 70 && holds out && holds err
+}
+
+out_of_memory() {
+    # shellcheck disable=SC3045
+    (ulimit -v 32000) 2>/dev/null || { echo "this shell has no limit of memory" && return 9; }
+    adder 2 majority >ONE && zeros OTHER 60000000
+    # shellcheck disable=SC3045
+    (ulimit -v 32000 && run ONE OTHER)
+    status $? 8 && holds out && holds err 'lwequal: out of memory'
+}
+
+# A million gates in a row, on a small stack: an even and an odd number of inverters.
+a_million_gates() {
+    # shellcheck disable=SC3045
+    ulimit -s 256
+    printf '%s\n' 'GATE inv 1 O=!a;' 'PIN * INV 1 999 1 0 1 0' >LIB
+    printf '%s\n' .model\ m '.inputs s0' '.outputs f' '.names s0 f' '1 1' .end >ONE
+    for gates in 1000000 999999; do
+        awk -v n=$gates 'BEGIN {
+            print ".model m\n.inputs s0\n.outputs f"
+            for (i = 1; i < n; i++) print ".gate inv a=s" i - 1 " O=s" i
+            print ".gate inv a=s" n - 1 " O=f\n.end"
+        }' >OTHER
+        run -l LIB ONE OTHER
+        case $gates in
+        1000000) status $? 0 && holds out equal ;;
+        *) status $? 1 && head -n 1 out >first && holds first 'differ f' ;;
+        esac && holds err || return
+    done
+}
+
+# As many inputs and outputs as a network may have, in two orders.
+most_ports() {
+    awk -v n=131072 'BEGIN {
+        printf ".model m\n.inputs"; for (i = 1; i <= n; i++) printf " i%d", i
+        printf "\n.outputs"; for (i = 1; i <= n; i++) printf " f%d", i
+        print ""
+        for (i = 1; i <= n; i++) print ".names i" i " f" i "\n0 1"
+        print ".end"
+    }' >ONE
+    awk -v n=131072 'BEGIN {
+        printf ".model m\n.inputs"; for (i = n; i; i--) printf " i%d", i
+        printf "\n.outputs"; for (i = n; i; i--) printf " f%d", i
+        print ""
+        for (i = n; i; i--) print ".names i" i " f" i "\n1 0"
+        print ".end"
+    }' >OTHER
+    run ONE OTHER
+    status $? 0 && holds out equal && holds err || return
+    sed 's/ f77 / g77 /; s/ f77$/ g77/' OTHER >LESS
+    refused 9 'LESS has no output f77, which ONE has' ONE LESS
+}
+
+# Mapped netlists of lwmap and the examples of the pages.
+netlists_of_lwmap() {
+    for network in full_adder multiplexer shared; do
+        "$mapper" map "$examples/small/small.genlib" "$examples/small/$network.blif" >mapped || return
+        run -l "$examples/small/small.genlib" "$examples/small/$network.blif" mapped
+        status $? 0 && holds out equal && holds err || return
+    done
+}
+
+mapper=$(sh "$root/release/program.sh" build) || exit
+for it in "$tests"/equal/*/; do
+    it=${it%/}
+    [ $# -eq 0 ] || case " $* " in *" ${it##*/} "*) ;; *) continue ;; esac
+    attempt "${it##*/}" row "$it"
+done
+for it in adders_are_equal wrong_gate_is_found two_runs_agree counts_on_standard_error limit_is_reached library_of_too_many_bytes \
+    network_of_too_many_bytes standard_output_is_full standard_error_is_closed file_by_a_pipe folder_is_no_file \
+    word_that_is_not_utf8 out_of_memory a_million_gates most_ports netlists_of_lwmap; do
+    [ $# -eq 0 ] || case " $* " in *" $it "*) ;; *) continue ;; esac
+    attempt "$it" "$it"
+done
+told
