@@ -1,7 +1,7 @@
 // The classes that are needed, each with its chosen match.
 ghost use Rattle.std.specs.Prelude.{IfOk, reverse};
 ghost use Rattle.lw_match.specs.Cutting.{AreKnown};
-ghost use Rattle.lw_extract.specs.Jobs.{AreJobBounds, AreJobChoices, CanCover, FindsChoice, IsInnerClass};
+ghost use Rattle.lw_extract.specs.Jobs.{AreJobBounds, AreJobChoices, AreJobLabels, CanCover, FindsChoice, IsInnerClass};
 ghost use Rattle.lw_extract.specs.Orders.{AreByHeight};
 ghost use Rattle.lw_extract.specs.Nets.{AreInputNets};
 
@@ -28,7 +28,7 @@ pub(crate) fn choice<C: Cost>(
     tops: &mut Tops,
     class: ClassId,
 ) -> Option<Match>
-    requires ready { CanCover C.costs job.now }
+    requires labels { AreJobLabels C.costs job.now }
     requires bounds { AreJobBounds job.now bounds.now }
     requires class { IsInnerClass job.now.graph.now class.0 }
     requires known { AreKnown (C.costs job.now.cost.now) job.now.pats.now bounds.now.gaps tops.old }

@@ -33,7 +33,7 @@ mod ordering;
 mod ports;
 
 pub use assembling::assemble;
-pub use attaining::{ClassMatches, attaining_matches};
+pub use attaining::attaining_matches;
 pub use choosing::Chosen;
 pub use extracting::{extract, extract_with};
 pub use fault::ExtractFault;
