@@ -21,7 +21,8 @@ pub struct Chosen {
     pub found: Match,
 }
 
-// The chosen match of a class: the first of those that attain its label and its height.
+// The chosen match of a class: the first of those that attain its label and its height, and none if
+// it has no label.
 pub(crate) fn choice<C: Cost>(
     job: &Job<C>,
     bounds: &Bounds,
@@ -45,8 +46,8 @@ pub(crate) fn choice<C: Cost>(
     Some(best.found)
 }
 
-// The needed classes that are no input's, from the highest down, each with its chosen match. A
-// class is lower than each whose chosen match has it as a pin.
+// The needed classes of these places that are no input's, from the highest down, each with its
+// chosen match. A class is lower than each whose chosen match has it as a pin.
 fn choose_down<C: Cost>(
     alloc: Global,
     job: &Job<C>,
@@ -77,6 +78,7 @@ fn choose_down<C: Cost>(
 }
 
 // The needed classes that are no input's, by height and then class, each with its chosen match.
+// Here `nets` has the nets of the inputs' classes alone.
 pub(crate) fn choose<C: Cost>(
     alloc: Global,
     job: &Job<C>,
