@@ -1,7 +1,6 @@
 -- What is found for the classes, one after another.
-use Rattle.std.proofs.Common.{ℕ, ◌+◌, ◌≤◌, ◌≡◌, ◌⊎◌, inl, inr, List, [], ◌∷◌, ◌++◌, length, Option, Some, None, IsSome, slice_get, slice_index_or, sym, ◌∙◌, subst, subst₂, arith}
+use Rattle.std.proofs.Common.{ℕ, ◌+◌, ◌≡◌, ◌⊎◌, inl, inr, List, [], ◌∷◌, ◌++◌, length, Option, Some, None, slice_get, slice_index_or, sym, ◌∙◌, subst, subst₂, arith}
 use Rattle.std.proofs.lemmas.List.{length_push}
-use Rattle.std.proofs.lemmas.Option.{none-some}
 use Rattle.lw_facts.proofs.Lists.{get_push_cases}
 use Rattle.lw_pool.specs.declared.id.NetId.{NetId}
 use Rattle.lw_laws.specs.Graphs.{Graph}
@@ -10,7 +9,7 @@ use Rattle.lw_laws.specs.Covers.{Pattern}
 use Rattle.lw_laws.specs.Extracts.{IsLeafClass}
 use Rattle.lw_cost.specs.declared.mark.Mark.{Mark}
 use Rattle.lw_cost.specs.declared.mark.Match.{Match}
-use Rattle.lw_extract.specs.Choosing.{AreClassChoices, IsChoice, IsClassChoice}
+use Rattle.lw_extract.specs.Choosing.{IsChoice, IsClassChoice}
 use Rattle.lw_extract.specs.Nets.{AreInputNets}
 
 -- a class with a net is an input's
@@ -18,6 +17,11 @@ pub leaf_of : (g : Graph) (nets : List (Option NetId)) (c : ℕ) (n : NetId) →
 leaf_of g nets c n are e = (n.0, are.some c n e)
 
 module _ (g : Graph) (cost : Cost) (pats : List Pattern) (marks : List (Option Mark)) where
+  -- what is found for a class that has a mark and is no input's
+  pub choice_found : (c : ℕ) (result : Option Match) (mark : Mark) → slice_index_or marks c None ≡ Some mark → (IsLeafClass g c → ⊥) → ((m : Mark) → slice_index_or marks c None ≡ Some m → (found : Match) × (result ≡ Some found) × IsChoice g cost pats marks c found) → IsClassChoice g cost pats marks c result
+  choice_found c result mark at out finds =
+      let (found, is, choice) = finds mark at in subst (λ (x : Option Match). IsClassChoice g cost pats marks c x) (sym is) (out, choice)
+
   -- the first classes have been seen
   pub record AreChoicesBelow (count : ℕ) (all : List (Option Match)) : Type 0 where
     pub many : length all ≡ count
@@ -32,6 +36,3 @@ module _ (g : Graph) (cost : Cost) (pats : List Pattern) (marks : List (Option M
       by_place : (c : ℕ) (x : Option Match) → (slice_get all c ≡ Some x) ⊎ ((c ≡ length all) × (found ≡ x)) → IsClassChoice g cost pats marks c x
       by_place c x (inl at) = are.each c x at
       by_place c x (inr (last, same)) = subst₂ (λ (d : ℕ) (y : Option Match). IsClassChoice g cost pats marks d y) (sym (last ∙ are.many)) same is
-
-  pub choices_all : (count : ℕ) (all : List (Option Match)) → count ≡ length g.pairs → AreChoicesBelow count all → AreClassChoices g cost pats marks all
-  choices_all count all end are = record { one_each = are.many ∙ end; each = are.each }

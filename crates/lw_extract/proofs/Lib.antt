@@ -9,3 +9,4 @@ mod ClassNets
 mod GateLists
 mod Places
 mod Uncovered
+pub mod PortLists
