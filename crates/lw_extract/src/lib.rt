@@ -11,6 +11,7 @@
 //! * `job`: the labels and the ports together, as one argument;
 //! * `ordering`: the classes that may have a gate, by height;
 //! * `choosing`: those of them that are needed, each with its chosen match;
+//! * `attaining`: the chosen matches of all classes, needed or not (`attaining_matches`);
 //! * `nets`: the net of each class;
 //! * `gates`: the gates of matches and the outputs, over these nets;
 //! * `assembling`: the netlist of any list of matches (`assemble`);
@@ -28,7 +29,8 @@
 //!   the table may be trusted;
 //! * nets: a net or none for each class. Nets are numbered from 0, inputs first and then gates.
 //!
-//! The one definition to read is `IsCoverBy` in `specs/Covers.antt`. `lw_map` calls `extract_with`.
+//! The one definition to read is `IsCoverBy` in `specs/Covers.antt`. `lw_map` calls `extract_with`,
+//! and `lw_area` calls `attaining_matches`.
 #![tactic(auto)]
 
 mod assembling;
