@@ -4,6 +4,7 @@ mod Picking
 mod Sorting
 pub mod Assembly
 mod ChosenMatches
+mod ClassChoices
 mod ClassNets
 mod GateLists
 mod Places
