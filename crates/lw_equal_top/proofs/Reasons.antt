@@ -82,10 +82,10 @@ module _ (told : Option (List File)) (before now : ℕ) (c : Comparison) where
     no_source told' mid (Library f) same le is = absurd is
     no_source told' mid (Ports p) same le is = absurd is
     no_source told' mid Memory same le is = tt
-    no_source told' mid (FileAt place f) same le (name, at, reason) = record {
+    no_source told' mid (FileAt place f) same le (word, at, reason) = record {
       cells = cells;
       cells_are = known;
-      reason = subst (λ t. SourcesRefused t before now (is_some c.library) cells c.files (FileAt place f)) same (name, at, sooner told' before mid now (ReadsSource (is_some c.library) cells name) f le reason);
+      reason = subst (λ t. SourcesRefused t before now (is_some c.library) cells c.files (FileAt place f)) same (word, at, sooner told' before mid now (ReadsSource (is_some c.library) cells word) f le reason);
     }
 
     module _ (sources : List Source) (read : (files : List File) → told ≡ Some files → AreRead (is_some c.library) cells c.files (bytes_of files) sources) where

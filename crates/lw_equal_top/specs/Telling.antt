@@ -53,16 +53,20 @@ counts_text c =
     ++ (count (codes ", left ") c.open
     ++ count (codes ", conflicts ") c.conflicts))))
 
+-- the line where standard output failed
+abbrev pub cannot_write : List ℕ
+cannot_write = line (codes "cannot write")
+
 abbrev pub comparison_line : Comparison → Ending → List ℕ
 comparison_line c Told = []
 comparison_line c (Answered compared) = if c.counted then line (counts_text compared.outcome.counts) else []
-comparison_line c WriteFault = line (codes "cannot write")
+comparison_line c WriteFault = cannot_write
 comparison_line c (Refused refusal) = line (refusal_text c refusal)
 
 -- the line of an ending, if it has one
 abbrev pub ending_line : Request → Ending → List ℕ
 ending_line (comparing c) ending = comparison_line c ending
-ending_line page WriteFault = line (codes "cannot write")
+ending_line page WriteFault = cannot_write
 ending_line page other = []
 
 -- Words.
