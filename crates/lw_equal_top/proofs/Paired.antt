@@ -1,6 +1,6 @@
 -- The sources as sides, and what comes of their comparison.
-use Rattle.std.proofs.Common.{ℕ, ◌≡◌, ◌≤◌, ◌<◌, ◌+◌, List, [], ◌∷◌, ◌++◌, length, take, drop, get_or, map, All, Some, Ok, Err, refl, sym, ap, subst, arith}
-use Rattle.std.proofs.lemmas.List.{take_more}
+use Rattle.std.proofs.Common.{ℕ, ◌≡◌, ◌≤◌, ◌<◌, ◌+◌, ◌-◌, ◌∙◌, List, [], ◌∷◌, ◌++◌, length, take, drop, get_or, map, All, Some, Ok, Err, refl, sym, ap, subst, arith}
+use Rattle.std.proofs.lemmas.List.{length-drop, take_all, take_more}
 use Rattle.std.proofs.lemmas.List.Elements.{All-push, All-get_or, All-drop}
 use Rattle.std.proofs.lemmas.Slice.Zip.{AllZip-long, all_zipped_more}
 use Rattle.lw_genlib.specs.Cells.{CellParts}
@@ -65,6 +65,12 @@ module _ (cells : List CellParts) where
   have_values (source ∷ sources) Equal is = (omega arith, tt)
   have_values (source ∷ sources) (Undecided points) is = (omega arith, tt)
   have_values (source ∷ sources) (Differ d) is = (omega arith, subst (λ (names : List (List ℕ)). length d.inputs.items ≡ length names) (same_inputs source is.sides.one.logic is.sides.are.0.logic) is.right.claims.one_each)
+
+-- all sides but the first two
+pub all_but_two : (xs ys : List Side) → xs ≡ ys → take (length xs - 2) (drop 2 xs) ≡ drop 2 ys
+all_but_two xs ys same =
+    let long = length-drop 2 xs in
+    take_all (length xs - 2) (drop 2 xs) (omega (arith, long)) ∙ ap (drop 2) same
 
 -- the names of the inputs of the first source
 pub first_names : (sources : List Source) (d : Source) → 0 < length sources → input_names (get_or sources 0 d) ≡ names_in sources

@@ -1,5 +1,5 @@
 -- Why a comparison is refused, and what it comes to.
-use Rattle.std.proofs.Common.{inl, inr, ℕ, ◌≡◌, ◌≤◌, ◌<◌, ◌+◌, ◌∙◌, Bool, List, [], ◌∷◌, ◌++◌, length, map, take, get_or, slice_get, option_map, Option, Some, Result, Ok, Err, ap, sym, subst, arith}
+use Rattle.std.proofs.Common.{inl, inr, ℕ, ◌≡◌, ◌≤◌, ◌<◌, ◌+◌, ◌∙◌, Bool, List, [], ◌∷◌, ◌++◌, length, map, take, get_or, slice_get, option_map, Option, Some, None, Result, Ok, Err, refl, ap, sym, subst, arith}
 use Rattle.std.specs.Prelude.{is_some}
 use Rattle.std.proofs.lemmas.List.{length-map, take_more}
 use Rattle.std.proofs.lemmas.Option.{get_or_from_slice_get, slice_get-get_or, slice_get-map}
@@ -69,6 +69,10 @@ module _ {S : Type 0} (bytes : S → List ℕ) (words : List S) (i : ℕ) (d : S
       (name, record { at = name_at; earlier = λ files known. (sources, are files known) }, subst (λ t. file.HasReason t before now (ReadsSource known cells name) other) same (sooner told' before mid now (ReadsSource known cells name) other le is))
 
 -- What a comparison comes to.
+
+pub as_known : {A B : Type 0} (f : A → B) (o : Option A) → is_some (option_map f o) ≡ is_some o
+as_known f None = refl
+as_known f (Some x) = refl
 
 module _ (told : Option (List File)) (before now : ℕ) (c : Comparison) where
   pub no_cells : (why : Refusal) → CellsRefused told before now c.library why → HasReason told before now c why

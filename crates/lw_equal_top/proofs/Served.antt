@@ -22,7 +22,7 @@ use Rattle.lw_equal_top.specs.Pages.{help_text, version_text}
 use Rattle.lw_equal_top.specs.Promises.{AreEqualFiles, AsksToCompare, DifferAsWritten, LineTold}
 use Rattle.lw_equal_top.specs.Statuses.{answer_status, ending_status, file_status, refusal_status}
 use Rattle.lw_equal_top.specs.Texts.{answer_text}
-use Rattle.lw_equal_top.specs.Words.{Comparison, Request, help, version, comparing, request_of}
+use Rattle.lw_equal_top.specs.Words.{Comparison, Request, WordFault, help, version, comparing, request_of}
 
 -- a line, or a prefix of it and a fault
 pub line_told : {E : Type 0} (taken : E → Option (List ℕ)) (faults : E → ℕ) (old new : E) (text : List ℕ) (r : Result (Unit {0}) Failed) → IsTaken (taken old) (faults old) (taken new) (faults new) text r → LineTold taken faults old new text
@@ -37,17 +37,13 @@ kept_behind (Some xs) None c bytes was kept = absurd was
 kept_behind (Some xs) (Some ys) None bytes was kept = absurd kept
 kept_behind (Some xs) (Some ys) (Some zs) bytes was kept = kept ∙ was
 
-module _ {O : Type 0} (taken : O → Option (List ℕ)) (is_finished : O → Bool) (faults : O → ℕ) (old mid new : O) (text : List ℕ) (kept : Keeps (taken mid) (taken new)) where
+module _ {O : Type 0} (taken : O → Option (List ℕ)) (faults : O → ℕ) (old mid new : O) (text : List ℕ) (kept : Keeps (taken mid) (taken new)) where
   grown : (bytes : List ℕ) → Appends (taken old) (taken mid) bytes → Appends (taken old) (taken new) bytes
   grown bytes was = kept_behind (taken old) (taken mid) (taken new) bytes was kept
 
-  pub all_out : (written : Result (Unit {0}) Failed) → IsTaken (taken old) (faults old) (taken mid) (faults mid) text written → IsOk written → is_finished new ≡ true → IsDone taken is_finished old new text
-  all_out (Ok x) is ok finished = record { grown = grown text is.ok; finished = finished }
-  all_out (Err e) is ok finished = absurd ok
-
   pub cut_out : (written : Result (Unit {0}) Failed) → IsTaken (taken old) (faults old) (taken mid) (faults mid) text written → faults mid ≤ faults new → (IsOk written → Rose (faults mid) (faults new)) → IsCutShort taken faults old new text
   cut_out (Ok x) is later failed =
-      let rose = failed tt in
+      let rose = failed refl in
       let before = is.cause.later in
       let all : take (length text) text ≡ text = take_all (length text) text (omega arith) in
       record {
@@ -86,33 +82,21 @@ module _ {O : Type 0} (told : Option (List File)) (before now : ℕ) (taken : O 
     pub served : (ending : Ending) → WritesOut taken is_finished faults old new (text_of compared) ending → IsAnsweredOr compared ending → Came (comparing c) ending
     served Told is kind = absurd kind
     served WriteFault is kind = (text_of compared, record { sources = compared.sources.items; answer = compared.outcome.answer; result = right; is = refl }, is)
-    served (Answered same) is kind = (subst (λ (it : Compared). IsResult told c it.sources.items it.outcome.answer) (sym kind) right, is)
+    served (Answered same) is kind = subst (λ (it : Compared). IsResult told c it.sources.items it.outcome.answer × IsDone taken is_finished old new (text_of it)) (sym kind) (right, is)
     served (Refused why) is kind = absurd kind
 
 -- Statuses.
 
 -- a refusal has a status of its own
-file_over : (f : FileFault) → (2 < file_status f) × (file_status f ≡ 11 → ⊥)
-file_over fault.Unread = (omega arith, λ e. omega (arith, e))
-file_over other = (omega arith, λ e. omega (arith, e))
+file_over : (f : FileFault) → 2 < file_status f
+file_over fault.Unread = omega arith
+file_over other = omega arith
 
-refusal_over : (why : Refusal) → (2 < refusal_status why) × (refusal_status why ≡ 11 → ⊥)
+refusal_over : (why : Refusal) → 2 < refusal_status why
 refusal_over (Library f) = file_over f
 refusal_over (FileAt place f) = file_over f
-refusal_over (Ports p) = (omega arith, λ e. omega (arith, e))
-refusal_over Memory = (omega arith, λ e. omega (arith, e))
-
-answer_within : (answer : Answer) → answer_status answer < 3
-answer_within Equal = omega arith
-answer_within (Differ d) = omega arith
-answer_within (Undecided points) = omega arith
-
--- words that ask for something have another status than words of no form
-pub not_words : (ending : Ending) → ending_status ending ≡ 11 → ⊥
-not_words Told e = omega (arith, e)
-not_words (Answered compared) e = let less = answer_within compared.outcome.answer in omega (arith, e, less)
-not_words WriteFault e = omega (arith, e)
-not_words (Refused why) e = (refusal_over why).1 e
+refusal_over (Ports p) = omega arith
+refusal_over Memory = omega arith
 
 -- at 0 the files are equal
 equal_answer : (told : Option (List File)) (c : Comparison) (sources : List Source) (answer : Answer) → IsResult told c sources answer → answer_status answer ≡ 0 → (files : List File) → told ≡ Some files → AreEqualFiles c (bytes_of files)
@@ -131,7 +115,7 @@ pub equal_files : {O : Type 0} (told : Option (List File)) (before now : ℕ) (t
 equal_files told before now taken is_finished faults old new c Told is zero files known = absurd is
 equal_files told before now taken is_finished faults old new c (Answered compared) is zero files known = equal_answer told c compared.sources.items compared.outcome.answer is.0 zero files known
 equal_files told before now taken is_finished faults old new c WriteFault is zero files known = absurd (omega (arith, zero))
-equal_files told before now taken is_finished faults old new c (Refused why) is zero files known = let over = (refusal_over why).0 in absurd (omega (arith, zero, over))
+equal_files told before now taken is_finished faults old new c (Refused why) is zero files known = let over = refusal_over why in absurd (omega (arith, zero, over))
 
 -- at 1 they differ
 module _ {O : Type 0} (words : List (List ℕ)) (told : Option (List File)) (before now : ℕ) (taken : O → Option (List ℕ)) (is_finished : O → Bool) (faults : O → ℕ) (old new : O) where
@@ -155,16 +139,24 @@ module _ {O : Type 0} (words : List (List ℕ)) (told : Option (List File)) (bef
   differ_ending c Told asks is one files known = absurd is
   differ_ending c (Answered compared) asks is one files known = differ_answer c compared.sources.items compared.outcome.answer asks is.0 is.1 one files known
   differ_ending c WriteFault asks is one files known = absurd (omega (arith, one))
-  differ_ending c (Refused why) asks is one files known = let over = (refusal_over why).0 in absurd (omega (arith, one, over))
+  differ_ending c (Refused why) asks is one files known = let over = refusal_over why in absurd (omega (arith, one, over))
 
   page_ending : (ending : Ending) → Meets told before now taken is_finished faults old new help ending ⊎ Meets told before now taken is_finished faults old new version ending → ending_status ending ≡ 1 → ⊥
   page_ending Told is one = omega (arith, one)
   page_ending (Answered compared) (inl is) one = is
   page_ending (Answered compared) (inr is) one = is
   page_ending WriteFault is one = omega (arith, one)
-  page_ending (Refused why) is one = let over = (refusal_over why).0 in omega (arith, one, over)
+  page_ending (Refused why) is one = let over = refusal_over why in omega (arith, one, over)
 
   pub differ_files : (request : Request) (ending : Ending) → request_of words ≡ Ok request → Meets told before now taken is_finished faults old new request ending → ending_status ending ≡ 1 → (files : List File) → told ≡ Some files → DifferAsWritten words (bytes_of files) taken is_finished old new
   differ_files help ending asks is one files known = absurd (page_ending ending (inl is) one)
   differ_files version ending asks is one files known = absurd (page_ending ending (inr is) one)
   differ_files (comparing c) ending asks is one files known = differ_ending c ending asks is one files known
+
+-- What words ask for.
+
+ok_same : (a b : Request) (r s : Result Request WordFault) → r ≡ Ok a → s ≡ Ok b → r ≡ s → a ≡ b
+ok_same a b r s first second same = cc
+
+pub asked_once : (words : List (List ℕ)) (a b : Request) → Ok a ≡ request_of words → request_of words ≡ Ok b → a ≡ b
+asked_once words a b first second = ok_same a b (Ok a) (request_of words) refl second first

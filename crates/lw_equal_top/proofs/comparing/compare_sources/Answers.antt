@@ -4,7 +4,7 @@ use Rattle.std.proofs.lemmas.Result.{err_from_is_err_and}
 use Rattle.lw_equal.specs.declared.side.Side.{Side}
 use Rattle.lw_equal.specs.Answers.{HasFault, IsAnswer}
 use Rattle.lw_equal.specs.Sides.{IsSide}
-use Rattle.lw_equal_top.proofs.Paired.{answered, as_many, refused}
+use Rattle.lw_equal_top.proofs.Paired.{all_but_two, answered, as_many, refused}
 use Rattle.lw_equal_top.proofs.comparing.compare_sources.Goals as goal
 
 pub index-requires : goal.index-requires
@@ -46,7 +46,7 @@ compare-requires-clause-other c =
     subst IsSide (sym c.index-2.ensures) (c.in_ok-sides.ensures.all 1 c.index-2.result.now (omega (arith, many, two)))
 
 pub compare-requires-clause-more : goal.compare-requires-clause-more
-compare-requires-clause-more c = subst (λ (ss : List Side). All IsSide (drop 2 ss)) (sym c.deref.ensures.value) (All-drop IsSide 2 c.in_ok-sides.sides.items c.in_ok-sides.ensures.all)
+compare-requires-clause-more c = subst (All IsSide) (sym (all_but_two c.deref.result.now c.in_ok-sides.sides.items c.deref.ensures.value)) (All-drop IsSide 2 c.in_ok-sides.sides.items c.in_ok-sides.ensures.all)
 
 pub returns-in_err-outcome : goal.returns-in_err-outcome
 returns-in_err-outcome c =
@@ -59,7 +59,7 @@ returns-in_err-outcome c =
     let d = c.index.result.now in
     let e = c.index-2.result.now in
     let why = c.in_err-outcome.field-0.0 in
-    let more = subst (λ (ss : List Side). HasFault d e (drop 2 ss) why) c.deref.ensures.value c.in_err-outcome.ensures.fault in
+    let more = subst (λ (ss : List Side). HasFault d e ss why) (all_but_two c.deref.result.now sides c.deref.ensures.value) c.in_err-outcome.ensures.fault in
     let fault = subst₂ (λ a b. HasFault a b (drop 2 sides) why) c.index.ensures c.index-2.ensures more in
     let p = err_from_is_err_and c.from_residual-in_err-outcome.result c.from_residual-in_err-outcome.ensures.1 in
     rw (p.1, p.2) (refused cells sources sides d e why (omega (arith, many, two)) are fault)
