@@ -63,11 +63,7 @@ fn library_word(word: Option<&str>) -> &[u8]
 }
 
 // Why there is no answer.
-fn put_refusal<E: Sink>(
-    out: &mut Writer<'_, E>,
-    comparison: &Comparison<'_>,
-    refusal: &Refusal,
-)
+fn put_refusal<E: Sink>(out: &mut Writer<'_, E>, comparison: &Comparison<'_>, refusal: &Refusal)
     ensures { Writes E.taken E.faults out.old out.new
         (refusal_text (plain_comparison comparison.now) refusal.now) }
 {
@@ -92,11 +88,7 @@ fn put_counts<E: Sink>(out: &mut Writer<'_, E>, counts: &Counts)
 }
 
 // The line of a comparison.
-fn put_comparison<E: Sink>(
-    out: &mut Writer<'_, E>,
-    comparison: &Comparison<'_>,
-    ending: &Ending,
-)
+fn put_comparison<E: Sink>(out: &mut Writer<'_, E>, comparison: &Comparison<'_>, ending: &Ending)
     ensures { Writes E.taken E.faults out.old out.new
         (comparison_line (plain_comparison comparison.now) ending.now) }
 {

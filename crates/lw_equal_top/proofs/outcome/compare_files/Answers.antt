@@ -44,7 +44,7 @@ returns-in-Ok-compare_sources g c =
     let answer = c.in-Ok-compare_sources.outcome.answer in
     let known : c.is_some-known.result ≡ is_some asked.library = c.is_some-known.ensures ∙ sym (as_known (λ word. word.now) c.args.comparison.library) in
     let read : (files : List File) → told c.args.shelf.now ≡ Some files → AreRead (is_some asked.library) cells asked.files (bytes_of files) sources = λ files are.
-        subst (λ (b : Bool). AreRead b cells asked.files (bytes_of files) sources) known (then.reads.0 files (first.files ∙ are)) in
+    subst (λ (b : Bool). AreRead b cells asked.files (bytes_of files) sources) known (then.reads.0 files (first.files ∙ are)) in
     let right = subst (λ (ss : List Source). IsAnswerFor cells ss answer) c.deref.ensures.value c.in-Ok-compare_sources.ensures in
     record {
       files = then.files ∙ first.files;
