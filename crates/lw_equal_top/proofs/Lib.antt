@@ -2,3 +2,6 @@ pub mod Numerals
 pub mod Files
 pub mod Sided
 pub mod Values
+pub mod Paired
+pub mod Reasons
+pub mod Served

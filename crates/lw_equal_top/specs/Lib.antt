@@ -1,6 +1,5 @@
 pub mod Words
 pub mod Requests
-pub mod Shown
 pub mod Statuses
 pub mod Sources
 pub mod Reading

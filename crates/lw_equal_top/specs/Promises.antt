@@ -1,5 +1,5 @@
 -- What a run promises.
-use Rattle.std.specs.Prelude.{◌≡◌, ◌⊎◌, ◌≤◌, ℕ, Bool, List, Option, Some, Result, Ok, Err}
+use Rattle.std.specs.Prelude.{◌≡◌, ◌⊎◌, ℕ, Bool, List, Option, None, Result, Ok, Err}
 use Rattle.std.specs.Io.KnownBytes.{Appends}
 use Rattle.lw_io.specs.declared.file.File.{File}
 use Rattle.lw_io.specs.Causes.{Rose}
@@ -10,6 +10,7 @@ use Rattle.lw_equal.specs.declared.answer.Answer.TheVariants.{Equal, Differ}
 use Rattle.lw_equal.specs.declared.answer.Difference.{Difference}
 use Rattle.lw_equal.specs.declared.point.Point.{Point}
 use Rattle.lw_equal.specs.Answers.{AgreeAt, IsDifference}
+use Rattle.lw_equal.specs.Ports.{both_faults}
 use Rattle.lw_equal_top.specs.declared.source.Source.{Source}
 use Rattle.lw_equal_top.specs.declared.outcome.Ending.{Ending}
 use Rattle.lw_equal_top.specs.Words.{Comparison, Request, comparing, WordFault, request_of}
@@ -22,15 +23,17 @@ use Rattle.lw_equal_top.specs.Outcomes.{AreSaid, IsDone, Meets, names_in}
 abbrev pub AsksToCompare : List (List ℕ) → Comparison → Type 0
 AsksToCompare words c = request_of words ≡ Ok (comparing c)
 
--- The files of a comparison say these sources, of which the first two agree at each point.
+-- The files of a comparison say these sources, of which the first two have the same inputs, outputs and latches, and agree at each point.
 pub record AreEqualFiles (c : Comparison) (files : Files) : Type 0 where
   pub cells : List CellParts
   pub sources : List Source
   pub said : AreSaid c files cells sources
   pub sides : Sides cells sources
+  pub ports : both_faults sides.one sides.other ≡ None
   pub agree : (point : Point) → AgreeAt sides.one sides.other point
 
--- The words ask for a comparison, and the text that went out tells a difference between its first two files.
+-- The words ask for a comparison of files, of which the first two have the same inputs, outputs and latches, and the text that went out
+-- tells a difference between them.
 pub record DifferAsWritten {O : Type 0} (words : List (List ℕ)) (files : Files) (taken : O → Option (List ℕ)) (is_finished : O → Bool) (old new : O) : Type 0 where
   pub comparison : Comparison
   pub asked : AsksToCompare words comparison
@@ -38,6 +41,7 @@ pub record DifferAsWritten {O : Type 0} (words : List (List ℕ)) (files : Files
   pub sources : List Source
   pub said : AreSaid comparison files cells sources
   pub sides : Sides cells sources
+  pub ports : both_faults sides.one sides.other ≡ None
   pub difference : Difference
   pub differs : IsDifference sides.one sides.other difference.point difference.inputs.items
   pub written : IsDone taken is_finished old new (answer_text (names_in sources) (Differ difference))

@@ -27,12 +27,12 @@ pub record ReadsCellsOf {F : Type 0} (told : F → Option (List File)) (faults :
   pub reads : CellsOr (told old) (faults old) (faults new) word result
 
 -- The file at this place was refused, with its reason, and each before it was read.
-pub record IsRefused (told : Option (List File)) (before now : ℕ) (known : Bool) (cells : List CellParts) (names : List (List ℕ)) (place : ℕ) (name : List ℕ) : Type 0 where
+pub record IsRefused (told : Option (List File)) (known : Bool) (cells : List CellParts) (names : List (List ℕ)) (place : ℕ) (name : List ℕ) : Type 0 where
   pub at : slice_get names place ≡ Some name
   pub earlier : (files : List File) → told ≡ Some files → (sources : List Source) × AreRead known cells (take place names) (bytes_of files) sources
 
 abbrev pub SourcesRefused : Option (List File) → ℕ → ℕ → Bool → List CellParts → List (List ℕ) → Refusal → Type 0
-SourcesRefused told before now known cells names (FileAt place fault) = (name : List ℕ) × IsRefused told before now known cells names place name × file.HasReason told before now (ReadsSource known cells name) fault
+SourcesRefused told before now known cells names (FileAt place fault) = (name : List ℕ) × IsRefused told known cells names place name × file.HasReason told before now (ReadsSource known cells name) fault
 SourcesRefused told before now known cells names Memory = ⊤
 SourcesRefused told before now known cells names other = ⊥
 

@@ -1,6 +1,6 @@
 -- What the files of a comparison say.
-use Rattle.std.specs.Prelude.{◌≡◌, ◌<◌, ℕ, Bool, true, false, ◌&&◌, List, [], ◌∷◌, length, map, take, slice_get, Option, Some, None, is_some, Result, Ok, Err, codes}
-use Rattle.std.specs.List.{list_any}
+use Rattle.std.specs.Prelude.{◌≡◌, ℕ, Bool, true, false, ◌&&◌, List, [], take, Option, Some, None, Ok, Err, codes}
+use Rattle.std.specs.List.{AllZip, list_any}
 use Rattle.std.specs.Str.{bytes_eq}
 use Rattle.lw_words.specs.Lines.{LogicalLine}
 use Rattle.lw_words.specs.Words.{first_word}
@@ -59,10 +59,9 @@ ReadsCells (Some name) files result = ReadsLibrary name files result
 abbrev pub ReadsSource : Bool → List CellParts → List ℕ → FileStep Source
 ReadsSource known cells name = followed_by (gives (text_of name)) (HasSource known cells)
 
--- The files with these names say these, one each.
-pub record AreRead (known : Bool) (cells : List CellParts) (names : List (List ℕ)) (files : Files) (sources : List Source) : Type 0 where
-  pub count : length sources ≡ length names
-  pub each : (k : ℕ) (name : List ℕ) (source : Source) → slice_get names k ≡ Some name → slice_get sources k ≡ Some source → ReadsSource known cells name files (Ok source)
+-- the files with these names say these, one each, in order
+abbrev pub AreRead : Bool → List CellParts → List (List ℕ) → Files → List Source → Type 0
+AreRead known cells names files sources = AllZip (λ name source. ReadsSource known cells name files (Ok source)) names sources
 
 -- Sides.
 
@@ -90,7 +89,6 @@ pub record IsSideOf (cells : List CellParts) (source : Source) (side : Side) : T
 abbrev pub IsSource : List CellParts → Source → Type 0
 IsSource cells source = (side : Side) → IsSideOf cells source side → IsSide side
 
--- The sources as sides, one each.
-pub record AreSides (cells : List CellParts) (sources : List Source) (sides : List Side) : Type 0 where
-  pub count : length sides ≡ length sources
-  pub each : (k : ℕ) (source : Source) (side : Side) → slice_get sources k ≡ Some source → slice_get sides k ≡ Some side → IsSideOf cells source side
+-- the sources as sides, one each, in order
+abbrev pub AreSides : List CellParts → List Source → List Side → Type 0
+AreSides cells sources sides = AllZip (IsSideOf cells) sources sides

@@ -1,8 +1,5 @@
 -- The lines for err.
 use Rattle.std.specs.Prelude.{ℕ, ◌-◌, Bool, List, [], ◌∷◌, ◌++◌, Option, Some, None, unwrap_or, slice_index_or, if◌then◌else◌, codes, decimal}
-use Rattle.lw_files.specs.declared.fault.FileFault.{FileFault}
-use Rattle.lw_files.specs.declared.fault.FileFault.TheVariants as file
-use Rattle.lw_files.specs.Faults.{fault_text}
 use Rattle.lw_equal.specs.declared.answer.Counts.{Counts}
 use Rattle.lw_equal.specs.declared.answer.PortFault.{PortFault}
 use Rattle.lw_equal.specs.declared.answer.PortKind.{PortKind}
@@ -11,24 +8,8 @@ use Rattle.lw_equal_top.specs.declared.fault.Refusal.{Refusal}
 use Rattle.lw_equal_top.specs.declared.fault.Refusal.TheVariants.{Library, File, Ports, Memory}
 use Rattle.lw_equal_top.specs.declared.outcome.Ending.{Ending}
 use Rattle.lw_equal_top.specs.declared.outcome.Ending.TheVariants.{Told, Answered, WriteFault, Refused}
-use Rattle.lw_equal_top.specs.Shown.{shown}
+use Rattle.lw_shown.specs.Faults.{named, shown_fault}
 use Rattle.lw_equal_top.specs.Words.{Comparison, Request, help, version, comparing, WordFault, few, dashed, numeral}
-
--- Faults of files.
-
-abbrev pub named : List ℕ → List ℕ → List ℕ → List ℕ
-named file what name = shown file ++ (what ++ shown name)
-
--- what is wrong with the file that this word names: the text of the fault, with the control bytes of names escaped
-abbrev pub shown_fault : List ℕ → FileFault → List ℕ
-shown_fault word file.Unread = named [] (codes "cannot read ") word
-shown_fault word file.TooLong = named [] (codes "limit: ") word ++ codes " has more than 67108864 bytes"
-shown_fault word (file.Undefined name) = named word (codes ": undefined signal ") name
-shown_fault word (file.Cycle name) = named word (codes ": cycle through ") name
-shown_fault word (file.NetCycle name) = named word (codes ": cycle through ") name
-shown_fault word (file.Twice name) = named word (codes ": net ") name ++ codes " driven twice"
-shown_fault word (file.Undriven name) = named word (codes ": net ") name ++ codes " not driven"
-shown_fault word other = shown word ++ fault_text [] other
 
 -- Ports.
 
@@ -72,16 +53,20 @@ counts_text c =
     ++ (count (codes ", left ") c.open
     ++ count (codes ", conflicts ") c.conflicts))))
 
+-- the line where standard output failed
+abbrev pub cannot_write : List ℕ
+cannot_write = line (codes "cannot write")
+
 abbrev pub comparison_line : Comparison → Ending → List ℕ
 comparison_line c Told = []
 comparison_line c (Answered compared) = if c.counted then line (counts_text compared.outcome.counts) else []
-comparison_line c WriteFault = line (codes "cannot write")
+comparison_line c WriteFault = cannot_write
 comparison_line c (Refused refusal) = line (refusal_text c refusal)
 
 -- the line of an ending, if it has one
 abbrev pub ending_line : Request → Ending → List ℕ
 ending_line (comparing c) ending = comparison_line c ending
-ending_line page WriteFault = line (codes "cannot write")
+ending_line page WriteFault = cannot_write
 ending_line page other = []
 
 -- Words.

@@ -7,7 +7,7 @@ use Rattle.lw_equal.specs.declared.answer.Difference.{Difference}
 use Rattle.lw_equal.specs.declared.point.Kind.{Kind}
 use Rattle.lw_equal.specs.declared.point.Kind.TheVariants.{Output, Data, Control}
 use Rattle.lw_equal.specs.declared.point.Point.{Point}
-use Rattle.lw_equal_top.specs.Shown.{shown}
+use Rattle.lw_shown.specs.Shown.{shown}
 
 -- what stands before the name of a point: a latch is named by its output
 abbrev pub kind_text : Kind → List ℕ

@@ -29,6 +29,7 @@ fn sides<'a>(
 
 // How many conflicts all searches of a run may have, and how many values they may spread.
 const ALL_CONFLICTS: u64 = 300_000;
+
 const ALL_STEPS: u64 = 4_000_000_000;
 
 /// Compares the first two sources, by the cells of the library; the others may help.

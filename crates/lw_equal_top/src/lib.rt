@@ -6,7 +6,7 @@
 //! each to a `source`: a network, or a netlist of the library's cells. `comparing` gives them to
 //! `lw_equal` as sides. `saying` writes the answer and `pages` has the help; `outcome` is the way
 //! from a request to what it came to, or to a refusal (`fault`). `telling` writes the line for err,
-//! with control bytes escaped (`shown`), and `top` does all of it. `lwequal` calls `run`.
+//! and `top` does all of it. `lwequal` calls `run`.
 #![tactic(auto)]
 
 mod comparing;
@@ -16,7 +16,6 @@ mod pages;
 mod reading;
 mod request;
 mod saying;
-mod shown;
 mod source;
 mod telling;
 mod top;

@@ -3,10 +3,10 @@ ghost use Rattle.std.specs.Prelude.{◌≡◌, length};
 ghost use Rattle.lw_io.specs.Writers.{Writes};
 ghost use Rattle.lw_equal_top.specs.Texts.{HasValues, answer_text, difference_text, kind_text, point_line, point_text, undecided_text, value_line, value_text, values_text};
 
-use crate::shown::put_shown;
 use lw_equal::{Answer, Difference, Kind, Point};
 use lw_io::{Sink, Writer};
 use lw_pool::Name;
+use lw_shown::put_shown;
 
 // What stands before the name of a point.
 fn kind_text(kind: Kind) -> &'static [u8]

@@ -40,9 +40,7 @@ impl Source {
         ensures { result.now ≡ input_names self.now }
     {
         match self {
-            Source::Network(model) => {
-                &model.network.names()[..model.network.inputs() as usize]
-            }
+            Source::Network(model) => { &model.network.names()[..model.network.inputs() as usize] }
             Source::Netlist(mapped) => {
                 &mapped.netlist.names()[..mapped.netlist.inputs() as usize]
             }

@@ -1,73 +1,17 @@
 // The line of each ending.
-ghost use Rattle.std.specs.Prelude.{◌≡◌, ◌++◌, [], map, string_bytes, option_map, unwrap_or};
+ghost use Rattle.std.specs.Prelude.{◌≡◌, [], map, string_bytes, option_map, unwrap_or};
 ghost use Rattle.lw_io.specs.Waitings.{IsTaken};
 ghost use Rattle.lw_io.specs.Writers.{Writes};
-ghost use Rattle.lw_files.specs.Faults.{fault_text};
-ghost use Rattle.lw_equal_top.specs.Shown.{shown};
-ghost use Rattle.lw_equal_top.specs.Telling.{comparison_line, counts_text, ending_line, file_of, kind_name, named, port_text, refusal_text, shown_fault, word_at, word_text, words_line};
+ghost use Rattle.lw_equal_top.specs.Telling.{comparison_line, counts_text, ending_line, file_of, kind_name, port_text, refusal_text, word_at, word_text, words_line};
 ghost use Rattle.lw_equal_top.specs.Requests.{plain_comparison, plain_fault, plain_request};
 
 use crate::fault::Refusal;
 use crate::outcome::Ending;
-use crate::shown::put_shown;
 use crate::request::{Comparison, Request, WordFault};
 use lw_equal::{Counts, PortFault, PortKind};
-use lw_files::{FileFault, put_count, put_fault};
+use lw_files::put_count;
 use lw_io::{Failed, Sink, Writer};
-
-// A file, what is said of it, and a name.
-fn put_named<E: Sink>(out: &mut Writer<'_, E>, file: &[u8], what: &[u8], name: &[u8])
-    ensures { Writes E.taken E.faults out.old out.new (named file.now what.now name.now) }
-{
-    put_shown(out, file);
-    out.put(what);
-    put_shown(out, name);
-}
-
-// The same with something behind it.
-fn put_behind<E: Sink>(
-    out: &mut Writer<'_, E>,
-    file: &[u8],
-    what: &[u8],
-    name: &[u8],
-    behind: &[u8],
-)
-    ensures { Writes E.taken E.faults out.old out.new
-        (named file.now what.now name.now ++ behind.now) }
-{
-    put_named(out, file, what, name);
-    out.put(behind);
-}
-
-// A fault that names nothing but its file.
-fn put_plain_fault<E: Sink>(out: &mut Writer<'_, E>, file: &[u8], fault: &FileFault)
-    ensures { Writes E.taken E.faults out.old out.new
-        (shown file.now ++ fault_text [] fault.now) }
-{
-    put_shown(out, file);
-    put_fault(out, b"", fault);
-}
-
-// What is wrong with the file that this word names.
-fn put_file_fault<E: Sink>(out: &mut Writer<'_, E>, file: &[u8], fault: &FileFault)
-    ensures { Writes E.taken E.faults out.old out.new (shown_fault file.now fault.now) }
-{
-    match fault {
-        FileFault::Unread => put_named(out, b"", b"cannot read ", file),
-        FileFault::TooLong => put_behind(out, b"", b"limit: ", file, TOO_LONG),
-        FileFault::Undefined(s) => put_named(out, file, b": undefined signal ", s.as_bytes()),
-        FileFault::Cycle(s) => put_named(out, file, b": cycle through ", s.as_bytes()),
-        FileFault::NetCycle(s) => put_named(out, file, b": cycle through ", s.as_bytes()),
-        FileFault::Twice(s) => put_behind(out, file, b": net ", s.as_bytes(), b" driven twice"),
-        FileFault::Undriven(s) => put_behind(out, file, b": net ", s.as_bytes(), b" not driven"),
-        FileFault::Library(..) => put_plain_fault(out, file, fault),
-        FileFault::Network(..) => put_plain_fault(out, file, fault),
-        FileFault::Mapped(..) => put_plain_fault(out, file, fault),
-        FileFault::Memory => put_plain_fault(out, file, fault),
-    }
-}
-
-const TOO_LONG: &[u8] = b" has more than 67108864 bytes";
+use lw_shown::{put_behind, put_named, put_shown_fault};
 
 fn kind_name(kind: PortKind) -> &'static [u8]
     ensures { result.now ≡ kind_name kind }
@@ -119,17 +63,13 @@ fn library_word(word: Option<&str>) -> &[u8]
 }
 
 // Why there is no answer.
-fn put_refusal<E: Sink>(
-    out: &mut Writer<'_, E>,
-    comparison: &Comparison<'_>,
-    refusal: &Refusal,
-)
+fn put_refusal<E: Sink>(out: &mut Writer<'_, E>, comparison: &Comparison<'_>, refusal: &Refusal)
     ensures { Writes E.taken E.faults out.old out.new
         (refusal_text (plain_comparison comparison.now) refusal.now) }
 {
     match refusal {
-        Refusal::Library(f) => put_file_fault(out, library_word(comparison.library), f),
-        Refusal::File(place, f) => put_file_fault(out, word_at(comparison.files, *place), f),
+        Refusal::Library(f) => put_shown_fault(out, library_word(comparison.library), f),
+        Refusal::File(place, f) => put_shown_fault(out, word_at(comparison.files, *place), f),
         Refusal::Ports(f) => put_port_fault(out, comparison.files, f),
         Refusal::Memory => out.put(b"out of memory"),
     }
@@ -148,11 +88,7 @@ fn put_counts<E: Sink>(out: &mut Writer<'_, E>, counts: &Counts)
 }
 
 // The line of a comparison.
-fn put_comparison<E: Sink>(
-    out: &mut Writer<'_, E>,
-    comparison: &Comparison<'_>,
-    ending: &Ending,
-)
+fn put_comparison<E: Sink>(out: &mut Writer<'_, E>, comparison: &Comparison<'_>, ending: &Ending)
     ensures { Writes E.taken E.faults out.old out.new
         (comparison_line (plain_comparison comparison.now) ending.now) }
 {

@@ -1,4 +1,4 @@
--- What is wrong with a file, with the control bytes of names escaped.
+-- What is wrong with a file, with the control bytes and backslashes of names escaped.
 use Rattle.std.specs.Prelude.{ℕ, List, [], ◌++◌, codes}
 use Rattle.lw_files.specs.declared.fault.FileFault.{FileFault}
 use Rattle.lw_files.specs.declared.fault.FileFault.TheVariants.{Unread, TooLong, Library, Network, Undefined, Cycle, Mapped, Twice, Undriven, NetCycle, Memory}

@@ -1,15 +1,15 @@
 // Bytes as a line shows them.
 ghost use Rattle.std.specs.Prelude.{◌≡◌, ◌<◌};
 ghost use Rattle.lw_io.specs.Writers.{Writes};
-ghost use Rattle.lw_shown.specs.Shown.{is_control, hex_digit, shown_byte, shown};
+ghost use Rattle.lw_shown.specs.Shown.{is_escaped, hex_digit, shown_byte, shown};
 
 use lw_io::{Sink, Writer};
 
-// A byte that a terminal would take for an order.
-fn is_control(byte: u8) -> bool
-    ensures { result ≡ is_control byte }
+// A byte that a terminal would take for an order, and the backslash, with which those are written.
+fn is_escaped(byte: u8) -> bool
+    ensures { result ≡ is_escaped byte }
 {
-    byte < 32 || byte == 127
+    byte < 32 || byte == 92 || byte == 127
 }
 
 fn hex_digit(value: u8) -> u8
@@ -19,18 +19,18 @@ fn hex_digit(value: u8) -> u8
     if value < 10 { 48 + value } else { 87 + value }
 }
 
-// A control byte as `\x` and two digits.
+// Such a byte as `\x` and two digits, and any other as it is.
 fn put_byte<S: Sink>(out: &mut Writer<'_, S>, byte: u8)
     ensures { Writes S.taken S.faults out.old out.new (shown_byte byte) }
 {
-    if is_control(byte) {
+    if is_escaped(byte) {
         out.put(&[92, 120, hex_digit(byte / 16), hex_digit(byte % 16)]);
     } else {
         out.put(&[byte]);
     }
 }
 
-/// Puts bytes, the control bytes among them escaped.
+/// Puts bytes, the control bytes and backslashes among them escaped.
 pub fn put_shown<S: Sink>(out: &mut Writer<'_, S>, bytes: &[u8])
     ensures { Writes S.taken S.faults out.old out.new (shown bytes.now) }
 {

@@ -1,4 +1,4 @@
-//! Names as a line of a message shows them: control bytes are escaped.
+//! Names as a line of a message shows them: control bytes and backslashes are escaped.
 //!
 //! `bytes` puts a name, and `faults` says what is wrong with a file, with the word that names it.
 //! Programs write their messages with both, through the `Writer` of `lw_io`. The definition to read

@@ -1,5 +1,4 @@
-use Prim.{search}
-use Rattle.std.proofs.Common.{◌<◌, ◌≤◌, true, length, sym, ◌∙◌, subst, subst₂, arith}
+use Rattle.std.proofs.Common.{◌<◌, ◌≤◌, false, length, get_or, sym, ◌∙◌, subst, subst₂, arith}
 use Rattle.std.proofs.lemmas.List.{take_all}
 use Rattle.lw_io.specs.Writers.{Writes}
 use Rattle.lw_io.proofs.Putting.{Writes-both}
@@ -13,8 +12,8 @@ loop-k-preserved g c =
     let values = c.args.values.now in
     let k = c.loop-k.k in
     let within : k < length values = omega (arith, c.loop-k-test.true, c.requires) in
-    let next = subst₂ (λ name value. Writes g.S.Sink.taken g.S.Sink.faults c.loop-k.out c.put_value.new.out (value_line name value)) (c.as_bytes.ensures.bytes ∙ c.index-names-k.is) search c.put_value.ensures in
-    subst (λ l. Writes g.S.Sink.taken g.S.Sink.faults c.args.out.now c.put_value.new.out l) (sym (values_more names values k c.index-names-k.result true c.loop-k-test.true within)) (Writes-both c.loop-k.invariant next)
+    let next = subst (λ name. Writes g.S.Sink.taken g.S.Sink.faults c.loop-k.out c.put_value.new.out (value_line name (get_or values k false))) (c.as_bytes.ensures.bytes ∙ c.index-names-k.is) c.put_value.ensures in
+    subst (λ l. Writes g.S.Sink.taken g.S.Sink.faults c.args.out.now c.put_value.new.out l) (sym (values_more names values k c.index-names-k.result false c.loop-k-test.true within)) (Writes-both c.loop-k.invariant next)
 
 pub returns : goal.returns
 returns g c =

@@ -1,4 +1,3 @@
-
 use Rattle.lw_io.proofs.Putting.{Writes-both}
 use Rattle.lw_equal_top.proofs.telling.put_words.Goals as goal
 
