@@ -1,6 +1,9 @@
 pub mod Words
 pub mod Plain
 pub mod Deadlines
+pub mod Pages
 pub mod Refusals
 pub mod Recovered
 pub mod Answers
+pub mod Outcomes
+pub mod Promises
