@@ -1,1 +1,4 @@
 mod Options
+mod Steps
+mod Serving
+mod Endings

@@ -1,5 +1,5 @@
 -- A netlist with little area to which a network is mapped, and the text of one.
-use Rattle.std.specs.Prelude.{ℕ, ◌≤◌, ◌≡◌, ⊤, ⊥, Bool, true, false, List, length, map, Option, Some, None, option_map, slice_index_or}
+use Rattle.std.specs.Prelude.{ℕ, ◌≤◌, ◌≡◌, ⊤, Bool, true, false, List, length, map, Option, Some, None, option_map, slice_index_or}
 use Rattle.lw_pool.specs.declared.id.ClassId.{ClassId}
 use Rattle.lw_fixed.specs.declared.micro.Micro.{Micro}
 use Rattle.lw_laws.specs.Graphs.{Graph}
