@@ -2,11 +2,10 @@
 use Rattle.std.proofs.Common.{◌≡◌, inl, inr, ℕ, Bool, List, Option, Some, Result, Ok, Err, refl, subst, arith}
 use Rattle.lw_io.specs.declared.file.File.{File}
 use Rattle.lw_io.specs.Files.{bytes_of}
-use Rattle.lw_laws.specs.Headline.{IsMapping}
 use Rattle.lw_files.specs.declared.fault.FileFault.{FileFault}
 use Rattle.lw_files.specs.declared.fault.FileFault.TheVariants as fault
-use Rattle.lw_files.specs.Steps.{Files, followed_by}
-use Rattle.lw_files.specs.Sources.{ReadsLibrary, ReadsModel}
+use Rattle.lw_files.specs.Faults.{fault_status}
+use Rattle.lw_files.specs.Steps.{Files}
 use Rattle.lw_map.specs.declared.fault.MapFault.TheVariants as map_fault
 use Rattle.lw_top.specs.Outcome.{IsDone}
 use Rattle.lw_top.proofs.FaultStatuses.{fault_is_not_done, fault_names_no_output}
@@ -14,11 +13,15 @@ use Rattle.lw_area.specs.declared.outcome.Ending.{Ending}
 use Rattle.lw_area.specs.declared.outcome.Ending.TheVariants.{Done, WriteFault, Refused}
 use Rattle.lw_area.specs.declared.refusal.Refusal.{Refusal}
 use Rattle.lw_area.specs.declared.refusal.Refusal.TheVariants.{Library, Network, Unmapped}
-use Rattle.lw_area.specs.Answers.{IsTaskAnswer, Recovers, in_library, in_network}
+use Rattle.lw_area.specs.Answers.{IsTaskAnswer}
 use Rattle.lw_area.specs.Outcomes.{Meets, ending_line, ending_status}
 use Rattle.lw_area.specs.Promises.{IsRecoveryOf, LacksOutput}
 use Rattle.lw_area.specs.Refusals.{refusal_line, status_of}
-use Rattle.lw_area.specs.Words.{Task, mapping}
+use Rattle.lw_area.specs.Words.{Asked, Task, WrongWord, mapping}
+
+-- words ask for one thing
+pub same_asked : (asked : Asked) (task : Task) → ◌≡◌ {A = Result Asked WrongWord} (Ok asked) (Ok (mapping task)) → asked ≡ mapping task
+same_asked asked task e = cc
 
 -- an answer that is a text
 pub recovery : (task : Task) (files : Files) (text : List ℕ) → IsTaskAnswer task files (Ok text) → IsRecoveryOf task files text
@@ -35,6 +38,10 @@ lacking task files name (inl (cells, one, inr (Unmapped f, refused, is))) = absu
 lacking task files name (inr (Library f, refused, is)) = cc
 lacking task files name (inr (Network f, refused, is)) = absurd refused
 lacking task files name (inr (Unmapped f, refused, is)) = absurd refused
+
+fault_not_one : (f : FileFault) → fault_status f ≡ 1 → ⊥
+fault_not_one fault.Unread e = omega (arith, e)
+fault_not_one other e = omega (arith, e)
 
 -- a refusal is no text
 pub not_done : (r : Refusal) → 0 ≡ status_of r → ⊥
@@ -65,3 +72,15 @@ module _ {O : Type 0} (told : Option (List File)) (before now : ℕ) (taken : O 
   no_cover said (Refused (Unmapped (map_fault.NoCover name))) m six line = (name, lacking task (bytes_of files) name (m.0 files known), line)
   no_cover said (Refused (Unmapped map_fault.Points)) m six line = absurd (omega (arith, six))
   no_cover said (Refused (Unmapped map_fault.Memory)) m six line = absurd (omega (arith, six))
+
+-- no ending has the status of wrong words
+pub not_words : (e : Ending) → ending_status e ≡ 1 → ⊥
+not_words Done one = omega (arith, one)
+not_words WriteFault one = omega (arith, one)
+not_words (Refused (Library f)) one = fault_not_one f one
+not_words (Refused (Network f)) one = fault_not_one f one
+not_words (Refused (Unmapped map_fault.Forms)) one = omega (arith, one)
+not_words (Refused (Unmapped map_fault.Splits)) one = omega (arith, one)
+not_words (Refused (Unmapped (map_fault.NoCover name))) one = omega (arith, one)
+not_words (Refused (Unmapped map_fault.Points)) one = omega (arith, one)
+not_words (Refused (Unmapped map_fault.Memory)) one = omega (arith, one)

@@ -2,3 +2,4 @@ mod Options
 mod Steps
 mod Serving
 mod Endings
+mod Fastest
