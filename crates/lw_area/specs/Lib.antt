@@ -4,6 +4,7 @@ pub mod Deadlines
 pub mod Pages
 pub mod Refusals
 pub mod Recovered
+pub mod Cases
 pub mod Answers
 pub mod Outcomes
 pub mod Promises

@@ -3,6 +3,6 @@ mod CellMatches
 mod Deciding
 mod Early
 mod NetDepths
-mod Networks
+pub mod Networks
 mod PortLists
 mod RightLists

@@ -28,8 +28,8 @@ fn are_early(outputs: &[Port], times: &[Micro], arrivals: &[Micro]) -> bool
     true
 }
 
-// When each net arrives.
-fn arrivals_of(
+/// When each net arrives.
+pub fn arrivals_of(
     alloc: Global,
     lib: &Library,
     starts: &Micros,

@@ -50,7 +50,7 @@ use Rattle.lw_map.proofs.PortNames.{few_outputs}
 use Rattle.lw_pool.specs.Numbers.{numbers}
 use Rattle.lw_net.specs.Ports.{output_port}
 
-port_names : (net : NetworkParts) (outputs : List NetId) → map (name_in net) outputs ≡ map port_name (map (output_port net) outputs)
+pub port_names : (net : NetworkParts) (outputs : List NetId) → map (name_in net) outputs ≡ map port_name (map (output_port net) outputs)
 port_names net [] = refl
 port_names net (o ∷ outputs) = ap (λ (names : List (List ℕ)). name_in net o ∷ names) (port_names net outputs)
 
@@ -106,6 +106,7 @@ module _ (net : NetworkParts) (starts : List Micro) (c : Choices) (ports : Ports
       labels = refl;
       gates = refl;
       one_each = least.one_each;
+      least = own_least;
       steps = subst (λ ps. AreStepsBy labeller c.graph ps (labels_in (costs_of marks)) steps) pats_are read;
     }
 

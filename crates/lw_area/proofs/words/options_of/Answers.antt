@@ -28,9 +28,9 @@ returns c =
     let s = plain_settings c.loop.settings in
     c.task_of.ensures
     ∙ ((elim c.loop-test.branch [
-        else-loop-test w ↦ sym (ended s _ c.loop.counter w.loop-test.false _)
+      | else-loop-test w ↦ sym (ended s _ c.loop.counter w.loop-test.false _)
       | then-loop-test+in_default w ↦ sym (no_word string_bytes c.loop.rest.now w.in_default.len_below s _)
       | then-loop-test+in_default-2 w ↦
-        let file : is_file_word (string_bytes w.option-item.result) ≡ true = search in
-        sym (files_begin string_bytes c.loop.rest.now w.option-item.result w.in-len1-up.len_at_least w.option-item.is s _ file)
+          let file : is_file_word (string_bytes w.option-item.result) ≡ true = search in
+          sym (files_begin string_bytes c.loop.rest.now w.option-item.result w.in-len1-up.len_at_least w.option-item.is s _ file)
     ]) ∙ c.loop.invariant)
