@@ -1,5 +1,5 @@
 -- What the ending of a run says of its status.
-use Rattle.std.proofs.Common.{◌≡◌, inl, inr, ℕ, Bool, List, Option, Some, Result, Ok, Err, refl, subst, arith}
+use Rattle.std.proofs.Common.{◌≡◌, ℕ, Bool, List, Option, Some, Result, Ok, Err, refl, arith}
 use Rattle.lw_io.specs.declared.file.File.{File}
 use Rattle.lw_io.specs.Files.{bytes_of}
 use Rattle.lw_files.specs.declared.fault.FileFault.{FileFault}
@@ -17,6 +17,7 @@ use Rattle.lw_area.specs.Answers.{IsTaskAnswer}
 use Rattle.lw_area.specs.Outcomes.{Meets, ending_line, ending_status}
 use Rattle.lw_area.specs.Promises.{IsRecoveryOf, LacksOutput}
 use Rattle.lw_area.specs.Refusals.{refusal_line, status_of}
+use Rattle.lw_area.proofs.Steps.{first, second, last, last_ok, last_err}
 use Rattle.lw_area.specs.Words.{Asked, Task, WrongWord, mapping}
 
 -- words ask for one thing
@@ -25,19 +26,15 @@ same_asked asked task e = cc
 
 -- an answer that is a text
 pub recovery : (task : Task) (files : Files) (text : List ℕ) → IsTaskAnswer task files (Ok text) → IsRecoveryOf task files text
-recovery task files text (inl (cells, one, inl (model, two, is))) = record { cells = cells; model = model; library = one; network = two; is = is }
-recovery task files text (inl (cells, one, inr (e, refused, is))) = cc
-recovery task files text (inr (e, refused, is)) = cc
+recovery task files text answer =
+    let m = last_ok (first task) (second task) (last task) files text answer in
+    record { cells = m.a; model = m.b; library = m.one; network = m.two; is = m.comes }
 
 -- an answer that names an output
 pub lacking : (task : Task) (files : Files) (name : List ℕ) → IsTaskAnswer task files (Err (Unmapped (map_fault.NoCover name))) → LacksOutput task files name
-lacking task files name (inl (cells, one, inl (model, two, is))) = record { cells = cells; model = model; library = one; network = two; lacks = is }
-lacking task files name (inl (cells, one, inr (Library f, refused, is))) = absurd refused
-lacking task files name (inl (cells, one, inr (Network f, refused, is))) = cc
-lacking task files name (inl (cells, one, inr (Unmapped f, refused, is))) = absurd refused
-lacking task files name (inr (Library f, refused, is)) = cc
-lacking task files name (inr (Network f, refused, is)) = absurd refused
-lacking task files name (inr (Unmapped f, refused, is)) = absurd refused
+lacking task files name answer =
+    let m = last_err (first task) (second task) (last task) files (Unmapped (map_fault.NoCover name)) (λ no. no) (λ no. no) answer in
+    record { cells = m.a; model = m.b; library = m.one; network = m.two; lacks = m.comes }
 
 fault_not_one : (f : FileFault) → fault_status f ≡ 1 → ⊥
 fault_not_one fault.Unread e = omega (arith, e)

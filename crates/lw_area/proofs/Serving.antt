@@ -1,6 +1,6 @@
 -- What was written, and what it is a text of.
 use Rattle.std.proofs.Common.{◌≡◌, ℕ, Bool, List, length, map, Option, Result, Ok, Err, IfOk, refl, arith}
-use Rattle.std.proofs.lemmas.List.{length-map}
+use Rattle.std.proofs.lemmas.List.{length-map, length-take-le}
 use Rattle.std.proofs.lemmas.Slice.Zip.{AllZip-long}
 use Rattle.lw_io.specs.declared.file.File.{File}
 use Rattle.lw_net.specs.Ports.{output_port}
@@ -31,7 +31,8 @@ module _ (settings : Settings) (cells : List CellParts) (model : Parsed) (fits :
       let a = length-map model.network.outputs (output_port model.network) in
       let b = length-map made.netlist.outputs plain_port in
       let d = length-map model.network.outputs (name_in model.network) in
-      let names = fits.network.named in
+      let named = fits.network.named in
+      let names = length-take-le model.network.inputs model.network.names (omega arith) in
       record {
         inputs = omega arith;
         outputs = omega arith;
