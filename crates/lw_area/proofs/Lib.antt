@@ -3,3 +3,6 @@ mod Steps
 mod Serving
 mod Endings
 mod Fastest
+mod First
+mod Passed
+mod Certificates
