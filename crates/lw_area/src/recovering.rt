@@ -19,7 +19,7 @@ use lw_map::{Choices, ports};
 use lw_net::Network;
 use lw_netlist::Port;
 use lw_pattern::{Patterns, patterns};
-use lw_recover::{Attained, Effort, Gate, Nodes, Root, recover};
+use lw_recover::{Effort, Gate, Nodes, Root, recover};
 use std::alloc::{AllocError, Global};
 
 /// What a smaller cover is looked for in: a library, the model of a network, its choices, the
@@ -135,7 +135,7 @@ impl Case<'_> {
         &self,
         effort: Effort,
         pats: &Patterns,
-        attained: Attained<'_>,
+        attained: &[Option<Match>],
         times: &[Micro],
     ) -> Result<Vec<Chosen>, AllocError> {
         let (graph, marks) = (&self.choices.graph, self.labels.marks());
@@ -177,12 +177,7 @@ impl Case<'_> {
         let ports = ports(alloc, &self.model.network, self.choices)?;
         let all = attaining_matches(alloc, graph, pats, lib, self.labels, &bounds, &ports, &cost)?;
         drop(bounds);
-        let attained = Attained {
-            pats: &all.pats,
-            ends: &all.ends,
-            pins: &all.pins,
-        };
-        self.list(effort, pats, attained, times)
+        self.list(effort, pats, &all, times)
     }
 
     /// A smaller cover than the first one, if one is found, in which each output arrives by its

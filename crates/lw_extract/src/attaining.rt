@@ -1,11 +1,14 @@
 // Matches that attain the labels and the heights of all classes.
+ghost use Rattle.std.specs.Prelude.{◌<◌, IfOk, length};
 ghost use Rattle.lw_bounds.specs.Bounds.{BoundsFit, AreBounds};
-ghost use Rattle.lw_extract.specs.Covers.{AreFit, AreLibraryLabels};
-ghost use Rattle.lw_extract.specs.Jobs.{AreJobBounds, CanCover};
+ghost use Rattle.lw_match.specs.Cutting.{AreKnown};
+ghost use Rattle.lw_extract.specs.Choosing.{AreClassChoices, IsClassChoice};
+ghost use Rattle.lw_extract.specs.Covers.{AreLibraryLabels};
+ghost use Rattle.lw_extract.specs.Jobs.{AreJobBounds, AreJobLabels};
+ghost use Rattle.lw_extract.specs.Nets.{AreInputNets};
 
 use crate::Ports;
 use crate::choosing::choice;
-use crate::extracting::first_uncovered;
 use crate::job::Job;
 use crate::nets::input_nets;
 use lw_bounds::Bounds;
@@ -15,70 +18,58 @@ use lw_graph::Graph;
 use lw_label::Labels;
 use lw_match::Tops;
 use lw_pattern::Patterns;
-use lw_pool::{ClassId, PatId};
+use lw_pool::{ClassId, NetId};
 use std::alloc::{AllocError, Global};
 
-/// A pattern of no library.
-const NO_PATTERN: PatId = PatId(u32::MAX);
-
-/// For each class of a graph the pattern of its chosen match, and the classes of the match's pins,
-/// in a row that ends at a place. A class without one has no pattern of the library, and no pins.
-#[derive(Drop)]
-pub struct ClassMatches {
-    pub pats: Vec<PatId>,
-    pub ends: Vec<u32>,
-    pub pins: Vec<ClassId>,
+// The chosen match of a class that has a label and is no input's.
+fn class_choice<C: Cost>(
+    job: &Job<C>,
+    bounds: &Bounds,
+    tops: &mut Tops,
+    nets: &[Option<NetId>],
+    class: ClassId,
+) -> Option<Match>
+    requires labels { AreJobLabels C.costs job.now }
+    requires bounds { AreJobBounds job.now bounds.now }
+    requires nets { AreInputNets job.now.graph.now nets.now }
+    requires within { class.0 < length job.now.graph.now.pairs }
+    requires known { AreKnown (C.costs job.now.cost.now) job.now.pats.now bounds.now.gaps tops.old }
+    ensures known { AreKnown (C.costs job.now.cost.now) job.now.pats.now bounds.now.gaps tops.new }
+    ensures choice { IsClassChoice job.now.graph.now (C.costs job.now.cost.now) job.now.pats.now
+        job.now.marks.now class.0 result }
+{
+    let place = class.0 as usize;
+    if nets[place].is_some() {
+        return None;
+    }
+    if job.marks[place].is_none() {
+        return None;
+    }
+    choice(job, bounds, tops, class)
 }
 
-impl ClassMatches {
-    fn new(alloc: Global) -> ClassMatches {
-        ClassMatches {
-            pats: Vec::new(alloc),
-            ends: Vec::new(alloc),
-            pins: Vec::new(alloc),
-        }
-    }
-
-    // Adds what the next class has.
-    fn push(&mut self, found: Option<Match>) -> Result<(), AllocError> {
-        let mut pat = NO_PATTERN;
-        if let Some(found) = found {
-            pat = found.pat;
-            for pin in found.pins.as_slice() {
-                self.pins.push(*pin)?;
-            }
-        }
-        self.pats.push(pat)?;
-        let end = self.pins.len().min(u32::MAX as usize) as u32;
-        self.ends.push(end)?;
-        Ok(())
-    }
-}
-
-// The chosen matches of all classes.
-fn match_all<C: Cost>(
+// What all classes have.
+fn class_choices<C: Cost>(
     alloc: Global,
     job: &Job<C>,
     bounds: &Bounds,
-) -> Result<ClassMatches, AllocError>
-    requires ready { CanCover C.costs job.now }
+) -> Result<Vec<Option<Match>>, AllocError>
+    requires labels { AreJobLabels C.costs job.now }
     requires bounds { AreJobBounds job.now bounds.now }
+    ensures { IfOk result (λ all. AreClassChoices job.now.graph.now (C.costs job.now.cost.now)
+        job.now.pats.now job.now.marks.now all.items) }
 {
     let nets = input_nets(alloc, job.graph)?;
     let mut tops = Tops::new(job.pats, job.cost, bounds);
-    let mut all = ClassMatches::new(alloc);
+    let mut all = Vec::new(alloc);
     for number in 0..job.graph.classes() {
-        let mut found = None;
-        if nets[number as usize].is_none() {
-            found = choice(job, bounds, &mut tops, ClassId(number));
-        }
-        all.push(found)?;
+        all.push(class_choice(job, bounds, &mut tops, &nets, ClassId(number)))?;
     }
     Ok(all)
 }
 
-/// The chosen matches of all classes that have a label and are no input's; none where the class of
-/// an output has no label.
+/// For each class of a graph that has a label and is no input's its chosen match, which is the
+/// first of those that attain its label and its height. The others have none.
 pub fn attaining_matches<C: Cost>(
     alloc: Global,
     graph: &Graph,
@@ -88,16 +79,14 @@ pub fn attaining_matches<C: Cost>(
     bounds: &Bounds,
     ports: &Ports,
     cost: &C,
-) -> Result<ClassMatches, AllocError>
+) -> Result<Vec<Option<Match>>, AllocError>
     requires labels { AreLibraryLabels graph.now (C.costs cost.now) pats.now lib.now labels.now }
     requires fits { BoundsFit bounds.now pats.now graph.now }
     requires bounds { AreBounds bounds.now graph.now labels.now }
-    requires fit { AreFit graph.now ports.now }
+    ensures { IfOk result (λ all. AreClassChoices graph.now (C.costs cost.now) pats.now labels.now
+        all.items) }
 {
     let marks = labels.marks();
-    if first_uncovered(marks, ports.roots.as_slice()).is_some() {
-        return Ok(ClassMatches::new(alloc));
-    }
     let job = Job {
         graph,
         pats,
@@ -106,5 +95,5 @@ pub fn attaining_matches<C: Cost>(
         marks,
         ports,
     };
-    match_all(alloc, &job, bounds)
+    class_choices(alloc, &job, bounds)
 }

@@ -4,5 +4,4 @@ mod Deciding
 mod Early
 mod NetDepths
 pub mod Networks
-mod PortLists
 mod RightLists

@@ -5,8 +5,8 @@
 // one for each root; the links from `uses` on name the gates of these pins; `arr` is the greatest
 // of a pin's `arr` and its delay, and `req` the least of the class's deadline and of what the gates
 // above leave.
-use crate::attained::Attained;
 use crate::matches::{Gate, Gates, Link, Matches, NONE, Put};
+use lw_cost::Match;
 use lw_kinds::{LATE, Space, Table};
 use lw_pool::ClassId;
 use std::alloc::{AllocError, Global};
@@ -31,7 +31,8 @@ pub(crate) struct Kept {
 pub(crate) struct Cover<'a> {
     pub alloc: Global,
     pub space: &'a Space<'a>,
-    attained: Attained<'a>,
+    /// For each class a match that attains its label and its height, where there is one.
+    attained: &'a [Option<Match>],
     pub matches: Matches,
     pub refs: Table<u32>,
     /// The match of each class in use; of one that was in use, its last.
@@ -72,7 +73,7 @@ impl<'a> Cover<'a> {
     pub(crate) fn new(
         alloc: Global,
         space: &'a Space<'a>,
-        attained: Attained<'a>,
+        attained: &'a [Option<Match>],
         roots: &[Root],
     ) -> Result<Self, AllocError> {
         let classes = space.graph.classes() as usize;
@@ -110,10 +111,10 @@ impl<'a> Cover<'a> {
             return Ok(known);
         }
         let attained = self.attained;
-        let Some(pat) = attained.pat(class) else {
+        let Some(Some(found)) = attained.get(class.0 as usize) else {
             return Ok(NONE);
         };
-        let number = self.matches.put(pat, attained.pins(class))?;
+        let number = self.matches.put(found.pat, found.pins.as_slice())?;
         self.fast.set(class.0, number);
         Ok(number)
     }

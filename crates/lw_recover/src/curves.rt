@@ -114,6 +114,8 @@ pub(crate) struct Rung<'p> {
 /// so on: the time and the flow of each step.
 #[derive(Clone, Copy)]
 pub(crate) struct Ladder<'p> {
+    /// No step is earlier.
+    pub first: u64,
     rungs: [Rung<'p>; 16],
     count: usize,
     area: u64,
@@ -125,6 +127,7 @@ impl<'p> Ladder<'p> {
     /// The ladder of a match that takes so much and has no pin yet, up to a time.
     pub(crate) fn new(area: u64, horizon: u64) -> Ladder<'p> {
         Ladder {
+            first: 0,
             rungs: [Rung {
                 of: &[],
                 place: 0,
@@ -147,9 +150,12 @@ impl<'p> Ladder<'p> {
             };
             self.count += 1;
         }
+        if let Some(point) = of.first() {
+            self.first = self.first.max(point.time.saturating_add(delay));
+        }
     }
 
-    /// The next step, if there is one.
+    /// The next step, if there is one: it is earlier than the one before, and takes no less.
     pub(crate) fn step(&mut self) -> Option<(u64, u64)> {
         if self.ends {
             return None;
@@ -191,13 +197,16 @@ pub(crate) struct Front {
 }
 
 impl Front {
+    /// Whether a point is as early and as small.
+    pub(crate) fn is_beaten(&self, time: u64, flow: u64) -> bool {
+        self.points
+            .iter()
+            .any(|old| old.time <= time && old.flow <= flow)
+    }
+
     /// Adds a point, unless one is as early and as small.
     pub(crate) fn add(&mut self, new: Point) -> Result<(), AllocError> {
-        if self
-            .points
-            .iter()
-            .any(|old| old.time <= new.time && old.flow <= new.flow)
-        {
+        if self.is_beaten(new.time, new.flow) {
             return Ok(());
         }
         self.points

@@ -10,7 +10,6 @@
 //! bound on their turns.
 #![tactic(auto)]
 
-mod attained;
 mod chance;
 mod cover;
 mod curves;
@@ -23,7 +22,6 @@ mod times;
 mod trial;
 mod visits;
 
-pub use attained::Attained;
 pub use cover::Root;
 pub use drawing::Nodes;
 pub use matches::{Gate, Gates};

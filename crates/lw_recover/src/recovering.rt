@@ -1,12 +1,11 @@
 // What is done with moves and curves: which covers to begin with, in which order, and what is kept.
-use crate::attained::Attained;
 use crate::cover::{Cover, Kept, Root};
 use crate::curves::Curves;
 use crate::drawing::Nodes;
 use crate::matches::{Gates, NONE};
 use crate::moves::{Limits, Moves, Want};
 use crate::stock::Stock;
-use lw_cost::Mark;
+use lw_cost::{Mark, Match};
 use lw_genlib::Library;
 use lw_graph::Graph;
 use lw_kinds::{Space, Table};
@@ -290,7 +289,7 @@ pub fn recover(
     lib: &Library,
     pats: &Patterns,
     marks: &[Option<Mark>],
-    attained: Attained<'_>,
+    attained: &[Option<Match>],
     roots: &[Root],
     networks: &[Nodes],
     effort: Effort,

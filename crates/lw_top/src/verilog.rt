@@ -46,7 +46,7 @@ pub(crate) fn say_verilog(alloc: Global, library: Library, mapped: Mapped) -> An
     }
 }
 
-// What stands around a netlist that has inputs and outputs alone, and starts of 0 for its inputs.
+// What stands around a netlist from Verilog, which has no latches, and starts of 0 for its inputs.
 fn whole(alloc: Global, netlist: &Netlist) -> Result<(Frame, Micros), Refusal>
     ensures frame { IfOk result (λ around. around.0 ≡ whole_frame netlist.now) }
     ensures starts { IfOk result (λ around. around.1 ≡ at_once netlist.now.inputs) }
