@@ -5,4 +5,6 @@ mod Endings
 mod Fastest
 mod First
 mod Passed
+mod Looking
 mod Certificates
+mod Cases

@@ -1,5 +1,5 @@
 -- What a smaller cover is looked for in, and what the cover is.
-use Rattle.std.specs.Prelude.{ℕ, ◌≤◌, ◌≡◌, List, length, map, slice_index_or}
+use Rattle.std.specs.Prelude.{ℕ, ◌≤◌, ◌≡◌, ⊤, Bool, true, false, List, length, map, Option, Some, None, slice_index_or}
 use Rattle.lw_fixed.specs.declared.micro.Micro.{Micro}
 use Rattle.lw_pool.specs.Numbers.{numbers}
 use Rattle.lw_laws.specs.Headline.{Port as PlainPort}
@@ -9,14 +9,18 @@ use Rattle.lw_genlib.specs.Tables.{millionths, timing_of}
 use Rattle.lw_net.specs.Networks.{IsNetwork}
 use Rattle.lw_blif.specs.BlifNetworks.{IsModel}
 use Rattle.lw_pattern.specs.Libraries.{library_patterns}
+use Rattle.lw_pool.specs.declared.id.ClassId.{ClassId}
+use Rattle.lw_cost.specs.declared.mark.Mark.{Mark}
 use Rattle.lw_cost.specs.Labels.{AreLeastMarks}
 use Rattle.lw_label.specs.Delays.{time_cost}
 use Rattle.lw_netlist.specs.declared.gate.Port.{Port}
 use Rattle.lw_netlist.specs.Netlists.{most_gates}
 use Rattle.lw_netlist.specs.Plain.{IsOver, mapped_ports, plain}
+use Rattle.lw_mapped.specs.declared.certificate.Certificate.{Certificate}
 use Rattle.lw_extract.specs.declared.ports.Cover.{Cover}
 use Rattle.lw_map.specs.Choices.{AreChoicesOf}
 use Rattle.lw_map.specs.Mapped.{IsMappedNetlist}
+use Rattle.lw_map.specs.Mappings.{AreCertified}
 use Rattle.lw_map.specs.Options.{plain_options}
 use Rattle.lw_area.specs.declared.recovering.Case.{Case}
 use Rattle.lw_area.specs.Plain.{plain_settings}
@@ -53,3 +57,9 @@ pub record IsChosen (k : Case) (cover : Cover) : Type 0 where
   pub graph : recovered.matches.graph ≡ k.choices.now.graph
   pub gates : recovered.matches.gates ≡ numbers cover.classes
   pub over : IsOver k.library.now cover.netlist
+
+-- a certificate of these labels and classes, where it is asked for
+abbrev pub IsCertificateFor : Bool → List (Option Mark) → List ClassId → Option Certificate → Type 0
+IsCertificateFor false marks classes None = ⊤
+IsCertificateFor true marks classes (Some certificate) = AreCertified marks classes certificate
+IsCertificateFor certified marks classes certificate = ⊥

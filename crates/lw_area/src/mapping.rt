@@ -8,7 +8,7 @@ ghost use Rattle.lw_map.specs.Choices.{AreChoicesOf};
 ghost use Rattle.lw_map.specs.Faults.{IsMapFault};
 ghost use Rattle.lw_map.specs.Mappings.{IsMappingOf};
 ghost use Rattle.lw_map.specs.Options.{plain_options};
-ghost use Rattle.lw_area.specs.Cases.{IsCase, IsChosen, IsFirst};
+ghost use Rattle.lw_area.specs.Cases.{IsCase, IsCertificateFor, IsChosen, IsFirst};
 ghost use Rattle.lw_area.specs.Outcomes.{IsMade};
 ghost use Rattle.lw_area.specs.Plain.{plain_settings};
 
@@ -35,7 +35,18 @@ impl Case<'_> {
         }
     }
 
-    // That cover's netlist, with its certificate where it is asked for.
+    // The certificate of a cover with these classes, where it is asked for.
+    fn certificate_of(&self, classes: &Classes) -> Result<Option<Certificate>, AllocError>
+        ensures { IfOk result (IsCertificateFor self.now.settings.certified self.now.labels.now
+            classes.now) }
+    {
+        if !self.settings.certified {
+            return Ok(None);
+        }
+        Ok(Some(certificate(self.alloc, self.labels, classes)?))
+    }
+
+    // That cover's netlist, with its certificate.
     fn certified(&self, first: Cover) -> Result<CertifiedNetlist, AllocError>
         requires case { IsCase self.now }
         requires first { IsFirst self.now first }
@@ -43,11 +54,7 @@ impl Case<'_> {
             self.now.model.now) }
     {
         let cover = self.chosen(first)?;
-        let certificate = if self.settings.certified {
-            Some(certificate(self.alloc, self.labels, &cover.classes)?)
-        } else {
-            None
-        };
+        let certificate = self.certificate_of(&cover.classes)?;
         Ok(CertifiedNetlist {
             netlist: cover.netlist,
             certificate,

@@ -112,7 +112,8 @@ impl Case<'_> {
         requires first { IsFirst self.now first.now }
         ensures { IfOk result (λ times. AreFirstTimes self.now first.now times.items) }
     {
-        let _ = (self.library.len(), first.netlist.gates());
+        let _ = self.library.len();
+        let _ = first.netlist.gates();
         let (alloc, starts) = (self.alloc, &self.model.starts);
         let arrivals = arrivals_of(alloc, self.library, starts, &first.netlist)?;
         times_at(alloc, first.netlist.outputs(), &arrivals)
