@@ -20,6 +20,8 @@ use lw_genlib::Library;
 use lw_map::{
     CertifiedNetlist, Choices, Labeller, MapFault, Mapping, certificate, cover, decompose,
 };
+use lw_mapped::Certificate;
+use lw_pool::Classes;
 use std::alloc::{AllocError, Global};
 
 impl Case<'_> {
