@@ -51,6 +51,21 @@ certificates_are_accepted() {
     done
 }
 
+# Where deadlines leave room, a netlist that is not that of map is one that the look took. So this counts no refusal too few.
+the_look_never_refuses() {
+    lists=0
+    refused=0
+    for circuit in "$root"/bench/circuits/*.blif; do
+        "$mapper" map "$cells" "$circuit" >fastest || continue
+        run -t 150% "$cells" "$circuit"
+        status $? 0 || return
+        lists=$((lists + 1))
+        cmp -s out fastest && refused=$((refused + 1)) && echo "$circuit: the netlist of map"
+    done
+    echo "the look refused $refused of $lists lists" >"$room/refusals"
+    [ "$lists" -gt 0 ] && [ "$refused" -eq 0 ]
+}
+
 standard_output_is_full() {
     [ -c /dev/full ] || { echo "there is no /dev/full" && return 9; }
     "$program" "$cells" "$adder" >/dev/full 2>err
@@ -69,9 +84,10 @@ for it in "$tests"/area/*/; do
     [ $# -eq 0 ] || case " $* " in *" ${it##*/} "*) ;; *) continue ;; esac
     attempt "${it##*/}" row "$it"
 done
-for it in effort_0_is_map two_runs_agree later_deadlines_take_no_more_area certificates_are_accepted standard_output_is_full \
-    standard_error_is_closed; do
+for it in effort_0_is_map two_runs_agree later_deadlines_take_no_more_area certificates_are_accepted the_look_never_refuses \
+    standard_output_is_full standard_error_is_closed; do
     [ $# -eq 0 ] || case " $* " in *" $it "*) ;; *) continue ;; esac
     attempt "$it" "$it"
 done
+[ ! -f "$room/refusals" ] || cat "$room/refusals"
 told

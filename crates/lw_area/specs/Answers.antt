@@ -1,17 +1,10 @@
--- What words come to over known files.
-use Rattle.std.specs.Prelude.{◌≡◌, ◌⊎◌, ⊥, ℕ, List, Option, Some, Result, Ok, Err}
+-- What the words come to over files.
+use Rattle.std.specs.Prelude.{◌≡◌, ◌⊎◌, ⊤, ℕ, List, Option, Some, Result, Ok, Err}
 use Rattle.lw_io.specs.declared.file.File.{File}
 use Rattle.lw_io.specs.Causes.{Rose}
 use Rattle.lw_io.specs.Files.{bytes_of}
 use Rattle.lw_genlib.specs.Cells.{CellParts}
 use Rattle.lw_blif.specs.declared.parsed.Parsed.{Parsed}
-use Rattle.lw_laws.specs.Headline.{IsMapping}
-use Rattle.lw_net.specs.Plain as network
-use Rattle.lw_net.specs.Ports.{ports_of}
-use Rattle.lw_genlib.specs.Tables.{timing_of, truth_of_cells}
-use Rattle.lw_pattern.specs.Libraries.{library_patterns}
-use Rattle.lw_netlist.specs.Plain as netlist
-use Rattle.lw_netlist.specs.Plain.{mapped_ports}
 use Rattle.lw_files.specs.declared.fault.FileFault.TheVariants as file_fault
 use Rattle.lw_files.specs.Reading.{Known}
 use Rattle.lw_files.specs.Sources.{FileStep, ReadsLibrary, ReadsModel}
@@ -20,9 +13,8 @@ use Rattle.lw_map.specs.Faults.{IsMapFault}
 use Rattle.lw_map.specs.declared.fault.MapFault.TheVariants as map_fault
 use Rattle.lw_area.specs.declared.refusal.Refusal.{Refusal}
 use Rattle.lw_area.specs.declared.refusal.Refusal.TheVariants.{Library, Network, Unmapped}
-use Rattle.lw_area.specs.declared.words.Deadline.TheVariants.{Each}
 use Rattle.lw_area.specs.Recovered.{IsRecoveredText}
-use Rattle.lw_area.specs.Words.{Settings, Task, mapping, asked_of}
+use Rattle.lw_area.specs.Words.{Settings, Task}
 
 abbrev pub Step : Type 0 → Type 1
 Step A = StepTo Refusal A
@@ -44,24 +36,16 @@ Recovers settings cells model files (Ok text) = IsRecoveredText settings cells m
 Recovers settings cells model files (Err (Unmapped fault)) = IsMapFault settings.options cells model.network model.starts fault
 Recovers settings cells model files (Err other) = ⊥
 
+-- What a task comes to: the library is read, then the network, and the first step that refuses decides.
 abbrev pub IsTaskAnswer : Task → Step (List ℕ)
 IsTaskAnswer task = followed_by (in_library (ReadsLibrary task.library)) (λ cells. followed_by (in_network (ReadsModel task.network)) (λ model. Recovers task.settings cells model))
 
--- Why there is no netlist: a file was not read because the count of faults rose, or because known files lack it; running out of memory
--- needs no reason.
-abbrev pub HasReason : Option (List File) → ℕ → ℕ → Task → Refusal → Type 0
-HasReason told before now task (Library file_fault.Unread) = Rose before now ⊎ ((files : List File) × (told ≡ Some files) × IsTaskAnswer task (bytes_of files) (Err (Library file_fault.Unread)))
-HasReason told before now task (Network file_fault.Unread) = Rose before now ⊎ ((files : List File) × (told ≡ Some files) × IsTaskAnswer task (bytes_of files) (Err (Network file_fault.Unread)))
-HasReason told before now task (Library file_fault.Memory) = Unit {0}
-HasReason told before now task (Network file_fault.Memory) = Unit {0}
-HasReason told before now task (Unmapped map_fault.Memory) = Unit {0}
-HasReason told before now task other = Known told (IsTaskAnswer task) (Err other)
-
--- the words ask for a netlist
-abbrev pub AsksFor : List (List ℕ) → Task → Type 0
-AsksFor words task = asked_of words ≡ Ok (mapping task)
-
--- With `each` the netlist of the text is a mapping of the network, as that of `map` is: each output is as early as in any cover.
-pub record IsFastestText (settings : Settings) (cells : List CellParts) (model : Parsed) (text : List ℕ) : Type 0 where
-  pub is : IsRecoveredText settings cells model text
-  pub mapping_is : settings.deadline ≡ Each → IsMapping settings.options.mode settings.options.width (network.plain model.network) (ports_of model.network) (library_patterns cells) (timing_of cells model.starts) (truth_of_cells cells) (netlist.plain is.netlist) (mapped_ports is.netlist)
+-- Why a step refuses: a file was not read because the count of faults rose, or because known files lack it; running out of memory needs no
+-- reason; and over known files any other refusal is the step's.
+abbrev pub HasReason : {A : Type 0} → Option (List File) → ℕ → ℕ → Step A → Refusal → Type 0
+HasReason told before now step (Library file_fault.Unread) = Rose before now ⊎ ((files : List File) × (told ≡ Some files) × step (bytes_of files) (Err (Library file_fault.Unread)))
+HasReason told before now step (Network file_fault.Unread) = Rose before now ⊎ ((files : List File) × (told ≡ Some files) × step (bytes_of files) (Err (Network file_fault.Unread)))
+HasReason told before now step (Library file_fault.Memory) = ⊤
+HasReason told before now step (Network file_fault.Memory) = ⊤
+HasReason told before now step (Unmapped map_fault.Memory) = ⊤
+HasReason told before now step other = Known told step (Err other)

@@ -11,6 +11,7 @@
 
 mod deadlines;
 mod mapping;
+mod outcome;
 mod recovering;
 mod refusal;
 mod telling;

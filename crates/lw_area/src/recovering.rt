@@ -1,4 +1,8 @@
 // A smaller cover of a network that is mapped.
+ghost use Rattle.std.specs.Prelude.{◌≡◌, ◌≢◌, ◌<◌, All, IfOk, None, length, map};
+ghost use Rattle.lw_pattern.specs.Libraries.{library_patterns};
+ghost use Rattle.lw_area.specs.Cases.{AreFirstTimes, IsCase, IsChosen, IsFirst, time_at};
+
 use crate::deadlines::deadlines_of;
 use crate::words::Settings;
 use lw_blif::Parsed;
@@ -10,9 +14,10 @@ use lw_form::{FormFault, Forms, forms};
 use lw_genlib::Library;
 use lw_graph::Graph;
 use lw_label::{DelayCost, Labels};
-use lw_look::Look;
+use lw_look::{Look, arrivals_of};
 use lw_map::{Choices, ports};
 use lw_net::Network;
+use lw_netlist::Port;
 use lw_pattern::{Patterns, patterns};
 use lw_recover::{Effort, Gate, Nodes, Root, recover};
 use std::alloc::{AllocError, Global};
@@ -69,6 +74,18 @@ fn nodes_of(
     })
 }
 
+// When some outputs arrive.
+fn times_at(alloc: Global, outputs: &[Port], arrivals: &[Micro]) -> Result<Vec<Micro>, AllocError>
+    requires { All (λ port. port.net.0 < length arrivals.now) outputs.now }
+    ensures { IfOk result (λ times. times.items ≡ map (time_at arrivals.now) outputs.now) }
+{
+    let mut times = Vec::new(alloc);
+    for port in outputs {
+        times.push(arrivals[port.net.0 as usize])?;
+    }
+    Ok(times)
+}
+
 impl Case<'_> {
     // The networks whose own gates may be a cover: none where these are not tried.
     fn networks(&self, effort: Effort) -> Result<Vec<Nodes>, AllocError> {
@@ -89,16 +106,17 @@ impl Case<'_> {
         }
     }
 
-    // The least times of the outputs.
-    fn least(&self) -> Result<Vec<Micro>, AllocError> {
-        let marks = self.labels.marks();
-        let mut least = Vec::new(self.alloc);
-        for root in self.choices.roots.as_slice() {
-            let place = root.0 as usize;
-            let mark = if place < marks.len() { marks[place] } else { None };
-            least.push(Micro(mark.map_or(0, |mark| mark.cost)))?;
-        }
-        Ok(least)
+    // The least times of the outputs, which are those of the first cover.
+    fn least(&self, first: &Cover) -> Result<Vec<Micro>, AllocError>
+        requires case { IsCase self.now }
+        requires first { IsFirst self.now first.now }
+        ensures { IfOk result (λ times. AreFirstTimes self.now first.now times.items) }
+    {
+        let _ = self.library.len();
+        let _ = first.netlist.gates();
+        let (alloc, starts) = (self.alloc, &self.model.starts);
+        let arrivals = arrivals_of(alloc, self.library, starts, &first.netlist)?;
+        times_at(alloc, first.netlist.outputs(), &arrivals)
     }
 
     // The outputs' classes with their deadlines.
@@ -150,7 +168,10 @@ impl Case<'_> {
         effort: Effort,
         pats: &Patterns,
         times: &[Micro],
-    ) -> Result<Vec<Chosen>, AllocError> {
+    ) -> Result<Vec<Chosen>, AllocError>
+        requires case { IsCase self.now }
+        requires patterns { pats.now ≡ library_patterns self.now.library.now }
+    {
         let (alloc, lib, graph) = (self.alloc, self.library, &self.choices.graph);
         let cost = DelayCost::new(lib, &self.model.starts);
         let bounds = Bounds::settled(alloc, graph, pats, self.labels.marks(), &cost)?;
@@ -162,10 +183,15 @@ impl Case<'_> {
 
     /// A smaller cover than the first one, if one is found, in which each output arrives by its
     /// deadline; else the first one.
-    pub(crate) fn smaller(&self, effort: Effort, first: Cover) -> Result<Cover, AllocError> {
+    pub(crate) fn smaller(&self, effort: Effort, first: Cover) -> Result<Cover, AllocError>
+        requires case { IsCase self.now }
+        requires first { IsFirst self.now first }
+        requires tried { self.now.settings.effort ≢ None }
+        ensures { IfOk result (IsChosen self.now) }
+    {
         let alloc = self.alloc;
         let pats = patterns(alloc, self.library)?;
-        let times = deadlines_of(alloc, self.settings.deadline, &self.least()?)?;
+        let times = deadlines_of(alloc, self.settings.deadline, &self.least(&first)?)?;
         let list = self.found(effort, &pats, &times)?;
         let ports = ports(alloc, &self.model.network, self.choices)?;
         let look = Look {
@@ -176,6 +202,8 @@ impl Case<'_> {
             ports: &ports,
             times: &times,
         };
-        Ok(look.choose(alloc, &list, first)?.cover)
+        let cover = look.choose(alloc, &list, first)?.cover;
+        let _ = cover.netlist.gates();
+        Ok(cover)
     }
 }

@@ -2,11 +2,13 @@
 ghost use Rattle.std.specs.Prelude.{◌≡◌};
 ghost use Rattle.lw_io.specs.Waitings.{IsTaken};
 ghost use Rattle.lw_io.specs.Writers.{Writes};
-ghost use Rattle.lw_area.specs.Plain.{plain_task, plain_wrong};
-ghost use Rattle.lw_area.specs.Refusals.{map_text, refusal_line, refusal_text, unwritten_line, why_text, word_part, wrong_line};
+ghost use Rattle.lw_area.specs.Outcomes.{ending_line};
+ghost use Rattle.lw_area.specs.Plain.{plain_asked, plain_task, plain_wrong};
+ghost use Rattle.lw_area.specs.Refusals.{map_text, refusal_line, refusal_text, why_text, word_part, wrong_line};
 
+use crate::outcome::Ending;
 use crate::refusal::Refusal;
-use crate::words::{Task, Wrong, WrongWord};
+use crate::words::{Asked, Task, Wrong, WrongWord};
 use lw_io::{Failed, Sink, Writer};
 use lw_map::MapFault;
 use lw_shown::{put_named, put_shown, put_shown_fault};
@@ -56,17 +58,23 @@ fn put_word<E: Sink>(out: &mut Writer<'_, E>, word: &[u8])
     }
 }
 
+fn put_words<E: Sink>(out: &mut Writer<'_, E>, wrong: WrongWord<'_>)
+    ensures { Writes E.taken E.faults out.old out.new (wrong_line (plain_wrong wrong.entry)) }
+{
+    out.put(PREFIX);
+    put_word(out, wrong.word.as_bytes());
+    out.put(why_text(wrong.why));
+    out.put(b"; lwarea -h says more");
+    out.put(b"\n");
+}
+
 /// Says which word is wrong.
 pub(crate) fn tell_word<E: Sink>(wrong: WrongWord<'_>, err: &mut E) -> Result<(), Failed>
     ensures { IsTaken (E.taken err.old) (E.faults err.old) (E.taken err.new) (E.faults err.new)
         (wrong_line (plain_wrong wrong.entry)) result }
 {
     let mut out = Writer::new(err);
-    out.put(b"lwarea: ");
-    put_word(&mut out, wrong.word.as_bytes());
-    out.put(why_text(wrong.why));
-    out.put(b"; lwarea -h says more");
-    out.put(b"\n");
+    put_words(&mut out, wrong);
     out.end()
 }
 
@@ -93,28 +101,43 @@ fn put_refusal<E: Sink>(out: &mut Writer<'_, E>, task: &Task<'_>, refusal: &Refu
     }
 }
 
-/// Says why there is no netlist.
-pub(crate) fn tell<E: Sink>(
-    task: &Task<'_>,
-    refusal: &Refusal,
+// The line of a refusal.
+fn put_line<E: Sink>(out: &mut Writer<'_, E>, task: &Task<'_>, refusal: &Refusal)
+    ensures { Writes E.taken E.faults out.old out.new
+        (refusal_line (plain_task task.now) refusal.now) }
+{
+    out.put(PREFIX);
+    put_refusal(out, task, refusal);
+    out.put(b"\n");
+}
+
+const PREFIX: &[u8] = b"lwarea: ";
+
+// The line of an ending, if it has one.
+fn put_ending<E: Sink>(out: &mut Writer<'_, E>, asked: &Asked<'_>, ending: &Ending)
+    ensures { Writes E.taken E.faults out.old out.new
+        (ending_line (plain_asked asked.now) ending.now) }
+{
+    match ending {
+        Ending::Done => out.put(b""),
+        Ending::WriteFault => out.put(b"lwarea: cannot write\n"),
+        Ending::Refused(refusal) => match asked {
+            Asked::Mapping(task) => put_line(out, task, refusal),
+            _ => out.put(b""),
+        },
+    }
+}
+
+/// Writes the line of an ending, if it has one.
+pub(crate) fn tell_ending<E: Sink>(
+    asked: &Asked<'_>,
+    ending: &Ending,
     err: &mut E,
 ) -> Result<(), Failed>
     ensures { IsTaken (E.taken err.old) (E.faults err.old) (E.taken err.new) (E.faults err.new)
-        (refusal_line (plain_task task.now) refusal.now) result }
+        (ending_line (plain_asked asked.now) ending.now) result }
 {
     let mut out = Writer::new(err);
-    out.put(b"lwarea: ");
-    put_refusal(&mut out, task, refusal);
-    out.put(b"\n");
-    out.end()
-}
-
-/// Says that the text could not be written.
-pub(crate) fn tell_unwritten<E: Sink>(err: &mut E) -> Result<(), Failed>
-    ensures { IsTaken (E.taken err.old) (E.faults err.old) (E.taken err.new) (E.faults err.new)
-        unwritten_line result }
-{
-    let mut out = Writer::new(err);
-    out.put(b"lwarea: cannot write\n");
+    put_ending(&mut out, asked, ending);
     out.end()
 }

@@ -110,8 +110,7 @@ fn percent_of(word: &str) -> Option<u32>
 {
     match word.as_bytes() {
         [a, b, c, sign]
-            if is_digit(*a) && is_digit(*b) && is_digit(*c) && b'1' <= *a && *sign == b'%' =>
-        {
+            if is_digit(*a) && is_digit(*b) && is_digit(*c) && b'1' <= *a && *sign == b'%' => {
             let (hundreds, tens) = (u32::from(*a - b'0') * 100, u32::from(*b - b'0') * 10);
             Some(hundreds + (tens + u32::from(*c - b'0')))
         }
@@ -190,11 +189,7 @@ impl Settings {
     }
 
     // Reads one option, behind which these words stand.
-    fn read<'a>(
-        mut self,
-        option: &'a str,
-        words: &'a [String],
-    ) -> Result<Begun<'a>, WrongWord<'a>>
+    fn read<'a>(mut self, option: &'a str, words: &'a [String]) -> Result<Begun<'a>, WrongWord<'a>>
         ensures { begun_result result ≡ option_of (plain_settings self) option.now
             (map string_bytes words.now) }
     {
