@@ -1,8 +1,8 @@
 //! Compares networks.
 #![tactic(auto)]
 
-use lw_system::{FileShelf, StdSink};
 use lw_equal_top::run;
+use lw_system::{FileShelf, StdSink};
 use std::process::ExitCode;
 use std::{env, io};
 
