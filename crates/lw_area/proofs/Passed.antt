@@ -1,5 +1,5 @@
 -- A cover that the look gives.
-use Rattle.std.proofs.Common.{◌≡◌, ◌≢◌, ◌≤◌, ◌∙◌, ℕ, Bool, true, false, List, map, length, None, refl, sym, subst}
+use Rattle.std.proofs.Common.{◌≡◌, ◌≢◌, ◌≤◌, ◌∙◌, ℕ, Bool, true, false, List, map, length, None, sym, subst}
 use Rattle.lw_fixed.specs.declared.micro.Micro.{Micro}
 use Rattle.lw_pool.specs.Numbers.{numbers}
 use Rattle.lw_laws.specs.Covers.{Pattern}
@@ -22,7 +22,7 @@ use Rattle.lw_look.specs.declared.look.Look.{Look}
 use Rattle.lw_look.specs.Areas.{area_of}
 use Rattle.lw_look.specs.Lists.{pin_counts}
 use Rattle.lw_look.specs.Looks.{IsInTime, IsOfNetwork, Passes}
-use Rattle.lw_look.proofs.Networks.{cover_is_matches}
+use Rattle.lw_look.proofs.Networks.{cover_with_classes}
 use Rattle.lw_map.specs.Mapped.{IsMappedNetlist}
 use Rattle.lw_map.specs.Options.{IsWide}
 use Rattle.lw_map.proofs.CellLaws.{delay_patterns, delay_truths}
@@ -39,8 +39,7 @@ module _ (settings : Settings) (net : NetworkParts) (l : Look) (wide : IsWide se
 
   module _ (model : l.ports.now.model ≡ net.model) (first : NetlistParts) (first_is : IsMappedNetlist settings.options l.lib.now net l.starts.now first) (times : List Micro) (least : AreLeastTimes settings.options.mode settings.options.width (network.plain net) (library_patterns l.lib.now) (timing_of l.lib.now l.starts.now) (ports_of net) (map millionths times)) (due : l.times.now ≡ deadlines_of settings.deadline times) (tried : settings.effort ≢ None) (list : List Chosen) (own : IsNetlist cover.netlist) (passes : Passes l (area_of l.lib.now first.gates) list cover) where
     matches : HasMatches (library_patterns l.lib.now)
-    unfolding cover_is_matches
-    matches = subst HasMatches pats_are (cover_is_matches settings.options.mode settings.options.width (network.plain net) (ports_of net) l cover of passes.covers, refl, refl)
+    matches = subst HasMatches pats_are (cover_with_classes settings.options.mode settings.options.width (network.plain net) (ports_of net) l cover of passes.covers)
 
     pub passed_recovered : (r : IsRecovered settings l.lib.now net l.starts.now cover.netlist) × (r.matches.graph ≡ l.graph.now) × (r.matches.gates ≡ numbers cover.classes)
     passed_recovered = (
