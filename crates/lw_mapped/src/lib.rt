@@ -20,7 +20,6 @@
 
 mod certificate;
 mod certificate_lines;
-mod certificate_lines;
 mod closing;
 mod command;
 mod contents;
