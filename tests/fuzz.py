@@ -1,22 +1,27 @@
 #!/usr/bin/env python3
 """Damages the files of rows at random, runs the built program on them, and compares all that it does with tests/reference.py.
 
-  fuzz.py [-n CASES] [-t SECONDS] [-s SEED] [-c COMMAND] [-o NUMBER]
+  fuzz.py [-n CASES] [-t SECONDS] [-s SEED] [-c COMMAND] [-k KIND] [-o NUMBER]
 
 A case takes the files of one row of tests/rows; what the row has not, a netlist with its certificate or in Verilog, vectors, is made by
 tests/reference.py. Then some of the files are damaged: bytes flipped, exchanged for bytes that mean something, cut out, doubled
 or put elsewhere, the end cut off, lines and words doubled, exchanged or left out, numbers put at their limits, a part of
 another row's file put in. One command runs on them: 'map', 'map -c', 'check', 'time', 'sim', 'sim -g', 'graph', 'big', 'verilog'
 or 'unverilog'. Its status, its standard output and its standard error have to be those of tests/reference.py, byte by byte; 'lut'
-and 'trade', where the program has them, as tests/compare.py has it. It gets 8 MB of stack, 2 GB of memory and 2 seconds of the
+and 'trade', where the program has them, as tests/compare.py has it. It gets 256 KB of stack, 2 GB of memory and 2 seconds of the
 processor, and a signal is a difference, that of the time among them. Where tests/reference.py takes over 10 seconds, the case
 counts as not compared, and any end without a signal will do.
+
+Each tenth case is of another kind (tests/hard.py), not damaged: pins that repeat with -i, nested brackets, names that collide, wide
+Ands, or 'trade' in 3 to 8 MB, where status 8 will do too. A kind that is known to fail is drawn only where it is named by -k, which
+takes cases of that kind alone.
 
 CASES is 10000 where neither it nor SECONDS is given; SEED is 1. COMMAND is one word of those above, as 'sim-g'. -o runs one case
 alone, by the number that was told. The program is the one that release/program.sh finds. The first difference ends the run: it is
 printed, and the files of the case stay in a folder that is told. The last line is 'N passed, N failed'.
 """
 import collections
+import functools
 import getopt
 import os
 import random
@@ -30,10 +35,11 @@ import tempfile
 import time
 
 import compare
+import hard
 import reference
 
 ROWS = os.path.join(compare.ROOT, "tests", "rows")
-STACK, MEMORY, SECONDS, PATIENCE = 8 << 20, 2 << 30, 2, 10
+STACK, MEMORY, SECONDS, PATIENCE = 256 << 10, 2 << 30, 2, 10
 FORMS = {"map": "map LIB IN", "map-c": "map -c LIB IN", "check": "check LIB IN MAPPED", "time": "time LIB MAPPED",
          "sim": "sim IN VECTORS", "sim-g": "sim -g LIB MAPPED VECTORS", "graph": "graph IN", "big": "big SEED N LIB",
          "lut": "lut 4 IN", "trade": "trade 4 LIB IN", "verilog": "verilog LIB MAPPED", "unverilog": "unverilog LIB VER"}
@@ -197,21 +203,22 @@ def patiently(words, got):
     return answer
 
 
-def limits():
-    for what, most in ((resource.RLIMIT_STACK, STACK), (resource.RLIMIT_AS, MEMORY), (resource.RLIMIT_CPU, SECONDS),
+def limits(memory):
+    for what, most in ((resource.RLIMIT_STACK, STACK), (resource.RLIMIT_AS, memory), (resource.RLIMIT_CPU, SECONDS),
                        (resource.RLIMIT_CORE, 0)):
         resource.setrlimit(what, (most, most))
 
 
-def ours(words):
+def ours(words, memory=MEMORY):
     """What the program does, as status, output and error. A signal is a status below 0."""
-    done = subprocess.run([compare.program_path()] + words, stdin=subprocess.DEVNULL, capture_output=True, preexec_fn=limits)
+    done = subprocess.run([compare.program_path()] + words, stdin=subprocess.DEVNULL, capture_output=True,
+                          preexec_fn=functools.partial(limits, memory))
     return done.returncode, done.stdout, done.stderr
 
 
 class Fuzz:
-    def __init__(self, seed, command):
-        self.seed, self.rows = seed, rows()
+    def __init__(self, seed, command, kind):
+        self.seed, self.kind, self.rows = seed, kind, rows()
         have = compare.known()
         self.forms = [command] if command else [form for form in FORMS if form.split("-")[0] in have]
         self.networks = [files for _, files in self.rows if "LIB" in files and "IN" in files]
@@ -271,9 +278,21 @@ class Fuzz:
             words[at:at + draw.randint(0, 1)] = draw.choice([[], [""], ["-"], [words[at]], ["none"], ["-c"], ["."]])
         return words
 
-    def one(self, case):
-        """Runs a case in the folder where the process is; what differs is given in words, or None."""
-        draw = random.Random(f"{self.seed} {case}")
+    def hard(self, draw):
+        """A case of a kind: its name, words and memory. The files stand in the folder."""
+        kind = self.kind or draw.choice([kind for kind in hard.KINDS if kind not in hard.FAILING])
+        files, line = hard.KINDS[kind](draw)
+        for file, text in files.items():
+            self.put(file, text.encode())
+        words = line.split(" ")
+        if "MAPPED" in words and "MAPPED" not in files:
+            self.put("MAPPED", ours(["map", *words[1:4], "-c", "LIB", "IN"])[1])
+        if "VER" in words:
+            self.put("VER", self.verilog(draw))
+        return kind, words, draw.randint(13, 32) << 18 if kind == "memory" else MEMORY
+
+    def damaged(self, draw):
+        """A case of damaged files: the row that they are of, and words. The files stand in the folder."""
         name, files = self.files(draw)
         words = self.words(draw)
         if "VER" in words and ("VER" not in files or draw.random() < 0.3):
@@ -284,16 +303,23 @@ class Fuzz:
             files[file] = damaged(draw, files[file], other)
         for file, text in files.items():
             self.put(file, text)
-        got = ours(words)
+        return name, words, MEMORY
+
+    def one(self, case):
+        """Runs a case in the folder where the process is; what differs is given in words, or None."""
+        draw = random.Random(f"{self.seed} {case}")
+        is_hard = self.kind is not None or case % 10 == 9
+        name, words, memory = self.hard(draw) if is_hard else self.damaged(draw)
+        got = ours(words, memory)
         try:
             wanted = patiently(words, got)
         except Slow:
             wanted = None
-        command = words[0] if words and words[0] in FORMS else "other words"
-        self.counted[command, wanted[0] if wanted else "not compared"] += 1
-        if got[0] >= 0 and (wanted is None or got == wanted):
+        command = name if is_hard else words[0] if words and words[0] in FORMS else "other words"
+        self.counted[command, got[0] if wanted else "not compared"] += 1
+        if got[0] >= 0 and (wanted is None or got == wanted) or memory < MEMORY and got == (8, b"", b"lwmap: out of memory\n"):
             return None
-        said = [f"case {case} of seed {self.seed}, from the row {name}: lwmap {' '.join(words)}"]
+        said = [f"case {case} of seed {self.seed}, of {name}: lwmap {' '.join(words)}"]
         said.append("wanted: " + (shown(wanted) if wanted else "any answer"))
         said.append("got:    " + shown(got))
         return "\n".join(said)
@@ -305,17 +331,17 @@ def shown(answer):
 
 def main(given):
     try:
-        options, rest = getopt.getopt(given, "n:t:s:c:o:")
+        options, rest = getopt.getopt(given, "n:t:s:c:k:o:")
         chosen = dict(options)
         seed, only = int(chosen.get("-s", 1)), chosen.get("-o") and int(chosen["-o"])
         until = time.monotonic() + float(chosen["-t"]) if "-t" in chosen else None
         most = int(chosen["-n"]) if "-n" in chosen else None if until else 10000
-        if rest or chosen.get("-c", "map") not in FORMS:
+        if rest or chosen.get("-c", "map") not in FORMS or chosen.get("-k", "wide") not in hard.KINDS:
             raise ValueError
     except (getopt.GetoptError, ValueError):
-        sys.exit("usage: fuzz.py [-n CASES] [-t SECONDS] [-s SEED] [-c COMMAND] [-o NUMBER]")
+        sys.exit("usage: fuzz.py [-n CASES] [-t SECONDS] [-s SEED] [-c COMMAND] [-k KIND] [-o NUMBER]")
     compare.program_path()  # (found before the folder is another)
-    fuzz = Fuzz(seed, chosen.get("-c"))
+    fuzz = Fuzz(seed, chosen.get("-c"), chosen.get("-k"))
     folder = tempfile.mkdtemp()
     os.chdir(folder)
     case, differs = only or 0, None

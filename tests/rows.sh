@@ -51,6 +51,14 @@ standard_output_takes_a_part() {
     [ -s out ] && head -c "$(wc -c <out)" IN >prefix && same out prefix
 }
 
+# The script ignores the signal of a limit on the size of files, so that this is status 7 as well.
+standard_output_takes_a_part_of_a_script() {
+    inverter_files && awk 'BEGIN { line = ""; for (i = 1; i <= 1000; i++) line = line " i" i; print ".inputs" line "\n.outputs" line }' >IN
+    (export LWMAP_PROGRAM="$program" && ulimit -f 2 && sh "$root/lwmap" map LIB IN >out 2>err)
+    status $? 7 && holds err 'lwmap: cannot write' || return
+    [ -s out ] && { echo .model unnamed && cat IN; } | head -c "$(wc -c <out)" >prefix && same out prefix
+}
+
 standard_output_is_closed() {
     inverter_files
     "$program" map LIB IN >&- 2>err
@@ -393,7 +401,7 @@ for it in "$examples"/*/*.mapped.blif; do
     [ $# -eq 0 ] || case " $* " in *" $name "*) ;; *) continue ;; esac
     attempt "$name" example "$it"
 done
-for it in unreadable_file standard_output_is_full standard_output_takes_a_part \
+for it in unreadable_file standard_output_is_full standard_output_takes_a_part standard_output_takes_a_part_of_a_script \
     standard_output_is_closed standard_output_is_a_pipe_that_nobody_reads standard_error_is_closed standard_error_is_full \
     standard_input_is_not_read files_from_pipes word_that_is_not_utf8 out_of_memory \
     library_of_too_many_bytes library_of_one_long_comment network_of_too_many_bytes file_without_end signal_names_of_2000_bytes \
