@@ -7,6 +7,7 @@ pub mod Growing
 pub mod Latest
 pub mod Moving
 pub mod Names
+pub mod Order
 pub mod NetValues
 pub mod Paths
 pub mod Pins

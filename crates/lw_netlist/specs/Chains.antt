@@ -1,7 +1,16 @@
--- Chains of the places of names, by which a name is found among them.
-use Rattle.std.specs.Prelude.{ℕ, suc, ◌≡◌, ◌≢◌, ◌<◌, ◌≤◌, ◌+◌, ◌*◌, ◌%◌, Option, Some, None, IfSome, IfNone, List, [], ◌∷◌, length, slice_index_or}
+-- Chains of the places of names, and their order, by which a name is found among them.
+use Rattle.std.specs.Prelude.{ℕ, suc, ◌≡◌, ◌≢◌, ◌<◌, ◌≤◌, ◌+◌, ◌*◌, ◌%◌, Option, Some, None, IfSome, IfNone, List, [], ◌∷◌, length, slice_index_or, ⊤}
+use Rattle.std.specs.BTreeMap.{is_at}
+use Rattle.std.specs.Cmp.Lexicographic.{slice_cmp}
+use Rattle.std.specs.Global.{Vec}
 use Rattle.std.specs.List.{IsDistinct}
+use Rattle.std.specs.Map.{lookup}
+use Rattle.std.specs.Ordering.{nat_cmp}
 use Rattle.std.specs.Str.{bytes_eq}
+use Rattle.lw_netlist.specs.declared.buckets.Linked.{Linked}
+use Rattle.lw_netlist.specs.declared.buckets.Linked.TheVariants as linked
+use Rattle.lw_netlist.specs.declared.buckets.Ordered.{Ordered}
+use Rattle.lw_netlist.specs.declared.buckets.Ordered.TheVariants as ordered
 use Rattle.lw_netlist.specs.Closing.{twice_after}
 
 abbrev pub hash_from : ℕ → List ℕ → ℕ
@@ -56,11 +65,33 @@ pub record CanLink (names : List (List ℕ)) (heads next : List ℕ) : Type 0 wh
   pub places : length next ≡ length names
   pub none : (b : ℕ) → b < length heads → slice_index_or heads b 0 ≡ 0
 
--- names that differ have chains, or else this is the place of the first that stands before it
-pub record LinksNames (names : List (List ℕ)) (old_heads old_next heads next : List ℕ) (result : Option ℕ) : Type 0 where
-  pub heads_each : length heads ≡ length old_heads
-  pub next_each : length next ≡ length old_next
-  pub chains : IfNone result (AreChains (bucket_in (length heads)) (length heads) names (length names) heads next)
-  pub once : IfNone result (twice_after [] names ≡ None)
-  pub within : IfSome result (λ k. k < length names)
-  pub twice : IfSome result (λ k. twice_after [] names ≡ Some (name_at names k))
+-- Names differ and have chains, or this is the place of the first that stands before it.
+abbrev pub LinksNames : List (List ℕ) → List ℕ → List ℕ → Linked → Type 0
+LinksNames names heads next linked.Differ = AreChains (bucket_in (length heads)) (length heads) names (length names) heads next × (twice_after [] names ≡ None)
+LinksNames names heads next (linked.Twice k) = (k < length names) × (twice_after [] names ≡ Some (name_at names k))
+LinksNames names heads next linked.Long = ⊤
+
+-- the place that is kept for a name
+abbrev pub place_of : List (Vec ℕ × ℕ) → List ℕ → Option ℕ
+place_of places name = lookup (is_at (λ (key : Vec ℕ). slice_cmp nat_cmp name key.items)) places
+
+-- The first so many names are kept by their order, each with its place.
+pub record AreOrdered (names : List (List ℕ)) (count : ℕ) (places : List (Vec ℕ × ℕ)) : Type 0 where
+  pub few : count ≤ length names
+  pub each : (k : ℕ) → k < count → place_of places (name_at names k) ≡ Some k
+
+-- a name has a place, and the others have what they had
+pub record PutsPlace (old new : List (Vec ℕ × ℕ)) (name : List ℕ) (place : ℕ) : Type 0 where
+  pub own : place_of new name ≡ Some place
+  pub others : (other : List ℕ) → name ≢ other → place_of new other ≡ place_of old other
+
+-- Names differ and are kept by their order, or this is the place of the first that stands before it.
+abbrev pub OrdersNames : List (List ℕ) → Ordered → Type 0
+OrdersNames names (ordered.Differ places) = AreOrdered names (length names) places.entries × (twice_after [] names ≡ None)
+OrdersNames names (ordered.Twice k) = (k < length names) × (twice_after [] names ≡ Some (name_at names k))
+
+-- Names that differ are found by chains or, where there are no buckets, by their order.
+pub record AreFound (names : List (List ℕ)) (heads next : List ℕ) (places : List (Vec ℕ × ℕ)) : Type 0 where
+  pub distinct : IsDistinct bytes_eq names
+  pub chained : 0 < length heads → AreNumbered names heads next
+  pub ordered : length heads ≡ 0 → AreOrdered names (length names) places

@@ -1,9 +1,17 @@
-// Names that are found by chains of the places of those in one bucket.
-ghost use Rattle.std.specs.Prelude.{◌≡◌, ◌≢◌, ◌<◌, ◌≤◌, ℕ, length, IfSome, IfNone, slice_index_or};
-ghost use Rattle.lw_netlist.specs.Chains.{AreChains, AreLinked, CanLink, FindsPlace, IsBucket, LinksNames, bucket_in, hash_from, name_at};
+// Names that are found by chains of the places of those in one bucket or, where a chain is long, by
+// their order. So no choice of names makes the search for one of them long.
+ghost use Rattle.std.specs.Prelude.{◌≡◌, ◌≢◌, ◌<◌, ◌≤◌, ℕ, length, IfSome, IfNone, IfOk, OnOk, OnErr, slice_index_or};
+ghost use Rattle.lw_netlist.specs.Chains.{AreChains, AreLinked, AreOrdered, CanLink, FindsPlace, IsBucket, LinksNames, OrdersNames, PutsPlace, bucket_in, hash_from, name_at};
 
 use crate::SpelledNames;
 use std::alloc::{AllocError, Global};
+use std::collections::BTreeMap;
+
+// The longest chain that a name is put into.
+const LONGEST: usize = 64;
+
+/// The places of names, by the bytes of the names.
+pub(crate) type Places = BTreeMap<Vec<u8>, u32>;
 
 // A number for the bytes of a name.
 fn hash_of(name: &[u8]) -> u64
@@ -81,21 +89,115 @@ pub(crate) fn relink(names: &SpelledNames, heads: &mut [u32], next: &mut [u32])
     }
 }
 
+/// Whether a chain is so long that names had better be found by their order. It is asked before a
+/// name is put into it, and nothing that is found hangs on it.
+pub(crate) fn is_long(next: &[u32], head: u32) -> bool {
+    let mut left = head;
+    for _ in 0..LONGEST {
+        let Some(place) = left.checked_sub(1) else {
+            return false;
+        };
+        left = match next.get(place as usize) {
+            Some(after) => *after,
+            None => 0,
+        };
+    }
+    left > 0
+}
+
+/// What chains for names came to.
+pub(crate) enum Linked {
+    /// The names differ, and have chains.
+    Differ,
+    /// The place of the first name that stands before it.
+    Twice(usize),
+    /// A chain is long.
+    Long,
+}
+
 /// Makes chains for names that differ, or tells the place of the first that stands before it. No
 /// chain was made before.
-pub(crate) fn link(names: &SpelledNames, heads: &mut [u32], next: &mut [u32]) -> Option<usize>
+pub(crate) fn link(names: &SpelledNames, heads: &mut [u32], next: &mut [u32]) -> Linked
     requires { CanLink names.now heads.old next.old }
-    ensures { LinksNames names.now heads.old next.old heads.new next.new result }
+    ensures heads { length heads.new ≡ length heads.old }
+    ensures next { length next.new ≡ length next.old }
+    ensures linked { LinksNames names.now heads.new next.new result }
 {
     for place in 0..names.len() {
         let name = names.get(place);
         let bucket = bucket_of(name, heads.len());
+        if is_long(next, heads[bucket]) {
+            return Linked::Long;
+        }
         // Where the name stands before is not asked.
         if let Some(_first) = place_in(names, place, heads, next, bucket, name) {
-            return Some(place);
+            return Linked::Twice(place);
         }
         next[place] = heads[bucket];
         heads[bucket] = place as u32 + 1;
     }
+    Linked::Differ
+}
+
+/// The place of a name among the first so many, by their order.
+pub(crate) fn place_by_order(
+    names: &SpelledNames,
+    count: usize,
+    places: &Places,
+    name: &[u8],
+) -> Option<usize>
+    requires { AreOrdered names.now count places.now.entries }
+    ensures { FindsPlace names.now count name.now result }
+{
+    let Some(number) = places.get(name) else {
+        return None;
+    };
+    let place = *number as usize;
+    if place < count && names.get(place) == name {
+        return Some(place);
+    }
     None
+}
+
+/// Gives a name a place. Where there is no memory nothing is changed.
+pub(crate) fn put(
+    alloc: Global,
+    places: &mut Places,
+    name: &[u8],
+    place: usize,
+) -> Result<(), AllocError>
+    requires { place < 4294967295 }
+    ensures ok { OnOk result (PutsPlace places.old.entries places.new.entries name.now place) }
+    ensures err { OnErr result (places.new.entries ≡ places.old.entries) }
+{
+    let key = Vec::from_slice(alloc, name)?;
+    // The place that the name had is not asked.
+    let _before = places.insert(key, place as u32)?;
+    Ok(())
+}
+
+/// What the order of names came to.
+#[derive(Drop)]
+pub(crate) enum Ordered {
+    /// The names differ, and these are their places.
+    Differ(Places),
+    /// The place of the first name that stands before it.
+    Twice(usize),
+}
+
+/// The places of names that differ, or the place of the first that stands before it.
+pub(crate) fn order(alloc: Global, names: &SpelledNames) -> Result<Ordered, AllocError>
+    requires { length names.now < 4294967295 }
+    ensures { IfOk result (OrdersNames names.now) }
+{
+    let mut places = Places::new(alloc);
+    for place in 0..names.len() {
+        let name = names.get(place);
+        // Where the name stands before is not asked.
+        if let Some(_first) = place_by_order(names, place, &places, name) {
+            return Ok(Ordered::Twice(place));
+        }
+        put(alloc, &mut places, name, place)?;
+    }
+    Ok(Ordered::Differ(places))
 }

@@ -1,11 +1,12 @@
 // Names in place of which numbers stand.
-ghost use Rattle.std.specs.Prelude.{◌≡◌, ◌<◌, ◌++◌, ◌∷◌, [], length, map, IfOk, MatchResult};
+ghost use Rattle.std.specs.Prelude.{◌≡◌, ◌<◌, ◌++◌, ◌∷◌, [], length, map, Some, IfOk, MatchResult};
 ghost use Rattle.std.specs.List.{flat_map};
-ghost use Rattle.lw_netlist.specs.Closing.{drivers, gate_link, needs_of, out_of, wire_link};
+ghost use Rattle.lw_netlist.specs.Closing.{drivers, gate_link, needs_of, out_of, twice_after, wire_link};
 ghost use Rattle.lw_dag.specs.Names.{number_in};
+ghost use Rattle.lw_netlist.specs.Chains.{name_at};
 ghost use Rattle.lw_netlist.specs.Numbered.{FindsDriven, HaveNumbers, TellsTwice, numbered};
 
-use crate::buckets::link;
+use crate::buckets::{Linked, Ordered, link, order};
 use crate::signals::Signals;
 use crate::{GateDraft, NetlistFault, SpelledGate, SpelledNames, Wire};
 use lw_pool::{Name, Numbers};
@@ -40,6 +41,28 @@ pub(crate) fn driven(alloc: Global, draft: &GateDraft) -> Result<SpelledNames, A
     Ok(names)
 }
 
+// The fault that a name is there twice.
+fn twice(alloc: Global, names: &SpelledNames, place: usize) -> NetlistFault
+    requires { place < length names.now }
+    ensures { twice_after [] names.now ≡ Some (name_at names.now place) → TellsTwice names.now result }
+{
+    match Name::from_slice(alloc, names.get(place)) {
+        Ok(name) => NetlistFault::Twice(name),
+        Err(_) => NetlistFault::Memory,
+    }
+}
+
+// Numbers names by their order, or tells the first that is there twice.
+fn numbers_by_order(alloc: Global, names: SpelledNames) -> Result<Signals, NetlistFault>
+    requires { length names < 4294967295 }
+    ensures { MatchResult result (λ set. (set ≡ names) × HaveNumbers names) (TellsTwice names) }
+{
+    match order(alloc, &names)? {
+        Ordered::Differ(places) => Ok(Signals::by_order(alloc, names, places)),
+        Ordered::Twice(place) => Err(twice(alloc, &names, place)),
+    }
+}
+
 // Numbers names, or tells the first that is there twice. For more of them than there are numbers
 // there is no memory.
 pub(crate) fn numbers(alloc: Global, names: SpelledNames) -> Result<Signals, NetlistFault>
@@ -50,11 +73,15 @@ pub(crate) fn numbers(alloc: Global, names: SpelledNames) -> Result<Signals, Net
     }
     let mut heads = vec![in alloc; 0; 2 * names.len() + 1]?;
     let mut next = vec![in alloc; 0; names.len()]?;
-    if let Some(place) = link(&names, &mut heads, &mut next) {
-        let name = Name::from_slice(alloc, names.get(place))?;
-        return Err(NetlistFault::Twice(name));
+    match link(&names, &mut heads, &mut next) {
+        Linked::Differ => Ok(Signals::by_chains(alloc, names, heads, next)),
+        Linked::Twice(place) => Err(twice(alloc, &names, place)),
+        Linked::Long => {
+            drop(heads);
+            drop(next);
+            numbers_by_order(alloc, names)
+        }
     }
-    Ok(Signals::new(names, heads, next))
 }
 
 // The number of a name, or the fault that it has none.

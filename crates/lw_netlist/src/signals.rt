@@ -1,7 +1,9 @@
 // Names with numbers.
-ghost use Rattle.std.specs.Prelude.{◌≡◌, ◌<◌, true, length, OnOk, Some, slice_get};
-ghost use Rattle.lw_netlist.specs.Chains.{AreNumbered};
+ghost use Rattle.std.specs.Prelude.{◌≡◌, ◌<◌, ◌++◌, [], ◌∷◌, true, false, length, OnOk, OnErr, Some, slice_get};
+ghost use Rattle.lw_dag.specs.Names.{is_among};
+ghost use Rattle.lw_netlist.specs.Chains.{AreNumbered, AreOrdered};
 
+use crate::buckets::{Ordered, Places};
 use crate::{SpelledNames, buckets};
 use std::alloc::{AllocError, Global};
 use std::marker::Model;
@@ -16,41 +18,67 @@ const NAMES: usize = 1 << 30;
 #[derive(Drop)]
 pub struct Signals {
     names: SpelledNames,
+    // Chains of names. Where there are no buckets, all places are by order.
     heads: Vec<u32>,
     next: Vec<u32>,
+    places: Places,
 }
 
 impl Model for Signals {
     ghost use Rattle.std.specs.Prelude.{List, ℕ};
-    ghost use Rattle.lw_netlist.specs.Chains.{AreNumbered};
+    ghost use Rattle.lw_netlist.specs.Chains.{AreFound};
 
     ghost Value = { List (List ℕ) };
 
     ghost view = { λ s. s.names };
 
-    ghost invariant = { λ s. AreNumbered s.names s.heads.items s.next.items };
+    ghost invariant = { λ s. AreFound s.names s.heads.items s.next.items s.places.entries };
 }
 
 impl Signals {
-    ghost use Rattle.std.specs.Prelude.{◌≡◌, ◌<◌, ◌++◌, [], ◌∷◌, length, not, is_some, IfOk, IfSome, OnErr, if◌then◌else◌};
+    ghost use Rattle.std.specs.Prelude.{◌≡◌, ◌<◌, ◌++◌, [], ◌∷◌, length, not, true, false, is_some, IfOk, IfSome, OnErr, OnOk, if◌then◌else◌};
     ghost use Rattle.std.specs.List.{IsDistinct};
     ghost use Rattle.std.specs.Str.{bytes_eq};
     ghost use Rattle.lw_dag.specs.Names.{is_among, number_in};
-    ghost use Rattle.lw_netlist.specs.Chains.{AreNumbered, name_at};
+    ghost use Rattle.lw_netlist.specs.Chains.{AreFound, AreNumbered, name_at};
 
     /// No names.
     pub fn none(alloc: Global) -> Result<Self, AllocError>
         ensures { IfOk result (λ names. names ≡ []) }
     {
         let heads = vec![in alloc; 0; BUCKETS]?;
-        Ok(Signals::new(SpelledNames::new(alloc), heads, Vec::new(alloc)))
+        Ok(Signals::by_chains(alloc, SpelledNames::new(alloc), heads, Vec::new(alloc)))
     }
 
-    pub(crate) fn new(names: SpelledNames, heads: Vec<u32>, next: Vec<u32>) -> Self
+    // Names that have chains.
+    pub(crate) fn by_chains(
+        alloc: Global,
+        names: SpelledNames,
+        heads: Vec<u32>,
+        next: Vec<u32>,
+    ) -> Self
         requires { AreNumbered names heads.items next.items }
         ensures { result ≡ names }
     {
-        Signals { names, heads, next }
+        Signals {
+            names,
+            heads,
+            next,
+            places: Places::new(alloc),
+        }
+    }
+
+    // Names whose places are known by their order.
+    pub(crate) fn by_order(alloc: Global, names: SpelledNames, places: Places) -> Self
+        requires { AreFound names [] [] places.entries }
+        ensures { result ≡ names }
+    {
+        Signals {
+            names,
+            heads: Vec::new(alloc),
+            next: Vec::new(alloc),
+            places,
+        }
     }
 
     pub fn len(&self) -> usize
@@ -74,10 +102,10 @@ impl Signals {
         ensures within { IfSome result (λ n. n < length self.now) }
         ensures named { IfSome result (λ n. name_at self.now n ≡ name.now) }
     {
-        match buckets::find(&self.names, &self.heads, &self.next, name) {
-            Some(place) => Some(place),
-            None => None,
+        if self.heads.is_empty() {
+            return buckets::place_by_order(&self.names, self.names.len(), &self.places, name);
         }
+        buckets::find(&self.names, &self.heads, &self.next, name)
     }
 
     /// The number of a name, if it is one of these. Where the name has the number that is given, it
@@ -103,21 +131,105 @@ impl Signals {
             ≡ (if fresh then self.old ++ name.now ∷ [] else self.old)) }
         ensures err { OnErr result (self.new ≡ self.old) }
     {
-        make_room(&self.names, &mut self.heads, &mut self.next)?;
-        let bucket = buckets::bucket_of(name, self.heads.len());
-        let count = self.names.len();
-        let place = buckets::place_in(&self.names, count, &self.heads, &self.next, bucket, name);
-        // Where the name stands is not asked.
-        if let Some(_there) = place {
+        if self.find(name).is_some() {
             return Ok(false);
         }
-        self.next.reserve(1)?;
-        self.names.push(name)?;
-        self.next.push_reserved(0);
-        self.next[count] = self.heads[bucket];
-        self.heads[bucket] = count as u32 + 1;
+        self.push(name)?;
         Ok(true)
     }
+
+    // Adds a name that is not there. Where there is no memory nothing is changed.
+    fn push(&mut self, name: &[u8]) -> Result<(), AllocError>
+        requires some { 0 < length name.now }
+        requires new { is_among self.old name.now ≡ false }
+        ensures ok { OnOk result (self.new ≡ self.old ++ name.now ∷ []) }
+        ensures err { OnErr result (self.new ≡ self.old) }
+    {
+        if self.is_crowded(name) {
+            self.go_over()?;
+        }
+        if self.heads.is_empty() {
+            return push_to_order(
+                &mut self.names,
+                &mut self.places,
+                *self.heads.allocator(),
+                name,
+            );
+        }
+        push_to_chain(&mut self.names, &mut self.heads, &mut self.next, name)
+    }
+
+    // Whether the chain is long that a name would come into.
+    fn is_crowded(&self, name: &[u8]) -> bool
+        ensures { result ≡ true → length self.now < 1073741824 }
+    {
+        if self.heads.is_empty() || self.names.len() >= NAMES {
+            return false;
+        }
+        let bucket = buckets::bucket_of(name, self.heads.len());
+        buckets::is_long(&self.next, self.heads[bucket])
+    }
+
+    // Finds the names by their order from now on.
+    fn go_over(&mut self) -> Result<(), AllocError>
+        requires { length self.old < 1073741824 }
+        ensures { self.new ≡ self.old }
+    {
+        let alloc = *self.heads.allocator();
+        if let Ordered::Differ(places) = buckets::order(alloc, &self.names)? {
+            self.places = places;
+            self.heads = Vec::new(alloc);
+            self.next = Vec::new(alloc);
+        }
+        Ok(())
+    }
+}
+
+// Appends a name that is not there, where names are found by their order.
+fn push_to_order(
+    names: &mut SpelledNames,
+    places: &mut Places,
+    alloc: Global,
+    name: &[u8],
+) -> Result<(), AllocError>
+    requires some { 0 < length name.now }
+    requires new { is_among names.old name.now ≡ false }
+    requires ordered { AreOrdered names.old (length names.old) places.old.entries }
+    ensures ordered { AreOrdered names.new (length names.new) places.new.entries }
+    ensures ok { OnOk result (names.new ≡ names.old ++ name.now ∷ []) }
+    ensures err { OnErr result (names.new ≡ names.old) }
+{
+    let count = names.len();
+    if count >= NAMES {
+        return Err(AllocError);
+    }
+    buckets::put(alloc, places, name, count)?;
+    names.push(name)
+}
+
+// Appends a name that is not there, where names are found by chains.
+fn push_to_chain(
+    names: &mut SpelledNames,
+    heads: &mut Vec<u32>,
+    next: &mut Vec<u32>,
+    name: &[u8],
+) -> Result<(), AllocError>
+    requires some { 0 < length name.now }
+    requires new { is_among names.old name.now ≡ false }
+    requires numbered { AreNumbered names.old heads.old.items next.old.items }
+    ensures numbered { AreNumbered names.new heads.new.items next.new.items }
+    ensures ok { OnOk result (names.new ≡ names.old ++ name.now ∷ []) }
+    ensures err { OnErr result (names.new ≡ names.old) }
+{
+    make_room(names, heads, next)?;
+    let bucket = buckets::bucket_of(name, heads.len());
+    let count = names.len();
+    next.reserve(1)?;
+    names.push(name)?;
+    next.push_reserved(0);
+    next[count] = heads[bucket];
+    heads[bucket] = count as u32 + 1;
+    Ok(())
 }
 
 // Whether the name at a place is this one.

@@ -38,34 +38,27 @@ place_in-requires-clause-linked c =
 pub place_in-requires-clause-bucket : goal.place_in-requires-clause-bucket
 place_in-requires-clause-bucket c = record { own = c.bucket_of-bucket.ensures.bucket; low = c.bucket_of-bucket.ensures.low }
 
-pub returns-in-Some : goal.returns-in-Some
-returns-in-Some c =
+pub returns-in-Some-clause-heads : goal.returns-in-Some-clause-heads
+returns-in-Some-clause-heads c = c.loop-place.invariant.heads
+
+pub returns-in-Some-clause-next : goal.returns-in-Some-clause-next
+returns-in-Some-clause-next c = c.loop-place.invariant.next
+
+pub returns-in-Some-clause-linked : goal.returns-in-Some-clause-linked
+returns-in-Some-clause-linked c =
     let names = c.args.names.now in
     let place = c.loop-place.place in
     let inside : place < length names = omega (arith, c.loop-place-test.true, c.len-place-end.ensures) in
     let named : c.get-name.result.now ≡ name_at names place = sym (get_or_from_slice_get names place c.get-name.result.now [] c.get-name.ensures.name) in
-    record {
-      heads_each = c.loop-place.invariant.heads;
-      next_each = c.loop-place.invariant.next;
-      chains = tt;
-      once = tt;
-      within = inside;
-      twice =
-          sym c.loop-place.invariant.rest
-          ∙ twice-here names place inside (found-among names (name_at names place) place c.in-Some._first c.in-Some.ensures.within (omega (arith, inside)) (c.in-Some.ensures.some ∙ named));
-    }
+    (inside,
+    sym c.loop-place.invariant.rest
+    ∙ twice-here names place inside (found-among names (name_at names place) place c.in-Some._first c.in-Some.ensures.within (omega (arith, inside)) (c.in-Some.ensures.some ∙ named)))
 
-pub returns : goal.returns
-returns c =
+pub returns-clause-linked : goal.returns-clause-linked
+returns-clause-linked c =
     let names = c.args.names.now in
     let now = c.loop-place.invariant in
     let place = c.loop-place.place in
     let all : place ≡ length names = omega (arith, c.loop-place-test.false, c.loop-place.auto.place-end, c.len-place-end.ensures) in
-    record {
-      heads_each = now.heads;
-      next_each = now.next;
-      chains = subst (λ n. AreChains (bucket_in n) n names (length names) c.loop-place.heads c.loop-place.next) (sym now.heads) (subst (λ k. AreChains (bucket_in (length c.args.heads.now)) (length c.args.heads.now) names k c.loop-place.heads c.loop-place.next) all now.chains);
-      once = sym now.rest ∙ ap (twice_after (take place names)) (drop_all place names (omega (arith, all)));
-      within = tt;
-      twice = tt;
-    }
+    (subst (λ n. AreChains (bucket_in n) n names (length names) c.loop-place.heads c.loop-place.next) (sym now.heads) (subst (λ k. AreChains (bucket_in (length c.args.heads.now)) (length c.args.heads.now) names k c.loop-place.heads c.loop-place.next) all now.chains),
+    sym now.rest ∙ ap (twice_after (take place names)) (drop_all place names (omega (arith, all))))
