@@ -1,7 +1,7 @@
 // Names with numbers.
-ghost use Rattle.std.specs.Prelude.{◌≡◌, ◌<◌, ◌++◌, [], ◌∷◌, true, false, length, OnOk, OnErr, Some, slice_get};
+ghost use Rattle.std.specs.Prelude.{◌≡◌, ◌≢◌, ◌<◌, ◌++◌, ℕ, [], ◌∷◌, true, false, length, OnOk, OnErr, IfSome, IfNone, Some, slice_get};
 ghost use Rattle.lw_dag.specs.Names.{is_among};
-ghost use Rattle.lw_netlist.specs.Chains.{AreNumbered, AreOrdered};
+ghost use Rattle.lw_netlist.specs.Chains.{AreFound, AreNumbered, AreOrdered, name_at};
 
 use crate::buckets::{Ordered, Places};
 use crate::{SpelledNames, buckets};
@@ -102,10 +102,10 @@ impl Signals {
         ensures within { IfSome result (λ n. n < length self.now) }
         ensures named { IfSome result (λ n. name_at self.now n ≡ name.now) }
     {
-        if self.heads.is_empty() {
-            return buckets::place_by_order(&self.names, self.names.len(), &self.places, name);
+        match place_of(&self.names, &self.heads, &self.next, &self.places, name) {
+            Some(place) => Some(place),
+            None => None,
         }
-        buckets::find(&self.names, &self.heads, &self.next, name)
     }
 
     /// The number of a name, if it is one of these. Where the name has the number that is given, it
@@ -148,15 +148,13 @@ impl Signals {
         if self.is_crowded(name) {
             self.go_over()?;
         }
-        if self.heads.is_empty() {
-            return push_to_order(
-                &mut self.names,
-                &mut self.places,
-                *self.heads.allocator(),
-                name,
-            );
-        }
-        push_to_chain(&mut self.names, &mut self.heads, &mut self.next, name)
+        push_name(
+            &mut self.names,
+            &mut self.heads,
+            &mut self.next,
+            &mut self.places,
+            name,
+        )
     }
 
     // Whether the chain is long that a name would come into.
@@ -185,11 +183,51 @@ impl Signals {
     }
 }
 
+// The place of a name, which is found by chains or by the order of names.
+fn place_of(
+    names: &SpelledNames,
+    heads: &[u32],
+    next: &[u32],
+    places: &Places,
+    name: &[u8],
+) -> Option<usize>
+    requires { AreFound names.now heads.now next.now places.now.entries }
+    ensures within { IfSome result (λ k. k < length names.now) }
+    ensures some { IfSome result (λ k. name_at names.now k ≡ name.now) }
+    ensures none { IfNone result ((k : ℕ) → k < length names.now → name_at names.now k ≢ name.now) }
+{
+    if heads.is_empty() {
+        return buckets::place_by_order(names, names.len(), places, name);
+    }
+    buckets::find(names, heads, next, name)
+}
+
+// Appends a name that is not there. Where there is no memory nothing is changed.
+fn push_name(
+    names: &mut SpelledNames,
+    heads: &mut Vec<u32>,
+    next: &mut Vec<u32>,
+    places: &mut Places,
+    name: &[u8],
+) -> Result<(), AllocError>
+    requires some { 0 < length name.now }
+    requires new { is_among names.old name.now ≡ false }
+    requires found { AreFound names.old heads.old.items next.old.items places.old.entries }
+    ensures found { AreFound names.new heads.new.items next.new.items places.new.entries }
+    ensures ok { OnOk result (names.new ≡ names.old ++ name.now ∷ []) }
+    ensures err { OnErr result (names.new ≡ names.old) }
+{
+    if heads.is_empty() {
+        return push_to_order(*heads.allocator(), names, places, name);
+    }
+    push_to_chain(names, heads, next, name)
+}
+
 // Appends a name that is not there, where names are found by their order.
 fn push_to_order(
+    alloc: Global,
     names: &mut SpelledNames,
     places: &mut Places,
-    alloc: Global,
     name: &[u8],
 ) -> Result<(), AllocError>
     requires some { 0 < length name.now }

@@ -49,16 +49,18 @@ returns-in-Some-clause-linked c =
     let names = c.args.names.now in
     let place = c.loop-place.place in
     let inside : place < length names = omega (arith, c.loop-place-test.true, c.len-place-end.ensures) in
-    let named : c.get-name.result.now ≡ name_at names place = sym (get_or_from_slice_get names place c.get-name.result.now [] c.get-name.ensures.name) in
-    (inside,
-    sym c.loop-place.invariant.rest
-    ∙ twice-here names place inside (found-among names (name_at names place) place c.in-Some._first c.in-Some.ensures.within (omega (arith, inside)) (c.in-Some.ensures.some ∙ named)))
+    let named : c.get-name.result.now ≡ name_at names place = sym (get_or_from_slice_get names place c.get-name.result.now [] c.get-name.ensures.name) in (
+      inside,
+      sym c.loop-place.invariant.rest
+          ∙ twice-here names place inside (found-among names (name_at names place) place c.in-Some._first c.in-Some.ensures.within (omega (arith, inside)) (c.in-Some.ensures.some ∙ named)),
+    )
 
 pub returns-clause-linked : goal.returns-clause-linked
 returns-clause-linked c =
     let names = c.args.names.now in
     let now = c.loop-place.invariant in
     let place = c.loop-place.place in
-    let all : place ≡ length names = omega (arith, c.loop-place-test.false, c.loop-place.auto.place-end, c.len-place-end.ensures) in
-    (subst (λ n. AreChains (bucket_in n) n names (length names) c.loop-place.heads c.loop-place.next) (sym now.heads) (subst (λ k. AreChains (bucket_in (length c.args.heads.now)) (length c.args.heads.now) names k c.loop-place.heads c.loop-place.next) all now.chains),
-    sym now.rest ∙ ap (twice_after (take place names)) (drop_all place names (omega (arith, all))))
+    let all : place ≡ length names = omega (arith, c.loop-place-test.false, c.loop-place.auto.place-end, c.len-place-end.ensures) in (
+      subst (λ n. AreChains (bucket_in n) n names (length names) c.loop-place.heads c.loop-place.next) (sym now.heads) (subst (λ k. AreChains (bucket_in (length c.args.heads.now)) (length c.args.heads.now) names k c.loop-place.heads c.loop-place.next) all now.chains),
+      sym now.rest ∙ ap (twice_after (take place names)) (drop_all place names (omega (arith, all))),
+    )
