@@ -17,7 +17,7 @@ from measure import ABC, LIMIT, RUNS, Kept, Library, Room, head, mean, row, said
 
 HERE = os.path.dirname(os.path.realpath(__file__))
 LIBRARIES = os.environ.get("LIBS", "tiny mcnc rich").split()
-PARTS = "machine maps sizes loads trade luts widths idempotence certificates texts goals record"
+PARTS = "machine maps sizes others loads trade luts widths idempotence certificates texts goals record"
 # The part of the processor time of ABC's map that 'map' is to take, starts included.
 GOALS = {"tiny": 0.10, "mcnc": 0.12, "rich": 0.20}
 
@@ -126,12 +126,14 @@ def measure(room, kept, wanted, sets, own):
         maps.report(found, verdicts)
     if "sizes" in wanted and ABC:
         parts.sizes(room, kept, next((library for library in libraries if library.name == "mcnc"), libraries[0]))
+    if "others" in wanted and ABC:
+        parts.others(room, kept, every)
     if "loads" in wanted and ABC:
         parts.loads(room, kept, every)
     if "trade" in wanted:
         trades = parts.trade(room, kept, libraries, first)
     if "luts" in wanted and ABC:
-        parts.luts(room, kept, first)
+        parts.luts(room, kept, every)
     if "widths" in wanted:
         parts.options(room, kept, libraries, first, "Widths", "-w 6", [f"-w {width}" for width in range(2, 9)])
     if "idempotence" in wanted:

@@ -7,7 +7,7 @@
 # It takes the circuits of bench/circuits and bench/further, or each .blif of FOLDER. Delays and areas are those of timing.py, for
 # ABC's netlists too. A time is the least of RUNS runs (3), as processor time of the whole process. LIMIT is the processor seconds that
 # a run may take (10), LIBS the libraries (tiny, mcnc, rich), LIBERTY the library for real loads. PARTS names the parts (machine maps
-# sizes loads trade luts widths idempotence certificates texts goals record); 'record' writes bench/record.csv. With CEC=yes netlists
+# sizes others loads trade luts widths idempotence certificates texts goals record); 'record' writes bench/record.csv. With CEC=yes netlists
 # are compared with their circuits by ABC's 'cec'. KEEP=FILE keeps what is measured, so that a run that was ended can go on.
 # Without ABC only lwmap's own figures are there. One processor is used, so 'nice -n 10 sh bench/all.sh' leaves the others alone. The
 # program is the one that release/program.sh finds.

@@ -39,7 +39,7 @@ network() {
     }'
 }
 
-# An empty network behind so many bytes of a text.
+# An empty network after so many bytes of a text.
 behind() {
     { head -c 67108800 && printf '\n.model m\n.inputs\n.outputs\n.end\n'; }
 }

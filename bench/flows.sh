@@ -1,5 +1,5 @@
 #!/bin/sh
-# Maps the circuits of bench/circuits with the libraries of bench/libs behind several front ends, and prints the delays
+# Maps the circuits of bench/circuits with the libraries of bench/libs after several front ends, and prints the delays
 # beside those of ABC's mappers, one table for each library. With words it takes those circuits alone:
 #
 #   sh bench/flows.sh [CIRCUIT..]
@@ -39,7 +39,7 @@ abc() { # SCRIPT
     run berkeley-abc -s -q "$1" >"$room/said"
 }
 
-# Makes the network behind a front end, where it is not there. It is empty where ABC took too long or failed. One that
+# Makes the network after a front end, where it is not there. It is empty where ABC took too long or failed. One that
 # ABC maps is made for each library.
 front() { # CIRCUIT FRONT
     given=$room/$1.given.blif
@@ -55,7 +55,7 @@ equivalent() { # NETWORK NETWORK
     abc "cec $1 $2" && grep -q 'are equivalent' "$room/said"
 }
 
-# One entry of the table: the delay of this program's netlist behind a front end, or why there is none.
+# One entry of the table: the delay of this program's netlist after a front end, or why there is none.
 our_delay() { # LIB CIRCUIT FRONT
     front "$2" "$3"
     [ -s "$made" ] || { echo "none" && return; }

@@ -2,13 +2,13 @@
 # Covers the circuits of bench/circuits by lookup tables of at most 4 and at most 6 fan-ins, and prints a table: depth and number
 # of tables, and the processor time of the whole program in milliseconds, of 'lut 4' and 'lut 6', and the same of ABC's 'if -K 4',
 # 'if -K 6' and 'dch; if -K 6', where ABC is installed (Debian's package berkeley-abc). There each result is shown equivalent to
-# its circuit by ABC's 'cec'; 'undecided' stands behind it where that does not come to an end. With words it takes those circuits
+# its circuit by ABC's 'cec'; 'undecided' comes after it if that does not come to an end. With words it takes those circuits
 # alone:
 #
 #   sh bench/luts.sh [-f] [CIRCUIT..]
 #
-# With -f each circuit goes through front ends of ABC first, and the table has depth and number of tables of 'lut 6' behind each
-# of them, beside those of ABC on the circuit as given: 'if -K 6', and the same behind 'dch' and behind 'if -g -K 6; strash'.
+# With -f each circuit goes through front ends of ABC first, and the table has depth and number of tables of 'lut 6' after each
+# of them, beside those of ABC on the circuit as given: 'if -K 6', and the same after 'dch' and after 'if -g -K 6; strash'.
 # FRONTS names the front ends, by the names of bench/fronts.sh, or as 'dch;if6', which is the network of ABC's 'dch; if -K 6'.
 #
 # All depths are those of bench/tables.py, for ABC's networks too. OPTIONS are the options of 'lut' (none by default, or as
@@ -60,7 +60,7 @@ ours() { # FANINS CIRCUIT NETWORK
     fi
 }
 
-# The same for a script of ABC, behind 'strash'; what it writes is left in the room.
+# The same for a script of ABC, after 'strash'; what it writes is left in the room.
 theirs() { # SCRIPT NETWORK
     best= && size=
     rm -f "$room/abc.blif"
@@ -85,7 +85,7 @@ given_row() { # CIRCUIT
     echo "$row $size | $best |"
 }
 
-# Prints the row of a circuit behind each front end.
+# Prints the row of a circuit after each front end.
 behind_row() { # CIRCUIT
     network=$bench/circuits/$1.blif
     row="| $1 |"

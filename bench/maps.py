@@ -6,8 +6,10 @@ from lib import fronts
 from measure import ABC, UNMAP, common, counted, head, mean, plain, ratio, row, said
 
 ROUNDS = fronts.rounds(3)
-SCRIPTS = {"map": "strash; map", "dch; map": "strash; dch; map", "three rounds": f"{ROUNDS}; map"}
-MAPPED = ["dch; map", "three rounds"]
+SCRIPTS = {"map": "strash; map", "dch; map": "strash; dch; map", "one round": f"{fronts.rounds(1)}; map", "three rounds": f"{ROUNDS}; map"}
+MAPPED = ["dch; map", "one round", "three rounds"]
+# What networks as given are compared with.
+BASELINES = ["map", "dch; map", "three rounds"]
 FRONTS = {"strash": "strash", "if -K 4": "strash; if -K 4; sop"}
 AFTER = ["after " + name for name in [*FRONTS, *MAPPED]]
 
@@ -75,12 +77,12 @@ def measure(room, kept, libraries, sets):
 def summary(found, verdicts):
     print("### Summary\n")
     titles = ["set, library", "circuits"]
-    for name in SCRIPTS:
+    for name in BASELINES:
         titles += [f"to {name}: delay", "lower/equal/higher", "area"]
     head(*titles)
     for (folder, library), figures in found.items():
         cells = [f"{folder}, {library}", f"{sum('given' in f for f in figures.values())} of {len(figures)}"]
-        for name in SCRIPTS:
+        for name in BASELINES:
             delay, _, order = ratio(figures, "given", name)
             cells += [delay, order, ratio(figures, "given area", name + " area", 2)[0]]
         row(*cells)
@@ -107,7 +109,7 @@ def after(found):
 def front_ends(found):
     print("### Front ends\n")
     columns = ["given", *AFTER, *MAPPED]
-    head("set, library", "circuits in common", *columns[:-2], *["ABC: " + name for name in MAPPED])
+    head("set, library", "circuits in common", *columns[:-len(MAPPED)], *["ABC: " + name for name in MAPPED])
     for (folder, library), figures in found.items():
         among = common(figures, ["map", *columns])
         row(f"{folder}, {library}", len(among), *[ratio(figures, name, "map", 3, among)[0] + ", " +
@@ -136,7 +138,7 @@ def circuits(found):
         print(f"### Circuits of {folder} with {library}\n")
         titles = ["circuit"]
         for name in ("`lwmap`", "`map`"):
-            titles += [f"{name}: delay", "area", "median ms", "range", "MB"]
+            titles += [f"{name}: delay", "area", "median ms", "least", "most", "MB"]
         for name in ("`dch; map`", "three rounds", "`lwmap` after them"):
             titles += [f"{name}: delay", "area"]
         head(*titles)
@@ -144,17 +146,15 @@ def circuits(found):
             cells = [circuit]
             for name in ("given", "map"):
                 cells += [plain(f.get(name)), plain(f.get(name + " area")), *spread(f.get(name + " s")), f"{f.get(name + ' MB', 0):.0f}"]
-            for name in (*MAPPED, "after three rounds"):
+            for name in (*BASELINES[1:], "after three rounds"):
                 cells += [plain(f.get(name)), plain(f.get(name + " area"))]
             row(*cells)
         print()
 
 
 def spread(seconds):
-    """Median and range in milliseconds."""
-    if not seconds:
-        return "-", "-"
-    return f"{1000 * statistics.median(seconds):.1f}", f"{1000 * seconds[0]:.1f} to {1000 * seconds[-1]:.1f}"
+    """Median, least and most in milliseconds."""
+    return [f"{1000 * number:.1f}" for number in (statistics.median(seconds), seconds[0], seconds[-1])] if seconds else ["-"] * 3
 
 
 def with_all(found):

@@ -1,4 +1,4 @@
-"""The parts of bench/all.sh besides mapping for delay: deadlines, tables, options, certificates, size, loads, texts."""
+"""The parts of bench/all.sh besides mapping for delay: deadlines, tables, options, certificates, size, other libraries, loads, texts."""
 import math
 import os
 import re
@@ -210,6 +210,44 @@ def sizes(room, kept, library):
     print()
 
 
+# Other libraries
+
+OTHERS = {"GateMate": "/usr/share/yosys/gatemate/lut_tree_cells.genlib"}
+KINDS = {"as given": "map", "after three rounds": "three rounds"}
+
+
+def both_mapped(room, library, network, script):
+    """Delay and area of ABC's netlist after a script that ends in 'map', and of ours, of the network as given or of ABC's netlist; our run."""
+    front = room.path("front.blif")
+    _, theirs = room.mapped_by_abc(library, network, script, f"{UNMAP}; write_blif {front}")
+    run, ours = room.mapped(library, network if script == SCRIPTS["map"] else front, "map")
+    return theirs, ours, run
+
+
+def other_circuit(room, library, network, script):
+    theirs, ours, _ = both_mapped(room, library, network, script)
+    return {**(dict(zip(("abc", "abc area"), theirs)) if theirs else {}), **(dict(zip(("lwmap", "lwmap area"), ours)) if ours else {})}
+
+
+def others(room, kept, circuits):
+    """Libraries of other projects, where they are installed."""
+    print(f"### Other libraries\n\n`lwmap` to ABC's `map` after the same commands. A run may take {HALF} s.\n")
+    head("library", "commands", f"circuits of {len(circuits)}", "delay", "lower/equal/higher", "area")
+    room.limit = HALF
+    for name, path in OTHERS.items():
+        if not os.path.exists(path):
+            row(name, "not installed", "-", "-", "-", "-")
+            continue
+        library = Library(room, name, path)
+        for kind, commands in KINDS.items():
+            figures = {circuit: kept.of("others", name, kind, circuit, make=lambda: other_circuit(room, library, network, SCRIPTS[commands]))
+                       for circuit, network in circuits.items()}
+            delay, number, order = ratio(figures, "lwmap", "abc")
+            row(name, kind, number, delay, order, ratio(figures, "lwmap area", "abc area", 2)[0])
+    room.limit = LIMIT
+    print()
+
+
 # Loads
 
 STEPS = ["raw", "buffered", "sized"]
@@ -230,9 +268,8 @@ def script_to(path, *words):
 
 def loads_circuit(room, library, liberty, network, script):
     """The figures of both mappers, as given or after the commands of a script that ends in 'map'."""
-    f, front = {}, room.path("front.blif")
-    _, theirs = room.mapped_by_abc(library, network, script, f"{UNMAP}; write_blif {front}")
-    run, ours = room.mapped(library, network if script == SCRIPTS["map"] else front, "map")
+    f = {}
+    theirs, ours, run = both_mapped(room, library, network, script)
     if not theirs or not ours:
         return f
     for who, size, path, cells in (("lwmap", ours, run.out, library.path), ("abc", theirs, room.path("abc.blif"), library.peers)):
@@ -256,7 +293,7 @@ def loads(room, kept, circuits):
     library = Library(room, "liberty", room.path("liberty.genlib"))
     head(f"{os.path.basename(liberty)}, {len(circuits)} circuits", "figure", "circuits", "`lwmap` to ABC's `map`", "lower/equal/higher",
          "area")
-    for kind, name in (("as given", "map"), ("after three rounds", "three rounds")):
+    for kind, name in KINDS.items():
         figures = {}
         for circuit, network in circuits.items():
             figures[circuit] = kept.of("loads", kind, circuit, make=lambda: loads_circuit(room, library, room.path("given.lib"), network,

@@ -21,7 +21,7 @@ from lib.script import Fault
 
 ROOT = os.path.join(os.path.dirname(os.path.abspath(__file__)), "..")
 LIBRARIES = ["mcnc", "rich", "tiny"]
-# What the letters behind a circuit's name say of its nodes.
+# What the letters after a circuit's name say of its nodes.
 WIDE = re.compile(r"_(l4|l5|l6|s|f|r)$")
 LEFT, RIGHT, TOP, STEP, WIDTH = 150, 30, 96, 16, 760
 MARKS = [0.7, 0.8, 0.9, 1, 1.1, 1.2, 1.3, 1.4, 1.5]

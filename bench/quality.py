@@ -11,18 +11,17 @@
   -n          measures nothing, and prints the tables of what RAW has
   -t          the small circuits first
 
-Without words the circuits are those of bench/circuits and bench/further. For each library there is a table: for each flow the geometric means of
-delay and area to ABC's 'strash; map' of the circuit as given, the processor seconds of all its circuits, and how many circuits it
-has; 'ABC, best' is by circuit the best of ABC's flows. The means of two flows can be compared if both have all
-circuits; the lines 'on the same circuits' compare each effort of lwflow with ABC's best on the circuits that both have. Netlists
-of lwflow count even if a step was not decided; how many have one is said. One step at a time is run.
+Without words the circuits are those of bench/circuits and bench/further. The first table is that of bench/RESULTS.md: for each library and effort
+the geometric means of delay and area to ABC's 'strash; map', to its 'map' after one round, and by circuit to the best of its flows, over the circuits
+that have all of them; and how many delays are lower, equal and higher. Netlists count even if a step was not decided. Then each library has a
+table of flows: means to 'strash; map', the processor seconds of all circuits of the flow, and how many these are. Two of its
+means can be compared if both have all circuits. One step at a time is run.
 """
 import csv
 import getopt
 import glob
 import hashlib
 import json
-import math
 import os
 import re
 import shutil
@@ -32,9 +31,12 @@ import tempfile
 
 from lib import abc, blif, fronts, genlib, library, program, runs, script, search
 from lib.script import Fault
+from measure import counts, head, mean, said
+from measure import row as print_row
 
 OSU = "/usr/share/qflow/tech/osu035/osu035_stdcells.lib"
 THEIRS = ["map", "dch; map", *(f"{k} round{'s' * (k > 1)}" for k in range(1, 5))]
+BEST = "ABC, best"
 LIMIT = 120
 FIELDS = "library circuit flow delay area seconds status program".split()
 
@@ -88,7 +90,7 @@ def script_of():
 
 
 def seconds_of(log):
-    """What each flow took, from the times of that script: reading counts for each, and a round for all behind it."""
+    """What each flow took, from the times of that script: reading counts for each, and a round for all after it."""
     parts = [float(one) for one in re.findall(r"elapse:\s*([0-9.]+)", abc.said(log))]
     found = [sum(parts[:1] + parts[k:k + 1]) for k in (1, 2)]
     for k in range(1, 5):
@@ -139,48 +141,55 @@ def ours(raw, name, circuit, path, effort):
     raw.add(name, circuit, effort, *figures, found["processor_seconds"], "" if found["status"] == 0 else "undecided")
 
 
-def mean(values):
-    """The geometric mean."""
-    return math.exp(sum(math.log(value) for value in values) / len(values)) if values else None
-
-
 def figures(row):
     """Delay, area and seconds of a raw result, or None."""
     return (float(row["delay"]), float(row["area"]), float(row["seconds"])) if row and row["delay"] and float(row["delay"]) > 0 else None
 
 
-def table(raw, name, efforts):
-    """The table of a library, as lines."""
-    circuits = sorted({circuit for lib, circuit, _ in raw.rows if lib == name})
-    flows = {flow: {} for flow in ["ABC, " + flow for flow in THEIRS] + efforts}
-    for circuit in circuits:
-        for flow, row in flows.items():
-            found = figures(raw.rows.get((name, circuit, flow)))
-            if found:
-                row[circuit] = found
-    best = {}
-    for circuit in circuits:
+def flows_of(raw, name, efforts):
+    """By flow the figures of each circuit of a library. 'ABC, best' takes by circuit the least of ABC's, and the seconds of all of them."""
+    flows = {flow: {} for flow in [*("ABC, " + flow for flow in THEIRS), BEST, *efforts]}
+    for (library_name, circuit, flow), found in raw.rows.items():
+        if library_name == name and flow in flows and figures(found):
+            flows[flow][circuit] = figures(found)
+    for circuit in {circuit for flow in THEIRS for circuit in flows["ABC, " + flow]}:
         known = [flows["ABC, " + flow][circuit] for flow in THEIRS if circuit in flows["ABC, " + flow]]
-        if known:
-            best[circuit] = (*min(one[:2] for one in known), sum(one[2] for one in known))
-    base = flows["ABC, map"]
-    lines = [f"| {name} | delay | area | s | circuits |", "|---|---|---|---|---|"]
-    for flow, row in [*list(flows.items())[:len(THEIRS)], ("ABC, best", best), *list(flows.items())[len(THEIRS):]]:
-        both = [circuit for circuit in row if circuit in base]
-        ratios = [mean([row[c][k] / base[c][k] for c in both if base[c][k] > 0 and row[c][k] > 0]) for k in (0, 1)]
+        flows[BEST][circuit] = (*min(one[:2] for one in known), sum(one[2] for one in known))
+    return flows
+
+
+def to(one, other, circuits):
+    """The mean ratios of delay and area between two flows, and how many delays are lower, equal, higher."""
+    ratios = [said(mean([one[c][k] / other[c][k] for c in circuits if one[c][k] > 0 and other[c][k] > 0]), digits) for k, digits in ((0, 3), (1, 2))]
+    return ", ".join(ratios), counts([(one[c][0], other[c][0]) for c in circuits])
+
+
+def kept(raw, names, efforts):
+    """Prints what lwflow keeps, beside ABC's flows."""
+    head("library", "effort", "circuits", "to `map`: delay, area", "to one round", "lower/equal/higher", "to ABC's best", "lower/equal/higher",
+         "s of all", "longest s", "not decided")
+    for name in names:
+        flows = flows_of(raw, name, efforts)
+        base, once, best = (flows[flow] for flow in ("ABC, map", "ABC, 1 round", BEST))
+        for effort in efforts:
+            ours, seconds = flows[effort], [found[2] for found in flows[effort].values()]
+            both = sorted(set(ours) & set(base) & set(once))
+            if both:
+                undecided = sum(raw.rows[name, c, effort]["status"] == "undecided" for c in ours)
+                print_row(name, f"`{effort}`", len(both), to(ours, base, both)[0], *to(ours, once, both), *to(ours, best, both), f"{sum(seconds):.0f}",
+                          f"{max(seconds):.0f}", undecided)
+    print()
+
+
+def table(raw, name, efforts):
+    """Prints the flows of a library."""
+    flows = flows_of(raw, name, efforts)
+    head(name, "delay, area", "s", "circuits")
+    for flow, found in flows.items():
+        both = sorted(set(found) & set(flows["ABC, map"]))
         if both:
-            lines.append(f"| {flow} | {ratios[0]:.3f} | {ratios[1]:.3f} | {sum(row[c][2] for c in both):.0f} | {len(both)} |")
-    for effort in efforts:
-        both = [circuit for circuit in flows[effort] if circuit in best]
-        if both:
-            ratio = [mean([flows[effort][c][k] / best[c][k] for c in both]) for k in (0, 1)]
-            earlier = sum(flows[effort][c][0] < best[c][0] for c in both)
-            later = sum(flows[effort][c][0] > best[c][0] for c in both)
-            longest = max(flows[effort][c][2] for c in both)
-            open_ = sum(raw.rows[name, c, effort]["status"] == "undecided" for c in both)
-            lines.append(f"\n{effort} to ABC's best on the same {len(both)} circuits: delay {ratio[0]:.3f}, area {ratio[1]:.3f}; earlier in {earlier}, "
-                         f"later in {later}; at most {longest:.0f} s; {open_} with a step that was not decided")
-    return lines
+            print_row(flow, to(found, flows["ABC, map"], both)[0], f"{sum(found[c][2] for c in both):.0f}", len(both))
+    print()
 
 
 def circuits_of(words):
@@ -209,8 +218,9 @@ def main(words):
                     ours(raw, name, circuit, circuits[circuit], effort)
             print(f"quality: {circuit}", file=sys.stderr, flush=True)
     print(f"lwmap of SHA-256 {raw.program}\n")
+    kept(raw, names, efforts)
     for name in names:
-        print("\n".join(table(raw, name, efforts)) + "\n")
+        table(raw, name, efforts)
 
 
 if __name__ == "__main__":

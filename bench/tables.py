@@ -3,7 +3,7 @@
 
   tables.py NETWORK
 
-NETWORK is BLIF of '.names' and '.latch', as 'lwmap lut' writes it, or ABC behind 'if'. A wire is a node of one fan-in whose one
+NETWORK is BLIF of '.names' and '.latch', as 'lwmap lut' writes it, or ABC after 'if'. A wire is a node of one fan-in whose one
 row is '1 1'; every other node is a table. The depth is the number of tables on the longest path. Inputs and what latches give
 have the depth 0, and wires add nothing.
 """

@@ -25,7 +25,7 @@ cd "$room"
 # shellcheck source=bench/least.sh
 . "$root/bench/least.sh"
 
-# Copies of a mapped netlist; the number behind each name has as many digits in all of them.
+# Copies of a mapped netlist; the number after each name has as many digits in all of them.
 copies() { # NUMBER MAPPED
     awk -v n="$1" '
         $1 == ".inputs" || $1 == ".outputs" { for (k = 2; k <= NF; k++) port[$1, ++ports[$1]] = $k; next }
@@ -119,6 +119,6 @@ extreme 'the same, and one list of inputs' 0
 stretched '' '(' ''
 extreme 'brackets that are not closed' 10
 stretched 'module m ' '(' ''
-extreme 'the same behind a module and its name' 10
+extreme 'the same after a module and its name' 10
 stretched '' '(*' ''
 extreme 'brackets of attributes that are not closed' 10

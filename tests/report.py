@@ -72,7 +72,7 @@ def main(words):
     best = min(report["netlists"], key=lambda one: (one["delay"], one["area"]))
     same("the kept one", (report["kept"]["delay"], report["kept"]["area"]), (best["delay"], best["area"]))
     text = re.sub(r"<[^>]+>", "", page)
-    for said in [f"Kept: {report['kept']['by']}, {report['kept']['behind']}.", f"Delay {report['kept']['delay']:g}, area {report['kept']['area']:g}, {len(gates)} gates",
+    for said in [f"Kept: {report['kept']['by']}, {report['kept']['front']}.", f"Delay {report['kept']['delay']:g}, area {report['kept']['area']:g}, {len(gates)} gates",
                  f"all {len(report['steps'])} steps"] + [one["net"] for one in report["path"]]:
         if said not in text:
             wrong.append(f"the page does not say: {said}")

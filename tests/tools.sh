@@ -111,6 +111,17 @@ good "a page without the table"
 python3 docs/pictures/means.py README.md "$room/means.svg" && cmp -s "$room/means.svg" docs/pictures/means.svg
 good "docs/pictures/means.svg is what its script draws of README.md"
 
+python3 - <<'END'
+import csv, glob, sys
+from tools.lib import blif
+with open("bench/circuits.csv", encoding="ascii", newline="") as file:
+    rows = {f"bench/{row['set']}/{row['circuit']}.blif": [int(row[name]) for name in ("inputs", "outputs", "nodes")] for row in csv.DictReader(file)}
+files = glob.glob("bench/circuits/*.blif") + glob.glob("bench/further/*.blif")
+ports = {file: blif.ports_of(file) for file in files}
+sys.exit(rows != {file: [len(one.inputs), len(one.outputs), sum(words[0] == ".names" for words in one.rest)] for file, one in ports.items()})
+END
+good "bench/circuits.csv has each circuit with its counts"
+
 # The second program in the place of the built one.
 # shellcheck disable=SC2016
 printf '#!/bin/sh\ncase $1 in trade) part=_trade ;; *) part= ;; esac\nexec python3 "%s/tests/reference$part.py" "$@"\n' "$root" >"$room/program"

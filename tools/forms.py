@@ -34,7 +34,7 @@ INNER = 3
 
 @functools.lru_cache(None)
 def key(tree):
-    """The trees of NANDs behind a form: a sum is a product under complements, and the order of operands is nothing."""
+    """The trees of NANDs of a form: a sum is a product under complements, and the order of operands is nothing."""
     if isinstance(tree, str):
         return (False, tree)
     if tree[0] == "!":

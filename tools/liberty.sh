@@ -15,7 +15,7 @@
 # makes it: the mean of rise and fall delay, in picoseconds, at that slew and that load, on a straight line over loads.
 # Of all cells of one function ABC keeps one, and its delays are the mean over these cells, which is why pads and buffers for
 # clocks are left out: by their names, or by pad_cell. So a netlist's delay is that of gates that each drive GAIN percent of their own input, as if
-# sizes were chosen behind the mapper. It is no timing of a chip: wires, loads and slews as they turn out are not in it.
+# sizes were chosen after the mapper. It is no timing of a chip: wires, loads and slews as they turn out are not in it.
 #
 # Products and sums are written by * and +, an exclusive or as a sum of products. ABC adds _const0_ and _const1_, which are
 # no cells of the library. Cells left out are named on standard error, with the reason. Areas from 1000000 are divided by

@@ -114,7 +114,7 @@ def marks(values):
 
 
 def folds(name):
-    """A name that a line may end in, behind its dots and strokes."""
+    """A name that a line may end in, after its dots and strokes."""
     return page.text(name).replace(".", ".<wbr>").replace("/", "/<wbr>")
 
 

@@ -114,7 +114,7 @@ class Flow:
         raise Fault("no netlist that was found is shown right: " + "; ".join(self.work.lost))
 
     def write(self):
-        """mapped.blif, cells.v and mapped.v in the room, and the steps behind the mapper."""
+        """mapped.blif, cells.v and mapped.v in the room, and the steps after the mapper."""
         netlist = self.best
         shutil.copyfile(self.path(getattr(netlist, "certified", None) or netlist.file), self.path("mapped.blif"))
         final, cells = "mapped.blif", self.library.cells

@@ -1,4 +1,4 @@
-"""Front ends and mappers of ABC by name, as scripts that stand behind its read_blif. Those whose names end in map ask for a
+"""Front ends and mappers of ABC by name, as scripts that come after its read_blif. Those whose names end in map ask for a
 library that ABC has read."""
 
 ROUND = "if -g -K 6; strash; dch"

@@ -73,7 +73,7 @@ def parse_genlib(words):
 
 
 def function_at(words, i):
-    """The text up to the next semicolon, and the place behind it."""
+    """The text up to the next semicolon, and the place after it."""
     text = ""
     while ";" not in words[i]:
         text += words[i] + " "
@@ -87,7 +87,7 @@ def function_at(words, i):
 
 
 def pins_at(words, i):
-    """Delay and phase of each pin whose line stands here, and the place behind these lines."""
+    """Delay and phase of each pin whose line stands here, and the place after these lines."""
     own = {}
     while i < len(words) and words[i] == "PIN":
         own[words[i + 1]] = (max(micro(words[i + 5]), micro(words[i + 7])), words[i + 2])

@@ -52,13 +52,13 @@ class Writer:
             self.buffer(net, out)
 
     def source(self, net):
-        """The net behind wires that a gate reads; it need not read the copy."""
+        """The net before the wires that a gate reads; it need not read the copy."""
         for _ in self.mapped.wires:
             net = self.mapped.wires.get(net, net)
         return net
 
     def latch(self, words):
-        """A latch whose input is an input, or what a latch gives, reads it behind gates: there too ABC ends in a crash."""
+        """A latch whose input is an input, or what a latch gives, reads it after gates: there too ABC ends in a crash."""
         net = words[1]
         if net in self.mapped.gates or net in self.mapped.wires:
             return words

@@ -67,7 +67,7 @@ def text(said):
 
 def name_of(one):
     """Who made a netlist, and after which commands."""
-    return f"{one['by']}, {one['behind']}"
+    return f"{one['by']}, {one['front']}"
 
 
 def head(title):
@@ -150,11 +150,11 @@ def heads_of(loads):
     return ["@netlist"] + (["#sized delay, ps", "#sized area"] if loads else []) + ["#delay", "#area", "#gates"]
 
 
-def behind(found):
+def commands(found):
     """What the names of the commands before the mappers mean, of those that occur."""
     meaning = [("as given", "the design without any command of ABC"), ("if4", fronts.FRONTS["if4"]), ("dch+map", f"{fronts.FRONTS['dch+map']}"),
                ("round", fronts.ROUND), ("loop", "a netlist of this search as a network again")]
-    names = " ".join(one["behind"] for one in found["netlists"])
+    names = " ".join(one["front"] for one in found["netlists"])
     said = [f"<b>{text(name)}</b> is {f'<code>{text(what)}</code>' if ';' in what else text(what)}" for name, what in meaning if name in names]
     return f'<p class="soft">After the comma stands what ABC did before the mapper: {"; ".join(said)}.</p>'
 
@@ -172,7 +172,7 @@ def tries(found):
     parts = [f'<h2 id="tries">Every try</h2><p>A filled circle is a netlist of lwmap, a square one of ABC\'s map after the same commands. {judge} '
              "Left and low is better.</p><figure>",
              both(pictures.tries, found), "</figure>",
-             table(heads_of(loads), rows_of_netlists(found["netlists"], loads), "Best first; the kept one is marked", kept), behind(found)]
+             table(heads_of(loads), rows_of_netlists(found["netlists"], loads), "Best first; the kept one is marked", kept), commands(found)]
     return "".join(parts)
 
 
@@ -247,7 +247,7 @@ WORDS = {"equal": ("shown", "shown"), "undecided": ("not", "not decided"), "diff
 
 
 def listed(several):
-    """Things in a row, the last one behind an 'and'."""
+    """Things in a row, the last one after an 'and'."""
     return " and ".join([", ".join(several[:-1])] * (len(several) > 1) + several[-1:])
 
 

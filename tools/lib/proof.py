@@ -48,7 +48,7 @@ class Prover:
         return self.known[one, other]
 
     def steps(self, netlist):
-        """The steps behind a netlist, from the design on."""
+        """The steps to a netlist, from the design on."""
         last = netlist.network
         chain = []
         while last.parent is not None:
@@ -63,7 +63,7 @@ class Prover:
         return found
 
     def link(self, one, other):
-        what = f"{one.said} to {other.said}" if one.said != other.said else other.said
+        what = f"{one.name} to {other.name}"
         verdict, why = self.cec(one.file, other.file)
         if verdict == "undecided" and one.file != "cut.blif" and self.cec("cut.blif", other.file)[0] == "equal":
             verdict, why = "equal", ""

@@ -100,7 +100,7 @@ class Module:
 
 
 class Logic:
-    """The nodes of a BLIF for one module: nets are numbers behind a letter. A net that an x of the module may reach has a second
+    """The nodes of a BLIF for one module: nets are numbers after a letter. A net that an x of the module may reach has a second
     rail, which says where it is x; what is read there by the first rail is of no meaning."""
 
     def __init__(self, module, letter, sources):

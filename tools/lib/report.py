@@ -7,7 +7,7 @@ OF_VERDICTS = {"equal": "shown", "undecided": "NOT DECIDED", "different": "DIFFE
 
 def row(netlist, by_loads):
     """A netlist as data."""
-    found = {"by": netlist.by, "behind": netlist.where, "delay": float(genlib.show(netlist.delay)), "area": float(genlib.show(netlist.area)),
+    found = {"by": netlist.by, "front": netlist.where, "delay": float(genlib.show(netlist.delay)), "area": float(genlib.show(netlist.area)),
              "gates": netlist.gates}
     if by_loads:
         found.update(sized_delay=netlist.sized[0], sized_area=netlist.sized[1])
@@ -48,7 +48,7 @@ def line(name, one, loads):
     cells = [figure(one["delay"]), figure(one["area"]), str(one["gates"])]
     if loads:
         cells += [figure(one["sized_delay"]), figure(one["sized_area"])]
-    return f"  {name:<14}" + "".join(f"{cell:>13}" for cell in cells) + f"   {one['by']}, {one['behind']}\n"
+    return f"  {name:<14}" + "".join(f"{cell:>13}" for cell in cells) + f"   {one['by']}, {one['front']}\n"
 
 
 def text(found):

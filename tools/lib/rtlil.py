@@ -135,7 +135,7 @@ def around(path, module):
 
 
 def sets_before_resets(text):
-    """The signals of a text of RTLIL behind proc_arst that an asynchronous rule sets, or gives a value that is no constant,
+    """The signals of a text of RTLIL after proc_arst that an asynchronous rule sets, or gives a value that is no constant,
     before another asynchronous rule."""
     found = []
     for process in re.findall(r"^  process .*?^  end$", text, re.M | re.S):

@@ -29,7 +29,7 @@ class Drawing:
     # Which place is in which column
 
     def levels(self):
-        """The column of each gate: behind all that it reads."""
+        """The column of each gate: after all that it reads."""
         level = {}
         for gate in self.netlist["gates"]:
             self.level_of(gate["net"], level)

@@ -1,4 +1,4 @@
-"""The search for the best netlist of a network of logic: front ends by ABC, lwmap behind each, and ABC's own mapper beside it.
+"""The search for the best netlist of a network of logic: front ends by ABC, lwmap after each, and ABC's own mapper beside it.
 
 A network (Network) is a file in the room, with the one that it was made from and how: by ABC, which cec has to confirm, or by
 lwmap, whose netlists are equivalent to what it read by theorem. All of them are without latches. What is mapped and timed has
@@ -25,14 +25,15 @@ TOO_LARGE = (f"the network has more than {SIGNALS} signals, the most that lwmap 
 
 
 class Network:
-    """A network of logic: its file, what is said of it, and what it was made from."""
+    """A network of logic: its file, what is said of it, what it was made from, and its name as a side of a comparison."""
 
-    def __init__(self, file, said, parent=None, how="abc"):
+    def __init__(self, file, said, parent=None, how="abc", kind="network"):
         self.file, self.said, self.parent, self.how = file, said, parent, how
+        self.name = f"{kind} {said}"
 
 
 class Netlist:
-    """A netlist of cells: its file with latches, the network that it covers, who made it (by) and behind what (where), the
+    """A netlist of cells: its file with latches, the network that it covers, who made it (by) and after what (where), the
     width if it is ours, and its figures in millionths. If loads count, sized has delay, area and file of the sized one."""
 
     def __init__(self, file, network, by, where, width, figures):
@@ -112,7 +113,7 @@ class Work:
 
 
 def cheap_script(names):
-    """ABC's commands for the fronts of some names, and its own netlists behind each: the files and the commands."""
+    """ABC's commands for the fronts of some names, and its own netlists after each: the files and the commands."""
     commands = ["read_genlib padded.genlib", "read_blif cut.blif", "strash", "backup", "map", "write_blif abc.given.blif"]
     for name in names:
         front = fronts.FRONTS[name].removeprefix("strash; ")
@@ -140,7 +141,7 @@ def cheap_fronts(work, base):
     leaves them out for a large network: a round is nearly always better."""
     names = () if work.quick else work.effort.fronts
     ended = abc.call(cheap_script(names), work.room, "fronts.log", work.search)
-    made = [Network(f"{name}.blif", f"behind {name}", base) for name in names if abc.whole(work.path(f"{name}.blif"))]
+    made = [Network(f"{name}.blif", f"after {name}", base) for name in names if abc.whole(work.path(f"{name}.blif"))]
     if len(made) < len(names):
         work.lose("front ends", ended, work.search)
     found = [("abc.given.blif", base, GIVEN)] + [(f"abc.{one.file}", base if "+map" in one.file else one, one.said) for one in made]
@@ -148,7 +149,7 @@ def cheap_fronts(work, base):
 
 
 def rounds(work, base):
-    """The same behind rounds of restructuring. Of several each is a step of its own, which cec decides more easily."""
+    """The same after rounds of restructuring. Of several each is a step of its own, which cec decides more easily."""
     count = work.effort.rounds
     ended = abc.call(rounds_script(count, fronts.QUICK if work.quick else fronts.ROUND), work.room, "rounds.log", work.search)
     made, netlists, before = [], [], base
@@ -157,15 +158,15 @@ def rounds(work, base):
             work.lose(f"round {k}", ended, work.search)
             break
         if count > 1:
-            before = Network(f"s{k}.blif", f"{k} round{'s' * (k > 1)}, nodes of two inputs", before)
-        one = Network(f"round{k}.blif", f"behind {k} round{'s' * (k > 1)}", before)
+            before = Network(f"s{k}.blif", f"of two-input nodes after {k} round{'s' * (k > 1)}", before)
+        one = Network(f"round{k}.blif", f"after {k} round{'s' * (k > 1)}", before)
         made.append(one)
         netlists.append((f"abc.round{k}.blif", before, one.said))
     return made, netlists
 
 
 def fronts_of(work, base):
-    """All networks and ABC's netlists behind them. Without nodes there is nothing to restructure, and ABC ends in an assertion."""
+    """All networks and ABC's netlists after them. Without nodes there is nothing to restructure, and ABC ends in an assertion."""
     if not work.size:
         work.told("no nodes")
         return [], []
@@ -175,7 +176,7 @@ def fronts_of(work, base):
 
 
 def again(work, netlist, turn):
-    """A netlist as a network once more, behind choices and a mapping by ABC: the network, or None; and ABC's netlist."""
+    """A netlist as a network once more, after choices and a mapping by ABC: the network, or None; and ABC's netlist."""
     plain = plain_of(work, netlist, f"plain{turn}.blif")
     log = f"loop{turn}.log"
     ended = abc.call(f"read_genlib padded.genlib; read_blif {plain.file}; strash; dch; map; write_blif abc.loop{turn}.blif; unmap; sop; "
@@ -183,7 +184,7 @@ def again(work, netlist, turn):
     if not abc.whole(work.path(f"loop{turn}.blif")):
         work.lose(f"turn {turn} of the loop", ended, work.search)
         return None, None
-    said = f"turn {turn} of the loop"
+    said = f"after turn {turn} of the loop"
     return Network(f"loop{turn}.blif", said, plain), (f"abc.loop{turn}.blif", plain, said)
 
 
@@ -192,7 +193,7 @@ def plain_of(work, netlist, file):
     cells = work.library.cells
     path = work.path(work.write("plain." + file, timing.unmap(cells, work.path(netlist.file))))
     work.write(file, blif.cut(path))
-    return Network(file, netlist.said(), netlist.network, "theorem" if netlist.ours() else "abc")
+    return Network(file, netlist.said(), netlist.network, "theorem" if netlist.ours() else "abc", "netlist of")
 
 
 # Netlists
@@ -243,7 +244,7 @@ def widest(path):
 
 
 def theirs(work, found):
-    """ABC's netlist behind a network, with wires where ABC was given a cell for them; None where it has a cell that the
+    """ABC's netlist of a network, with wires where ABC was given a cell for them; None where it has a cell that the
     library has not."""
     (file, network, where), lines, cells = found, [], work.library.cells
     for words in blif.lines(work.path(file)):
@@ -316,7 +317,7 @@ def deadline(work, area):
 
 
 def trade(work, area):
-    """With a deadline later than the least delay: the netlist of lwmap trade behind the best front, where it comes to an end."""
+    """With a deadline later than the least delay: the netlist of lwmap trade after the best front, if it ends."""
     latest = deadline(work, area)
     ours = [one for one in work.netlists if one.ours()]
     if latest is None or work.loads or not ours or work.size > 5000:

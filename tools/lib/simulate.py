@@ -2,7 +2,7 @@
 Verilog that is not Yosys.
 
 A register with both a set and a reset that do not wait for the clock, or with an asynchronous load, follows levels in a netlist,
-and only edges in Verilog; where there is one, the sides are compared behind both edges of each clock alone.
+and only edges in Verilog; where there is one, the sides are compared after both edges of each clock alone.
 
 Both sides begin with equal registers: known first values as they are, all others at 0, or at what the netlist has made of
 them. Inputs change one at a time where an edge may hang on them, so that no order of events is a matter of chance. A bit counts

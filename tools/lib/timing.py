@@ -153,7 +153,7 @@ class Timing:
 
     def tree_area(self):
         """The sum over the outputs of the areas of their covers, in which each use of a shared part counts. (Gates stand in
-        'at' behind what they read.)"""
+        'at' after what they read.)"""
         areas = {}
         for net in self.at:
             if net in self.gates:
@@ -164,7 +164,7 @@ class Timing:
         return sum(areas[o] for o in self.outputs)
 
     def root(self, net):
-        """What drives a net, behind wires."""
+        """What drives a net, before its wires."""
         while net in self.wires:
             net = self.wires[net]
         return net

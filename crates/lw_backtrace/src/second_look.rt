@@ -22,8 +22,9 @@ pub(crate) fn is_cut(curves: &Curves, class: ClassId, time: u64) -> bool
     points[place].area >= MOST_AREA
 }
 
-/// Whether what a walk has found is right: there are no more gates than points, each is that of a
-/// point of its own, has its cell and the nets of its pins, and is used; and so have the roots.
+/// Whether what a walk has found is right. There are no more gates than points, and each is that of
+/// a point of its own, has its cell and the nets of its pins, and is used. The roots have their
+/// nets.
 pub(crate) fn is_right(plan: &Plan, trail: &Trail) -> bool
     ensures { IsTrue result → IsRightWalk plan.now trail.now }
 {
@@ -38,7 +39,7 @@ pub(crate) fn is_right(plan: &Plan, trail: &Trail) -> bool
     are_roots(plan, trail, &trail.walk.nets)
 }
 
-// Whether a node is an exact one at a place, or for a shared use any one there or before.
+// Whether a node is an exact one at a place, or for a shared use any one at this place or before.
 fn is_at(node: Node, exact: bool, place: usize) -> bool
     ensures { IsTrue result → IsNodeFor node exact place }
 {
@@ -50,7 +51,8 @@ fn is_at(node: Node, exact: bool, place: usize) -> bool
     }
 }
 
-// Whether the node with a number is one for what is wanted, whose last point has a place.
+// Whether the gate with a number is of a node for what is wanted. `place` is that of the last point
+// of the class by the time.
 fn is_node_by(trail: &Trail, want: Want, place: usize, number: usize) -> bool
     ensures { IsTrue result →
         IsNodeBy trail.now.nodes.items want.exact want.class.0 place number }
@@ -62,8 +64,8 @@ fn is_node_by(trail: &Trail, want: Want, place: usize, number: usize) -> bool
     node.class.0 == want.class.0 && is_at(node, want.exact, place)
 }
 
-// Whether the net is that of a point of a class by a time, with a delay: for an exact use that of
-// the last one.
+// Whether a net is that of a point of the class that is wanted, by its time less the delay: for an
+// exact use that of the last one.
 fn is_net(plan: &Plan, trail: &Trail, want: Want, net: u32) -> bool
     ensures { IsTrue result → IsNetBy plan.now trail.now want net }
 {
@@ -89,7 +91,7 @@ fn is_root(plan: &Plan, trail: &Trail, root: ClassId, time: Micro, net: u32) -> 
     is_cut(plan.curves, root, time.0) && is_net(plan, trail, root_want(root, time, false), net)
 }
 
-// Whether the nets of roots are right, each by its time.
+// Whether the nets of the roots are right, each by its time.
 fn are_roots(plan: &Plan, trail: &Trail, nets: &[u32]) -> bool
     ensures { IsTrue result → AreRootsRight plan.now trail.now nets.now }
 {
@@ -104,7 +106,7 @@ fn are_roots(plan: &Plan, trail: &Trail, nets: &[u32]) -> bool
     true
 }
 
-// Whether the nets of pins are right.
+// Whether the nets of the pins of a cell are right, each for what the pin asks for.
 fn are_pins(plan: &Plan, trail: &Trail, demand: &Demand, nets: &[u32]) -> bool
     ensures { IsTrue result → ArePinsRight plan.now trail.now demand.now nets.now }
 {
@@ -129,14 +131,15 @@ fn is_node(plan: &Plan, trail: &Trail, node: Node, cell: CellId, nets: &[u32]) -
     }
 }
 
-// Whether a net is that of the gate with a number.
+// Whether a net is that of the gate with a number, after the nets of `count` inputs.
 fn is_of_gate(count: u32, net: u32, number: usize) -> bool
     ensures { IsTrue result → net ≡ count + number }
 {
     net >= count && (net - count) as usize == number
 }
 
-// Whether the net of the gate with a number is a root's, or that of a pin of an earlier gate.
+// Whether the net of the gate with a number is used as `user` says: by a root, or by a pin of an
+// earlier gate.
 fn is_used(count: u32, pins: &[Numbers], nets: &[u32], user: User, number: usize) -> bool
     ensures { IsTrue result → IsUsedEarlier count pins.now nets.now number }
 {
@@ -152,7 +155,7 @@ fn is_used(count: u32, pins: &[Numbers], nets: &[u32], user: User, number: usize
     place < row.len() && is_of_gate(count, row[place], number)
 }
 
-// Whether the exact gate of a point has a number.
+// Whether the gate with a number is the exact gate of the node's point.
 fn is_owned(owners: &[Vec<u32>], node: Node, number: usize) -> bool
     ensures { IsTrue result → IsOwned owners.now node number }
 {
@@ -168,7 +171,7 @@ fn is_owned(owners: &[Vec<u32>], node: Node, number: usize) -> bool
     true
 }
 
-// Whether the shared gate of a class has a number.
+// Whether the gate with a number is the shared gate of the node's class.
 fn is_spare(spares: &[u32], node: Node, number: usize) -> bool
     ensures { IsTrue result → IsSpare spares.now node number }
 {
@@ -191,7 +194,8 @@ fn is_own(trail: &Trail, node: Node, number: usize) -> bool
     }
 }
 
-// Whether the gate with a number is right.
+// Whether the gate with a number is right: it has its cell and nets, is used, and is the only one
+// of its node.
 fn is_gate(plan: &Plan, trail: &Trail, number: usize) -> bool
     requires { HasNumber trail.now number }
     ensures { IsTrue result → IsGateRight plan.now trail.now number }

@@ -54,7 +54,7 @@ fn ranks_of(alloc: Global, plan: &Plan) -> Result<Vec<Rank>, AllocError> {
     Ok(ranks)
 }
 
-// Whether a class is an input's, or of lower rank than another.
+// Whether a class is an input's, or of lower rank than `rank`.
 fn is_lower(plan: &Plan, class: ClassId, rank: Rank) -> bool {
     match plan.inputs.get(class.0 as usize) {
         None => false,
@@ -66,7 +66,8 @@ fn is_lower(plan: &Plan, class: ClassId, rank: Rank) -> bool {
     }
 }
 
-// Whether each pin of the gate of a point is an input's, or of lower rank than its class.
+// Whether each pin of the gate of a point, of the class with this rank, is an input's or of lower
+// rank. Shared gates make no cycle then.
 fn fits(plan: &Plan, rank: Rank, place: u32) -> bool {
     let Some(Stand::Gate(gate)) = plan.curves.stand(rank.class, place) else {
         return false;
@@ -79,7 +80,8 @@ fn fits(plan: &Plan, rank: Rank, place: u32) -> bool {
     true
 }
 
-// The latest place that is no later than a last one and has an exact gate.
+// The latest place up to `last` whose point has an exact gate. `gates` has the exact gate of each
+// point of a class.
 fn owned_place(gates: &[u32], last: u32) -> Option<u32> {
     for place in (0..gates.len()).rev() {
         if gates[place] != NO_GATE && place <= last as usize {
@@ -89,7 +91,7 @@ fn owned_place(gates: &[u32], last: u32) -> Option<u32> {
     None
 }
 
-// The latest place that is no later than a last one, and whose gate has pins of lower rank only.
+// The latest place up to `last` whose gate has pins of lower rank only.
 fn fitting_place(plan: &Plan, rank: Rank, last: u32) -> Option<u32> {
     if fits(plan, rank, last) {
         return Some(last);
@@ -102,7 +104,7 @@ fn fitting_place(plan: &Plan, rank: Rank, last: u32) -> Option<u32> {
     None
 }
 
-// Notes that a class is needed by a time.
+// Notes that a class is needed by a time: the earliest such time stays.
 fn need(needs: &mut Vec<Option<u64>>, class: ClassId, time: u64) {
     let class = class.0 as usize;
     if class < needs.len() {
@@ -113,7 +115,7 @@ fn need(needs: &mut Vec<Option<u64>>, class: ClassId, time: u64) {
     }
 }
 
-// Notes what the pins of the gate of a point need.
+// Notes by which times the pins of the gate of a point need their classes.
 fn need_pins(plan: &Plan, trail: &mut Trail, class: ClassId, place: u32) -> Result<(), AllocError> {
     let node = Node {
         class,
@@ -137,7 +139,7 @@ fn need_roots(plan: &Plan, trail: &mut Trail) {
 }
 
 // The place of the point that is shared of a class needed by a time: the latest with an exact gate,
-// or else the latest that fits, whose pins are needed then.
+// or else the latest that fits. Then the pins of its gate need their classes.
 fn place_by(plan: &Plan, trail: &mut Trail, rank: Rank, time: u64) -> Result<u32, AllocError> {
     let last = to_u32(plan.curves.last_by(rank.class, 0, time).ok_or(AllocError)?)?;
     let gates = trail.owners.get(rank.class.0 as usize).ok_or(AllocError)?;

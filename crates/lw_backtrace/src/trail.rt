@@ -62,7 +62,7 @@ pub(crate) const NO_GATE: u32 = u32::MAX;
 /// How many gates there are at most.
 pub(crate) const MOST_GATES: usize = 8_000_000;
 
-/// Nothing is found yet.
+/// Nothing is found yet: no class or point has a gate, and no class is needed.
 pub(crate) fn no_trail(alloc: Global, plan: &Plan, sharing: bool) -> Result<Trail, AllocError> {
     Ok(Trail {
         nodes: Vec::new(alloc),
@@ -76,7 +76,8 @@ pub(crate) fn no_trail(alloc: Global, plan: &Plan, sharing: bool) -> Result<Trai
     })
 }
 
-/// The gate of a point, which a user is the first to use where it has none.
+/// The number of the gate of a node. If it has none yet, it becomes the next gate, and `user` is
+/// the first to use it.
 pub(crate) fn gate_at(trail: &mut Trail, node: Node, user: User) -> Result<u32, AllocError> {
     let gate = gate_of_node(trail, node).ok_or(AllocError)?;
     if gate != NO_GATE {
@@ -98,7 +99,7 @@ fn no_walk(alloc: Global) -> Walk {
     }
 }
 
-// No gate for each point of each class.
+// `NO_GATE` for each point of each class.
 fn no_owners(alloc: Global, plan: &Plan) -> Result<Vec<Vec<u32>>, AllocError> {
     let mut owners = Vec::with_capacity(alloc, plan.inputs.len())?;
     for class in 0..plan.inputs.len() {
@@ -108,7 +109,8 @@ fn no_owners(alloc: Global, plan: &Plan) -> Result<Vec<Vec<u32>>, AllocError> {
     Ok(owners)
 }
 
-// The gate of a point, if it has one: for a shared use its exact gate, or the class's shared one.
+// The gate of a node: for a shared use the exact gate of its point, or else the class's shared one.
+// `NO_GATE` stands for no gate yet, and none for a point that is not there.
 fn gate_of_node(trail: &Trail, node: Node) -> Option<u32> {
     let row = trail.owners.get(node.class.0 as usize)?;
     let own = *row.get(node.place as usize)?;
@@ -118,7 +120,7 @@ fn gate_of_node(trail: &Trail, node: Node) -> Option<u32> {
     Some(*trail.spares.get(node.class.0 as usize)?)
 }
 
-// Notes the gate of a point.
+// Notes the gate of a node, as exact for its point or as shared for its class.
 fn note_gate(trail: &mut Trail, node: Node, gate: u32) {
     let (class, place) = (node.class.0 as usize, node.place as usize);
     if !node.exact {

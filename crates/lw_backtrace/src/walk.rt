@@ -14,11 +14,11 @@ use lw_graph::Graph;
 use lw_pool::{ClassId, Numbers};
 use std::alloc::{AllocError, Global};
 
-/// Walks from the roots down: each root takes the last point of its class by its time, and each
-/// pin of the gate of a point the last point of the pin's class by the point's time, less the
-/// delay of the pin. But a root whose last point has the cut area 2^62 takes any point that comes
-/// by its time, and shares gates. Where that fails, a walk in which no root does so is tried. Where
-/// that fails too, the answer is that memory is out.
+/// Walks from the roots down. Each root takes the last point of its class by its time. Each pin of
+/// the gate of a point takes the last point of the pin's class by the point's time, less the delay
+/// of the pin. But a root whose last point has the cut area 2^62 takes any point that comes by its
+/// time, and shares gates. Where that fails, a walk in which no root does so is tried. Where that
+/// fails too, the answer is that memory is out.
 pub fn walk_down(
     alloc: Global,
     graph: &Graph,
@@ -40,7 +40,7 @@ pub fn walk_down(
     walk_either(alloc, &plan)
 }
 
-// The input of each class.
+// The input of each class, none where it has no input.
 fn inputs_of(alloc: Global, graph: &Graph) -> Result<Vec<Option<u32>>, AllocError>
     ensures { IfOk result (λ inputs. AreInputsTo graph.now (length graph.now.leaves) inputs.items) }
 {
@@ -51,8 +51,8 @@ fn inputs_of(alloc: Global, graph: &Graph) -> Result<Vec<Option<u32>>, AllocErro
     Ok(inputs)
 }
 
-// The place of the point that is wanted: of the last one by the time, or for a shared use of that
-// of its class.
+// The place of the point that is wanted: of the last one by the time, or for a shared use of the
+// one that `share` chose for the class.
 fn place_for(plan: &Plan, trail: &Trail, want: Want) -> Option<u32> {
     if !want.exact {
         return Some(*trail.places.get(want.class.0 as usize)?);
@@ -61,7 +61,7 @@ fn place_for(plan: &Plan, trail: &Trail, want: Want) -> Option<u32> {
     u32::try_from(last).ok()
 }
 
-// The point that is wanted.
+// The point that is wanted, as a node; none if the class has no point by the time.
 fn node_for(plan: &Plan, trail: &Trail, want: Want) -> Option<Node> {
     Some(Node {
         class: want.class,
@@ -70,7 +70,8 @@ fn node_for(plan: &Plan, trail: &Trail, want: Want) -> Option<Node> {
     })
 }
 
-// The net that is wanted: that of the input of the class, or of a point's gate.
+// The net that is wanted: that of the input of the class, or of a point's gate, which `user` may be
+// the first to use.
 fn net_for(plan: &Plan, trail: &mut Trail, want: Want, user: User) -> Result<u32, AllocError> {
     let input = plan.inputs.get(want.class.0 as usize).ok_or(AllocError)?;
     if let Some(input) = *input {
@@ -105,7 +106,8 @@ fn start_at_roots(plan: &Plan, trail: &mut Trail) -> Result<(), AllocError> {
     Ok(())
 }
 
-// Goes on to the pins of a gate that was found: its cell, and the nets of the pins.
+// Goes on to the pins of the gate with the number `at`: notes its cell and the nets of its pins,
+// which may be of new gates.
 fn go_through(alloc: Global, plan: &Plan, trail: &mut Trail, at: usize) -> Result<(), AllocError>
     requires { at < length trail.old.nodes.items }
 {
@@ -164,7 +166,7 @@ fn walk_by(alloc: Global, plan: &Plan, sharing: bool) -> Result<Walk, AllocError
     Err(AllocError)
 }
 
-// Whether a root is cut.
+// Whether some root is cut.
 fn has_cut(plan: &Plan) -> bool {
     for (root, time) in plan.roots.iter().zip(plan.times) {
         if is_cut(plan.curves, *root, time.0) {

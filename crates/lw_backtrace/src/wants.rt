@@ -51,7 +51,7 @@ pub(crate) struct Demand<'a> {
     pub exact: bool,
 }
 
-/// What a root asks for.
+/// What a root asks for: its class by a time, without a delay.
 pub(crate) fn root_want(root: ClassId, time: Micro, exact: bool) -> Want
     ensures { result ≡ root_want root time exact }
 {
@@ -63,7 +63,7 @@ pub(crate) fn root_want(root: ClassId, time: Micro, exact: bool) -> Want
     }
 }
 
-/// What a pin asks for.
+/// What the pin with this number asks for: its class by the time of the cell, less its delay.
 pub(crate) fn pin_want(demand: &Demand, pin: usize) -> Want
     requires pin { pin < length demand.now.pins.now }
     requires delay { pin < length demand.now.delays.now }
@@ -77,7 +77,7 @@ pub(crate) fn pin_want(demand: &Demand, pin: usize) -> Want
     }
 }
 
-/// The cell of a node, and what its pins ask for.
+/// The cell of a node, and what its pins ask for; none if no cell stands at its point.
 pub(crate) fn demand_of<'a>(plan: &Plan<'a>, node: Node) -> Option<Demand<'a>>
     ensures { IfSome result (IsDemand plan.now node) }
 {
@@ -97,7 +97,7 @@ pub(crate) fn demand_of<'a>(plan: &Plan<'a>, node: Node) -> Option<Demand<'a>>
     })
 }
 
-/// A number as one of 32 bits. There is no memory for more.
+/// A number as one of 32 bits. For a greater one it says that memory is out.
 pub(crate) fn to_u32(number: usize) -> Result<u32, AllocError>
     ensures { IfOk result (λ n. n ≡ number) }
 {

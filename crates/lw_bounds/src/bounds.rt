@@ -21,7 +21,7 @@ use std::marker::Model;
 /// The most numbers that a table has.
 const MOST_NUMBERS: u32 = 67108864;
 
-// How many parts have numbers, given how many rows there are.
+// How many parts may have numbers, so that a table of so many rows has at most `MOST_NUMBERS`.
 fn room_for(rows: u32) -> u32
     ensures room { result * rows ≤ most_numbers }
     ensures few { result ≤ most_numbers }
@@ -176,7 +176,7 @@ impl Bounds {
         &self.bare
     }
 
-    /// What searches are cut by.
+    /// A view of the table for searches: sides, roots, rows and gaps.
     pub fn cuts(&self) -> Cuts
         ensures state { cuts_state result ≡ record {
           sides = self.now.sides;

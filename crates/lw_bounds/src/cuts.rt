@@ -38,7 +38,7 @@ pub struct Cuts<'a> {
 }
 
 impl<'a> Cuts<'a> {
-    /// Those by which no search is cut.
+    /// Cuts by which no search is cut: all lists are empty.
     pub fn none() -> Cuts<'a>
         ensures { AreNoCuts result }
     {
@@ -71,7 +71,8 @@ pub fn numbers_of<'a>(graph: &Graph, marks: &'a [Option<Mark>], cuts: &Cuts<'a>)
     }
 }
 
-/// The sides that the nodes of a pattern are, none where it is not known.
+/// The sides that the nodes of a pattern are, one for each node; an empty list where `all` has
+/// none.
 pub fn sides_at<'a>(all: &'a [Vec<Side>], pat: PatId) -> &'a [Side]
     ensures { result.now ≡ slice_index_or (map (λ sides. sides.items) all.now) pat.0 [] }
 {

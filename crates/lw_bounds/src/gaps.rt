@@ -15,7 +15,7 @@ use std::alloc::{AllocError, Global};
 // The cost of a pin at which its gap is guessed.
 const PROBE: u64 = 1 << 61;
 
-/// The gaps of the pins of a pattern, none where they are not known.
+/// The gaps of the pins of a pattern, in units of cost; an empty list where `all` has none for it.
 pub fn gaps_at<'a>(all: &'a [[u64; 16]], pat: PatId) -> &'a [u64]
     ensures { result.now ≡ gaps_of all.now pat.0 }
 {
@@ -25,7 +25,7 @@ pub fn gaps_at<'a>(all: &'a [[u64; 16]], pat: PatId) -> &'a [u64]
     }
 }
 
-/// The gap of a pin, 0 where none is known.
+/// The gap of a pin, by its number in the pattern; 0 where none is known.
 pub(crate) fn gap_at(gaps: &[u64], pin: usize) -> u64
     ensures { result ≡ slice_index gaps.now pin }
 {
@@ -43,8 +43,9 @@ fn value_alone<C: Cost>(cost: &C, cell: CellId, pins: usize, pin: usize, amount:
     cost.value(cell, &costs[..pins])
 }
 
-/// Up to which number a pin alone, with the cost that its gap leaves of the number, is known to
-/// make the cell cost so much.
+/// The greatest `top` for which the cost says, without a call of `value`, that the gap of this one
+/// pin is certified: the cell costs at least `top` by a pin of cost `top - gap`. 0 if none is
+/// known. `pins` is how many pins the cell has.
 fn known_at<C: Cost>(cost: &C, cell: CellId, pins: usize, pin: usize, gap: u64) -> u64
     requires has { HasPins (C.costs cost.now).pin_counts cell.0 pins }
     requires pin { pin < pins }
@@ -58,7 +59,8 @@ fn known_at<C: Cost>(cost: &C, cell: CellId, pins: usize, pin: usize, gap: u64) 
     known
 }
 
-/// Whether a pin alone, with the cost that its gap leaves of the top, makes the cell cost so much.
+/// Whether the gap of this one pin is certified at `top`: the cell costs at least `top` if the pin
+/// costs `top - gap` and the others nothing.
 fn is_certified_at<C: Cost>(
     cost: &C,
     cell: CellId,
@@ -78,7 +80,8 @@ fn is_certified_at<C: Cost>(
     top <= value_alone(cost, cell, pins, pin, top.saturating_sub(gap))
 }
 
-/// Up to which number the gaps of a cell's pins are known to be certified.
+/// The greatest `top` for which the gaps of all pins of a cell are certified without a call of
+/// `value`, `u64::MAX` for a cell without pins.
 fn known_by<C: Cost>(cost: &C, cell: CellId, pins: usize, gaps: &[u64]) -> u64
     requires has { HasPins (C.costs cost.now).pin_counts cell.0 pins }
     ensures { (top : ℕ) → top ≤ result →
@@ -91,8 +94,7 @@ fn known_by<C: Cost>(cost: &C, cell: CellId, pins: usize, gaps: &[u64]) -> u64
     known
 }
 
-/// Whether each pin alone, with the cost that its gap leaves of the top, makes the cell cost so
-/// much.
+/// Whether the gaps of all pins of a cell are certified at `top`.
 pub(crate) fn is_certified<C: Cost>(
     cost: &C,
     cell: CellId,
@@ -111,7 +113,8 @@ pub(crate) fn is_certified<C: Cost>(
     true
 }
 
-/// Whether the gaps of a pattern's pins are certified at a number.
+/// Whether the gaps of all pins of a pattern are certified at `top`. Where they are, numbers below
+/// `top` may cut a search.
 pub fn is_certified_by<C: Cost>(
     pats: &Patterns,
     cost: &C,
@@ -129,7 +132,8 @@ pub fn is_certified_by<C: Cost>(
     is_certified(cost, pattern.cell, pins, own, top)
 }
 
-/// Up to which number the gaps of a pattern's pins are known to be certified.
+/// The greatest `top` for which the gaps of a pattern's pins are certified without a call of
+/// `value`.
 pub fn known_of<C: Cost>(pats: &Patterns, cost: &C, gaps: &[[u64; 16]], pat: PatId) -> u64
     requires of_cells { AreOfCells (C.costs cost.now).pin_counts pats.now }
     requires pat { pat.0 < length pats.now }
@@ -142,8 +146,8 @@ pub fn known_of<C: Cost>(pats: &Patterns, cost: &C, gaps: &[[u64; 16]], pat: Pat
     known_by(cost, pattern.cell, pins, own)
 }
 
-// The gap of each pin of a cell, guessed from what the cell costs by the pin alone. Nothing rests
-// on a guess.
+// The gap of each pin of a cell, guessed at one cost of the pin, `PROBE`. A search tests a guess
+// before it cuts by it, so nothing rests on a guess.
 fn guesses<C: Cost>(cost: &C, cell: CellId, pins: usize) -> [u64; 16]
     requires { HasFewPins (C.costs cost.now).pin_counts cell.0 pins }
 {
@@ -154,7 +158,7 @@ fn guesses<C: Cost>(cost: &C, cell: CellId, pins: usize) -> [u64; 16]
     gaps
 }
 
-/// No gap at any pin of a pattern.
+/// Gaps of 0 for all pins of all patterns, as heights have them.
 pub(crate) fn no_gaps(alloc: Global, pats: &Patterns) -> Result<Vec<[u64; 16]>, AllocError>
     ensures { IfOk result (λ all. AreFlat all.items) }
 {

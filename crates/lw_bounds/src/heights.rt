@@ -13,7 +13,7 @@ pub struct HeightBounds<'a> {
     pub marks: &'a [Option<Mark>],
 }
 
-/// The cuts with the sides and the numbers of a table of heights, where there is one.
+/// The cuts, with the sides and numbers of a second table, of heights in gates, if there is one.
 pub fn with_heights<'a>(
     cuts: Cuts<'a>,
     graph: &Graph,

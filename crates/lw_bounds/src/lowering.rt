@@ -12,15 +12,17 @@ use crate::renewing::either;
 use crate::rows::{View, leaves_at, list_at, view_at};
 use lw_graph::Pair;
 
-/// The parts, and their rules in groups.
+/// The parts of all patterns, and the rules of these parts in groups.
 #[derive(Clone, Copy)]
 pub struct Plan<'a> {
     pub parts: &'a [Part],
     pub groups: &'a [Group],
 }
 
-// What a rule gives by two lists, or the bound where the number of one side is not below it, as
-// that is no less either way. What is below a bound is not never, and with its shift it stays so.
+// What a rule gives as the number of its part: the greater of its two sides' numbers, each with its
+// shift. `bound` is the part's number so far, which is the answer as soon as a side is not below
+// it. `xs` and `ys` are the lists in which the left and the right side have their numbers. A number
+// below a bound is not `u64::MAX`, and a shift does not make it so.
 fn given_below(bound: u64, rule: Rule, xs: &[u64], ys: &[u64]) -> u64
     requires left { rule.left < length xs.now }
     requires right { rule.right < length ys.now }
@@ -39,7 +41,7 @@ fn given_below(bound: u64, rule: Rule, xs: &[u64], ys: &[u64]) -> u64
     left.max(right).min(u64::MAX - 1)
 }
 
-// Lets a number fall to another, and says whether it fell.
+// Lets the number at a place fall to `least` if that is lower, and says whether it fell.
 fn lower_number(numbers: &mut [u64], place: usize, least: u64) -> bool
     requires { place < length numbers.old }
     ensures low { slice_index numbers.new place ≤ least }
@@ -53,7 +55,8 @@ fn lower_number(numbers: &mut [u64], place: usize, least: u64) -> bool
     }
 }
 
-// Lets the number of each rule's part fall to what two lists give, and says whether one fell.
+// Lets the number of each rule's part in the row `least` fall to what two lists give, and says
+// whether one fell.
 fn lower(rules: &[Rule], xs: &[u64], ys: &[u64], least: &mut [u64]) -> bool
     requires within { AreWithin xs.now ys.now least.old rules.now }
     ensures lessened { AreLessened least.old least.new result }
@@ -69,8 +72,9 @@ fn lower(rules: &[Rule], xs: &[u64], ys: &[u64], least: &mut [u64]) -> bool
     fell
 }
 
-// Lets the number of each rule's part fall to what the two lists of its group give. One of them may
-// be an empty row: nothing stands there.
+// Lets the numbers in the row `least` fall to what the rules of one group give, if the left sides
+// stand at the class of `one` and the right sides at that of `other`. Where the list of a side is
+// an empty row, nothing stands there.
 fn lower_where(plan: Plan, group: &Group, one: View, other: View, least: &mut [u64]) -> bool
     requires group { IsGroupAmong plan.parts.now group.now }
     requires views { AreViews (length plan.parts.now) one other }
@@ -90,8 +94,8 @@ fn lower_where(plan: Plan, group: &Group, one: View, other: View, least: &mut [u
     lower(&group.rules, xs, ys, least)
 }
 
-// Lets the number of each part fall to what it is with its left side in one place and its right
-// side in the other, and says whether one fell.
+// Lets the number of each part in the row `least` fall to what it is with its left side at the
+// class of `one` and its right side at that of `other`, and says whether one fell.
 fn lower_all(plan: Plan, one: View, other: View, least: &mut [u64]) -> bool
     requires grouped { AreGrouped plan.parts.now plan.groups.now }
     requires views { AreViews (length plan.parts.now) one other }
@@ -109,7 +113,8 @@ fn lower_all(plan: Plan, one: View, other: View, least: &mut [u64]) -> bool
     fell
 }
 
-// Lets the number of each part fall to what a pair gives, and says whether one fell.
+// Lets the number of each part in the row `least` fall to what one pair of classes gives, either
+// way round, and says whether one fell.
 fn lower_by(at: Numbers, plan: Plan, pair: Pair, least: &mut [u64]) -> bool
     requires planned { IsPlanned (reading at) plan least.old }
     requires pair { (pair.x.0 < length at.marks.now) × (pair.y.0 < length at.marks.now) }
@@ -129,7 +134,8 @@ fn lower_by(at: Numbers, plan: Plan, pair: Pair, least: &mut [u64]) -> bool
     either(turned, fell)
 }
 
-/// Lets the number of each part fall to what each of the pairs gives, and says whether one fell.
+/// Lets the number of each part in the row `least` fall to what each of a class's pairs gives, and
+/// says whether one fell. `renewing` puts the row back into the table.
 pub(crate) fn lower_by_all(at: Numbers, plan: Plan, pairs: &[Pair], least: &mut [u64]) -> bool
     requires planned { IsPlanned (reading at) plan least.old }
     requires pairs { (i : ℕ) (q : Pair) → slice_get pairs.now i ≡ Some q →

@@ -63,7 +63,7 @@ pub(crate) fn sides_by(
     Ok(Sides { parts, all, roots })
 }
 
-/// Roots in lists, given the sides that they are.
+/// The roots of all patterns in three lists, given the side that each root is.
 pub(crate) fn lists_by(alloc: Global, roots: &[Side]) -> Result<RootLists, AllocError>
     requires few { length roots.now ≤ most_patterns }
     ensures { IfOk result (λ lists.
@@ -142,7 +142,8 @@ fn has_nand(nodes: &[PatNode]) -> bool {
     false
 }
 
-/// The patterns without NANDs.
+/// The patterns without NANDs: pins, constants and inverters. They stand at a class by its mark
+/// alone, so that no table cuts them.
 pub(crate) fn bare_patterns(alloc: Global, pats: &Patterns) -> Result<Vec<PatId>, AllocError> {
     let mut bare = Vec::new(alloc);
     for number in 0..pats.len() {

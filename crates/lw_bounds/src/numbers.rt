@@ -37,7 +37,7 @@ impl<'a> Numbers<'a> {
     }
 }
 
-/// Where the row of a class starts.
+/// Where the row of a class starts in the table of numbers, `NO_ROW` if it has none.
 pub(crate) fn start_of(starts: &[u32], class: ClassId) -> u32
     ensures { result ≡ start_of starts.now class.0 }
 {
@@ -66,14 +66,14 @@ pub(crate) fn mark_number(mark: Option<Mark>) -> u64
     }
 }
 
-/// The number of true at a class.
+/// The number of the constant true at a class: 0 at its own class, `u64::MAX` elsewhere.
 pub(crate) fn one_number(at: Numbers, class: ClassId) -> u64
     ensures { result ≡ kind_number (reading at.entry) One class.0 }
 {
     if class == at.one { 0 } else { u64::MAX }
 }
 
-/// The number of a part at a class.
+/// The number of a part at a class, `u64::MAX` at a class without a row.
 fn part_number(at: Numbers, part: u32, class: ClassId) -> u64
     requires reading { IsReading (reading at) }
     requires class { class.0 < length at.marks.now }
@@ -87,14 +87,15 @@ fn part_number(at: Numbers, part: u32, class: ClassId) -> u64
     at.numbers[start as usize + part as usize]
 }
 
-/// The class at which what a side is has to stand.
+/// The class at which the part of a side has to stand if the side stands at `class`: the complement
+/// if the side has an inverter.
 fn class_below(side: Side, class: ClassId) -> ClassId
     ensures { result.0 ≡ class_below side class.0 }
 {
     if side.flipped { class.flip() } else { class }
 }
 
-/// The number at a class of what a side is.
+/// The number that a side without its inverter has at a class, with its shift.
 fn kind_number(at: Numbers, kind: Kind, class: ClassId) -> u64
     requires reading { IsReading (reading at) }
     requires class { class.0 < length at.marks.now }
@@ -109,7 +110,8 @@ fn kind_number(at: Numbers, kind: Kind, class: ClassId) -> u64
     }
 }
 
-/// The number of a side at a class.
+/// The number of a side at a class: what its pins cost at least, with their gaps, if it stands
+/// there.
 pub fn side_number(at: Numbers, side: Side, class: ClassId) -> u64
     requires reading { IsReading (reading at) }
     requires class { class.0 < length at.marks.now }

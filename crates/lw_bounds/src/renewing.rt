@@ -28,7 +28,7 @@ pub(crate) fn either(one: bool, other: bool) -> bool
     one || other
 }
 
-// Puts a row in the place of another.
+// Copies a row, one number for each part, into the table of numbers at `start`.
 pub(crate) fn put_row(numbers: &mut [u64], start: usize, row: &[u64])
     requires within { start + length row.now ≤ length numbers.old }
     ensures less { total row.now < total (slice_range numbers.old start (start + length row.now)) →
@@ -41,7 +41,7 @@ pub(crate) fn put_row(numbers: &mut [u64], start: usize, row: &[u64])
     numbers[start..start + row.len()].copy_from_slice(row);
 }
 
-// What the numbers of sides are read from.
+// What the numbers of sides are read from, as the table stands now.
 fn numbers_by<'a>(renewal: Renewal<'a>, plan: Plan, numbers: &'a [u64]) -> Numbers<'a>
     ensures { reading result ≡ reading_by renewal.entry plan.entry numbers.entry.now }
 {
@@ -54,8 +54,8 @@ fn numbers_by<'a>(renewal: Renewal<'a>, plan: Plan, numbers: &'a [u64]) -> Numbe
     }
 }
 
-// Lets the numbers of all parts at a class fall to what the pairs give, and says whether one fell.
-// The other list of numbers is room to work in.
+// Lets the numbers of all parts at a class fall to what its pairs give, and says whether one fell.
+// `numbers` is the whole table, and `least` a row of room to work in.
 pub(crate) fn renew_parts(
     renewal: Renewal,
     plan: Plan,

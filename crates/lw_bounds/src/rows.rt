@@ -16,7 +16,7 @@ pub struct View<'a> {
     pub other: &'a [u64],
 }
 
-/// A number of a row with its shift, never where the row is empty.
+/// The number of a part in a row, with a shift; `u64::MAX` if the row is empty.
 pub fn row_number(row: &[u64], part: u32, shift: u64) -> u64
     ensures { result ≡ shifted (slice_index_or row.now part never) shift }
 {
@@ -28,7 +28,7 @@ pub fn row_number(row: &[u64], part: u32, shift: u64) -> u64
     }
 }
 
-/// The number of a side by the lists.
+/// The number of a side, read from the three lists of a class.
 pub fn view_number(view: View, side: Side) -> u64
     requires { length view.leaves.now ≡ 5 }
     ensures { result ≡ view_number view.entry side }
@@ -66,7 +66,7 @@ fn row_at<'a>(at: Numbers<'a>, class: ClassId) -> &'a [u64]
     &at.numbers[start..start + at.width]
 }
 
-/// The numbers of pins and constants at a class.
+/// List 0 of a class: the numbers of a pin, of an inverted pin, of true, of false, and of any tree.
 pub fn leaves_at(at: Numbers, class: ClassId) -> [u64; 5]
     requires reading { IsReading (reading at) }
     requires class { class.0 < length at.marks.now }
@@ -84,7 +84,7 @@ pub fn leaves_at(at: Numbers, class: ClassId) -> [u64; 5]
     ]
 }
 
-/// The numbers of sides at a class, given those of pins and constants.
+/// The three lists of a class, given list 0.
 pub fn view_at<'a>(at: Numbers<'a>, leaves: &'a [u64], class: ClassId) -> View<'a>
     requires reading { IsReading (reading at) }
     requires class { class.0 < length at.marks.now }
@@ -99,7 +99,8 @@ pub fn view_at<'a>(at: Numbers<'a>, leaves: &'a [u64], class: ClassId) -> View<'
     }
 }
 
-/// One of the lists.
+/// One of the three lists: 0 the pins and constants, 1 the row of the class, 2 the row of its
+/// complement.
 pub fn list_at<'a>(view: View<'a>, list: u8) -> &'a [u64]
     ensures { result.now ≡ list_at view.entry list }
 {

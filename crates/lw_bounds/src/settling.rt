@@ -53,8 +53,8 @@ impl Bounds {
     }
 }
 
-// Lets the numbers of a class fall, if that is due or the round is a whole one, and says whether
-// one fell.
+// Lets the numbers of one class fall to what its pairs give, and says whether one fell. A class
+// that is not due is passed over, unless the round is a whole one.
 fn renew_class(basis: Basis, table: &mut Table, class: ClassId, whole: bool) -> bool
     requires class { class.0 < length basis.graph.now.pairs }
     requires timed { IsTableOf basis table.old }
@@ -69,7 +69,8 @@ fn renew_class(basis: Basis, table: &mut Table, class: ClassId, whole: bool) -> 
     fell
 }
 
-// Lets the numbers fall class by class, and says whether one fell. A whole round passes over none.
+// One round over all classes in order, which says whether a number fell. A whole round passes over
+// no class.
 fn renew_round(basis: Basis, table: &mut Table, whole: bool) -> bool
     requires timed { IsTableOf basis table.old }
     ensures { IsRoundDone basis.entry whole table.old table.new result }

@@ -28,7 +28,8 @@ impl Model for Times {
     ghost invariant = { λ t. length t.fell.items ≡ length t.seen.items / 2 + 1 };
 }
 
-// When a class in the pairs of a class, or the complement of one, fell last.
+// The last time at which a number fell at a class in the pairs of `class`, or at the complement of
+// one; 0 if none did.
 fn last_fall(graph: &Graph, fell: &[u32], class: ClassId) -> u32
     requires { IsClassAmongPairs graph.now (length fell.now) class.0 }
 {

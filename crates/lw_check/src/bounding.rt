@@ -39,7 +39,7 @@ fn is_above(label: Option<u64>, value: u64) -> bool
     }
 }
 
-// The one with the lesser number of two classes.
+// The one with the lesser number of two classes, or the one that there is.
 pub(crate) fn earlier(one: Option<ClassId>, other: Option<ClassId>) -> Option<ClassId>
     ensures { option_map class_number result
         ≡ lesser_of (option_map class_number one) (option_map class_number other) }
@@ -51,7 +51,7 @@ pub(crate) fn earlier(one: Option<ClassId>, other: Option<ClassId>) -> Option<Cl
     }
 }
 
-// Puts the labels of some classes at the front, where each has one.
+// Puts the labels of some classes at the front of `values`, and says whether each has one.
 fn read_labels(labels: &[Option<u64>], classes: &[ClassId], values: &mut [u64]) -> bool
     requires { length classes.now ≤ length values.old }
     ensures read { ReadsLabels (labels_in labels.now) (numbers classes.now)
@@ -68,7 +68,7 @@ fn read_labels(labels: &[Option<u64>], classes: &[ClassId], values: &mut [u64]) 
 }
 
 impl<C: Cost> Labelling<'_, C> {
-    /// The least class of an input that costs less than its label, or that has none.
+    /// The least class of an input that costs less than the class's label, or whose class has none.
     pub fn first_late_input(&self) -> Option<ClassId>
         ensures { IsLeastOf (IsLateIn C.costs self.now) (option_map class_number result) }
     {
@@ -82,7 +82,7 @@ impl<C: Cost> Labelling<'_, C> {
         first
     }
 
-    // What a match costs whose pins are all labelled.
+    // What a match costs by the labels of its pins, and none if a pin has no label.
     fn cost_of_match(&self, found: &Match) -> Option<u64>
         requires { HasPattern C.costs self.now (plain_match found.now) }
         ensures { IsCostBy C.costs self.now (plain_match found.now) result }
@@ -96,8 +96,8 @@ impl<C: Cost> Labelling<'_, C> {
         Some(self.by.cost.value(cell, &values[..pins.len()]))
     }
 
-    // Whether a match has labelled pins and costs less than the label of its class, or the class
-    // has none.
+    // Whether a match at a class with this label has labelled pins and costs less than that, or the
+    // class has none.
     fn is_low(&self, found: &Match, label: Option<u64>) -> bool
         requires { HasPattern C.costs self.now (plain_match found.now) }
         ensures { IsTrue result ↔ IsLowBy C.costs self.now label (plain_match found.now) }
@@ -126,7 +126,7 @@ impl<C: Cost> Labelling<'_, C> {
         false
     }
 
-    // The first class with such a match.
+    // The first class of which `has_low_match` holds, and none if it holds of no class.
     fn first_low_class(&self) -> Option<ClassId>
         requires { HasCells C.costs self.now }
         ensures { IsLeastOf (IsLowIn C.costs self.now) (option_map class_number result) }
@@ -140,9 +140,10 @@ impl<C: Cost> Labelling<'_, C> {
     }
 }
 
-/// The first class that fails, and none exactly where the labels are a potential: no class lacks a
-/// label, or has one above, what a match at it whose pins are all labelled or an input of it costs.
-/// Then each cover costs at least the label of its class. It takes no memory.
+/// The first class that fails, and none exactly where the labels are a potential. A class fails if
+/// an input of it, or a match at it whose pins are all labelled, costs less than its label, or it
+/// has none. Where no class fails, each cover costs at least the label of its class. It takes no
+/// memory.
 pub fn bound<C: Cost>(
     graph: &Graph,
     pats: &Patterns,

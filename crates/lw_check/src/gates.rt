@@ -19,7 +19,7 @@ use lw_netlist::Gate;
 use lw_pool::{CellId, ClassId, Name, NetId, PatId};
 use std::alloc::{AllocError, Global};
 
-// The class of a net: that of its input, or what the certificate gives its gate.
+// The class of a net: that of its input, or what the certificate gives its gate, if it gives one.
 pub(crate) fn class_of_net(case: &Case, net: NetId) -> Option<ClassId>
     ensures class { option_map class_number result ≡ class_of_net (claim_of case.now) net }
     ensures within { HasKnownClasses (claim_of case.now) →
@@ -37,7 +37,7 @@ pub(crate) fn class_of_net(case: &Case, net: NetId) -> Option<ClassId>
     None
 }
 
-// The classes of the nets of pins, where each has one.
+// The classes of the nets of pins, and none if a net has no class.
 fn classes_of_pins(case: &Case, pins: &[NetId]) -> Option<Pins>
     requires few { length pins.now ≤ 16 }
     requires classes { HasKnownClasses (claim_of case.now) }
@@ -54,7 +54,7 @@ fn classes_of_pins(case: &Case, pins: &[NetId]) -> Option<Pins>
     Some(classes)
 }
 
-// Whether a class is this one.
+// Whether there is a class, and it is this one.
 pub(crate) fn is_class(found: Option<ClassId>, class: ClassId) -> bool
     ensures { IsTrue result ↔ (option_map class_number found ≡ Some class.0) }
 {
@@ -64,8 +64,8 @@ pub(crate) fn is_class(found: Option<ClassId>, class: ClassId) -> bool
     }
 }
 
-// Whether the pattern at a place is of the cell and stands at the class with its pins at these
-// classes.
+// Whether the pattern with the index `place` is of the cell and stands at the class with its pins
+// at these classes.
 fn is_match_by(case: &Case, place: u32, cell: CellId, pins: &[ClassId], class: ClassId) -> bool
     requires place { place < length case.now.pats.now }
     requires pins { AreWithin case.now.graph.now pins.now }
@@ -90,7 +90,7 @@ fn is_match_in(case: &Case, span: Span, cell: CellId, pins: &[ClassId], class: C
     false
 }
 
-// Whether a gate is a match at the class of its net.
+// Whether a gate is a match at the class of its net, by a pattern in the span of its cell.
 fn is_match(case: &Case, spans: &[Span], gate: &Gate) -> bool
     requires classes { HasKnownClasses (claim_of case.now) }
     requires cell { HasCell case.now.lib.now gate.now }
@@ -108,7 +108,7 @@ fn is_match(case: &Case, spans: &[Span], gate: &Gate) -> bool
     is_match_in(case, span, gate.cell, pins.as_slice(), class)
 }
 
-// The place of the first gate that is no match.
+// The place, from 0, of the first gate that is no match, and none if each is one.
 fn first_no_match(case: &Case, spans: &[Span]) -> Option<usize>
     requires passed { PassesClasses (claim_of case.now) }
     requires spans { AreSpans (length case.now.lib.now) case.now.pats.now spans.now }
@@ -134,7 +134,7 @@ fn name_of_gate(alloc: Global, case: &Case, place: usize) -> Result<Name, AllocE
     Name::from_slice(alloc, netlist.names()[out.0 as usize].as_bytes())
 }
 
-// The first gate that is no match.
+// The third test: the reason against the first gate that is no match, or none.
 pub(crate) fn gate_reason(alloc: Global, case: &Case) -> Result<Option<Reason>, AllocError>
     requires { PassesClasses (claim_of case.now) }
     ensures { IfOk result (Tells (claim_of case.now) (AreMatches (claim_of case.now))) }

@@ -31,7 +31,7 @@ pub(crate) fn label_of(labels: &[Option<Micro>], class: ClassId) -> Option<Micro
     None
 }
 
-// A label as a plain number.
+// A label as a plain number of millionths.
 fn plain(label: Option<Micro>) -> Option<u64>
     ensures { result ≡ option_map millionths label }
 {
@@ -41,7 +41,8 @@ fn plain(label: Option<Micro>) -> Option<u64>
     }
 }
 
-// The labels of so many classes.
+// The labels of so many classes as plain numbers of millionths, none where the certificate has
+// none.
 fn labels_of(
     alloc: Global,
     labels: &[Option<Micro>],
@@ -66,7 +67,7 @@ fn flat(label: Option<u64>) -> Option<Mark>
     }
 }
 
-// Marks with these labels.
+// Marks that have these labels as costs, and no height; none where a class has no label.
 fn marks_of(alloc: Global, labels: &[Option<u64>]) -> Result<Vec<Option<Mark>>, AllocError>
     ensures { IfOk result (λ marks. marks.items ≡ map flat_mark labels.now) }
 {
@@ -77,7 +78,7 @@ fn marks_of(alloc: Global, labels: &[Option<u64>]) -> Result<Vec<Option<Mark>>, 
     Ok(marks)
 }
 
-// The lesser of two numbers.
+// The lesser of two numbers, or the one that there is.
 pub(crate) fn lesser(one: Option<u64>, other: Option<u64>) -> Option<u64>
     ensures { result ≡ lesser_of one other }
 {
@@ -88,7 +89,7 @@ pub(crate) fn lesser(one: Option<u64>, other: Option<u64>) -> Option<u64>
     }
 }
 
-// The least that an input of a class costs.
+// The least that an input of a class costs, and none if the class is no input's.
 pub(crate) fn least_input<C: Cost>(graph: &Graph, cost: &C, class: ClassId) -> Option<u64>
     ensures { IsLeastOf (IsLeafCost graph.now (C.costs cost.now) class.0) result }
 {
@@ -101,7 +102,8 @@ pub(crate) fn least_input<C: Cost>(graph: &Graph, cost: &C, class: ClassId) -> O
     least
 }
 
-// The first class whose label is no bound, by a table that is made for the labels.
+// The first class whose label is no bound, with what shows it, by a table that is made for the
+// labels.
 fn sought<C: Cost>(alloc: Global, given: &Labelling<C>) -> Result<Option<Unbounded>, AllocError>
     requires capped { (c l : ℕ) → labels_in given.now.labels.now c ≡ Some l → l ≤ C.CAP }
     requires of_cells { HasCells C.costs given.now }
@@ -118,7 +120,7 @@ fn sought<C: Cost>(alloc: Global, given: &Labelling<C>) -> Result<Option<Unbound
     Ok(trial.first_unbounded())
 }
 
-// The first class whose label is no bound.
+// The fourth test: the reason against the first class whose label is no bound, or none.
 pub(crate) fn label_reason(alloc: Global, case: &Case) -> Result<Option<Reason>, AllocError>
     requires { PassesGates (claim_of case.now) }
     ensures { IfOk result (Tells (claim_of case.now) (HasPotential (claim_of case.now))) }

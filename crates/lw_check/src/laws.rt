@@ -1,4 +1,4 @@
-//! Laws over definitions: functions with empty bodies, whose clauses are the laws.
+//! Theorems: functions with empty bodies, whose clauses are the theorems.
 ghost use Rattle.std.specs.Prelude.{◌≡◌, ℕ};
 ghost use Rattle.lw_laws.specs.Modes.{Mode};
 ghost use Rattle.lw_laws.specs.Netlists.{CellTruth, HaveCellTruths};
@@ -9,9 +9,9 @@ ghost use Rattle.lw_check.specs.Claims.{Claim, cost_in};
 ghost use Rattle.lw_check.specs.Mappings.{AreAlike, IsFastestMapping, IsKept, IsMappingOf, IsOverForms, IsOverGraph, IsTimelyNetlist};
 ghost use Rattle.lw_check.specs.Verdicts.{IsVerdictOn};
 
-/// A netlist that is accepted is a fastest mapping, whoever wrote it: it has the network's frame,
+/// A netlist that is accepted is a fastest mapping, whoever wrote it. It has the network's frame,
 /// ports and values, and each output arrives at the least time of any cover of any tree that the
-/// laws derive for it.
+/// rules derive for it.
 pub fn yes_is_a_mapping()
     ensures { (mode : Mode) (width : ℕ) (truth : CellTruth) (k : Claim) → IsKept k →
         IsOverForms mode width k → HaveCellTruths (cost_in k).pin_counts truth k.pats →
@@ -24,8 +24,8 @@ pub fn mappings_are_accepted()
         IsMappingOf mode width k → IsVerdictOn k Yes }
 {}
 
-/// So is any netlist of matches of the network, with its nets named as `map` names them, and no
-/// class twice, whose outputs arrive at their least times. It has the network's frame; its
+/// Accepted is any netlist of matches of the network, with its nets named as `map` names them, and
+/// no class twice, whose outputs arrive at their least times. It has the network's frame; its
 /// certificate has the least times of the classes and the classes of its gates.
 pub fn timely_netlists_are_accepted()
     ensures { (mode : Mode) (width : ℕ) (k : Claim) → IsKept k → IsOverGraph mode width k →

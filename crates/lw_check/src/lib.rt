@@ -15,6 +15,19 @@
 //! * `checking`: the six tests in order (`check`);
 //! * `laws`: theorems on verdicts.
 //!
+//! The words of this crate:
+//!
+//! * certificate: labels for some classes, and the class of the net of some gates;
+//! * label: the claimed earliest arrival of a class, in millionths of the library's unit of time;
+//!   in `labelling`, `bounding` and `trial` a number in units of any cost;
+//! * frame: how many inputs and outputs the circuit itself has, and its latches;
+//! * root: the class of an output in the graph of the network;
+//! * match: a pattern of a cell at a class, with a class for each pin. A class is low if a match
+//!   whose pins all have labels costs less than its label, or it has none;
+//! * bound: a label that is at most what an input of the class or a match at it costs;
+//! * span: the places from the first pattern of a cell to its last;
+//! * place: the index of a pattern, a gate or an output.
+//!
 //! The one definition to read is `IsVerdictOn` in `specs/Verdicts.antt`; `yes_is_a_mapping` in
 //! `laws` says what a `Yes` means. `lw_map` calls `check`.
 #![tactic(auto)]

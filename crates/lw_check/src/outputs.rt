@@ -13,7 +13,7 @@ use lw_netlist::Port;
 use lw_pool::{Name, NetId};
 use std::alloc::{AllocError, Global};
 
-// The place of the first output whose net is at another class than the output's root.
+// The place, from 0, of the first output whose net is at another class than the output's root.
 fn first_off_root(case: &Case) -> Option<usize>
     requires { length case.now.roots.now ≡ length case.now.mapped.now.netlist.outputs }
     ensures { FindsOffRoot (claim_of case.now) result }
@@ -53,7 +53,7 @@ pub(crate) fn root_reason(alloc: Global, case: &Case) -> Result<Option<Reason>, 
     }
 }
 
-// The label of the class of a net.
+// The label of the class of a net, and none if the net has no class or that no label.
 fn label_of_net(case: &Case, net: NetId) -> Option<Micro>
     ensures { result ≡ label_of_net (claim_of case.now) net }
 {
@@ -63,7 +63,7 @@ fn label_of_net(case: &Case, net: NetId) -> Option<Micro>
     }
 }
 
-// Whether a label is this arrival.
+// Whether there is a label, and it is this arrival.
 fn is_label(label: Option<Micro>, arrival: Micro) -> bool
     ensures { IsTrue result ↔ (label ≡ Some arrival) }
 {
@@ -73,7 +73,8 @@ fn is_label(label: Option<Micro>, arrival: Micro) -> bool
     }
 }
 
-// The place of the first output that arrives at another time than the label of its class.
+// The place, from 0, of the first output that arrives at another time than the label of its class.
+// `arrivals` has the arrival of each net.
 fn first_off_time(case: &Case, arrivals: &[Micro]) -> Option<usize>
     requires { ArriveAt (claim_of case.now) arrivals.now }
     ensures { FindsOffTime (claim_of case.now) result }
@@ -87,7 +88,7 @@ fn first_off_time(case: &Case, arrivals: &[Micro]) -> Option<usize>
     None
 }
 
-// When each net arrives.
+// When each net of the netlist arrives, in millionths, by its number.
 fn arrivals_of(alloc: Global, case: &Case) -> Result<Vec<Micro>, AllocError>
     requires askable { IsAskable (claim_of case.now) }
     requires ports { HasSamePorts (claim_of case.now) }

@@ -67,7 +67,7 @@ fn is_same_frame(left: &Frame, right: &Frame) -> bool
         && are_same_latches(left.latches.as_slice(), right.latches.as_slice())
 }
 
-// Whether the netlist has the network's inputs, outputs and frame.
+// The first test: whether the netlist has the network's inputs, outputs and frame.
 pub(crate) fn has_same_ports(case: &Case) -> bool
     ensures { IsTrue result ↔ HasSamePorts (claim_of case.now) }
 {

@@ -15,7 +15,7 @@ pub(crate) struct Span {
 }
 
 impl Span {
-    // These places and one more behind them.
+    // This span with a place after it: an empty one begins there, and another goes on to it.
     fn with(self, place: u32) -> Span
         requires behind { self.end ≤ place }
         requires few { place ≤ most_signals }
@@ -33,7 +33,8 @@ impl Span {
     }
 }
 
-// For each of so many cells the places from its first pattern to its last.
+// For each of so many cells the span from its first pattern to its last, which is empty without
+// one.
 pub(crate) fn spans_of(
     alloc: Global,
     cells: usize,

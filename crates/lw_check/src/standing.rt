@@ -10,7 +10,7 @@ use lw_graph::Graph;
 use lw_pattern::{PatNode, PatNodes};
 use lw_pool::ClassId;
 
-// The class of a pin.
+// The class of a pin, and none past the last.
 fn class_of_pin(pins: &[ClassId], pin: u8) -> Option<ClassId>
     ensures { result ≡ slice_get pins.now pin }
 {
@@ -21,7 +21,8 @@ fn class_of_pin(pins: &[ClassId], pin: u8) -> Option<ClassId>
     None
 }
 
-// The class at which the inverter of a tree stands, given that of the tree.
+// The class at which the inverter of a tree stands, given that of the tree; none if the tree stands
+// at none.
 fn complement(graph: &Graph, class: Option<ClassId>) -> Option<ClassId>
     ensures { (w : List ℕ) (t : Tree) → StandsAlone graph.now w t class →
         StandsAlone graph.now w (inv t) result }
@@ -34,7 +35,7 @@ fn complement(graph: &Graph, class: Option<ClassId>) -> Option<ClassId>
 }
 
 // The class at which the NAND of two trees stands, given those of the trees: the class that holds
-// their pair.
+// their pair, if there is one.
 fn class_of_pair(graph: &Graph, left: Option<ClassId>, right: Option<ClassId>) -> Option<ClassId>
     requires left { IfSome left (λ class. class.0 < length graph.now.pairs) }
     requires right { IfSome right (λ class. class.0 < length graph.now.pairs) }

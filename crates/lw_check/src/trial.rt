@@ -11,7 +11,8 @@ use lw_cost::Cost;
 use lw_match::least_within;
 use lw_pool::ClassId;
 
-/// A class whose label is no bound, and the least that an input of it or a match at it costs.
+/// A class whose label is no bound, and the least that an input of it or a match at it costs, in
+/// units of the cost.
 #[derive(Clone, Copy)]
 pub(crate) struct Unbounded {
     pub class: ClassId,
@@ -49,7 +50,8 @@ impl<C: Cost> Trial<'_, C> {
         None
     }
 
-    // The first class that fails.
+    // The first class whose label is no bound: an input of it or a match at it costs less, or it
+    // has none.
     fn first_failing(&self) -> Option<ClassId>
         requires { HasTable C.costs C.CAP self.now }
         ensures { IsLeastOf (FailsIn C.costs self.now.given.now) (option_map class_number result) }
@@ -58,7 +60,8 @@ impl<C: Cost> Trial<'_, C> {
         earlier(late, self.first_low())
     }
 
-    // The least that a match at a class with labelled pins costs.
+    // The least that a match at a class with labelled pins costs, and none if there is no such
+    // match.
     fn least_match(&self, class: ClassId) -> Option<u64>
         requires { CanSearch C.costs C.CAP self.now class.0 }
         ensures { IsLeastOf (IsMatchCostIn C.costs self.now class.0) result }
@@ -71,7 +74,8 @@ impl<C: Cost> Trial<'_, C> {
         }
     }
 
-    // The least that a class is given, with the class.
+    // A class with the least that an input of it or a match at it costs, and none if nothing gives
+    // it a cost.
     fn least_at(&self, class: ClassId) -> Option<Unbounded>
         requires { CanSearch C.costs C.CAP self.now class.0 }
         ensures { IsLeastIn C.costs self.now class.0 result }
@@ -83,7 +87,8 @@ impl<C: Cost> Trial<'_, C> {
         }
     }
 
-    /// The first class whose label is no bound, with the least that it is given.
+    /// The first class whose label is no bound, with the least that an input of it or a match at it
+    /// costs.
     pub fn first_unbounded(&self) -> Option<Unbounded>
         requires { HasTable C.costs C.CAP self.now }
         ensures { FindsUnboundedIn C.costs self.now.given.now result }

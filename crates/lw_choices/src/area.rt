@@ -36,12 +36,14 @@ impl Cost for AreaCost<'_> {
 
     ghost laws = { λ c. area_cost_is c.lib.now };
 
+    // An input has no area.
     fn leaf(&self, _input: u32) -> u64
         ensures { result ≡ (area_cost self.now.lib.now).leaf _input }
     {
         0
     }
 
+    // The area of a cell and those of its pins together, in millionths, at most `MOST_AREA`.
     fn value(&self, cell: CellId, pins: &[u64]) -> u64
         requires { HasPins (area_cost self.now.lib.now).pin_counts cell.0 (length pins.now) }
         ensures { result ≡ (area_cost self.now.lib.now).value cell.0 pins.now }
@@ -50,17 +52,17 @@ impl Cost for AreaCost<'_> {
     }
 }
 
-// The area at which areas are cut, 2^62.
+// The area at which areas are cut, 2^62 millionths.
 pub const MOST_AREA: u64 = 4_611_686_018_427_387_904;
 
-// The sum of two areas, or the greatest that is reported.
+// The sum of two areas in millionths, or 2^62 if it is greater.
 pub fn joined(a: u64, b: u64) -> u64
     ensures { result ≡ min most_area (a + b) }
 {
     a.saturating_add(b).min(MOST_AREA)
 }
 
-// An area and those of some pins together, or the greatest that is reported.
+// The sum of an area and those of some pins in millionths, or 2^62 if it is greater.
 fn together(area: u64, pins: &[u64]) -> u64
     ensures { result ≡ min most_area (area + total pins.now) }
 {

@@ -7,7 +7,7 @@ use std::alloc::{AllocError, Global};
 use std::marker::Model;
 
 /// The classes of the places of an array, each place linked to the last one before it that has the
-/// same class. Both stand in arrays of their own, since most look for classes alone.
+/// same class. Pins are linked by their groups in this way too, with the group's number as a class.
 #[derive(Drop)]
 pub struct Chains {
     classes: Vec<ClassId>,
@@ -60,7 +60,7 @@ impl Chains {
         self.classes[place as usize]
     }
 
-    /// The last place with a class.
+    /// The last place with a class, none if no place has it.
     pub fn last(&self, class: ClassId) -> Option<u32>
         requires { class.0 < self.now.count }
         ensures { IsLast self.now.classes class.0 (length self.now.classes) result }
@@ -68,7 +68,7 @@ impl Chains {
         self.heads[class.0 as usize]
     }
 
-    /// The last place before one that has its class.
+    /// The last place before one that has its class, none if it is the first.
     pub fn before(&self, place: u32) -> Option<u32>
         requires { place < length self.now.classes }
         ensures { (c : ℕ) → slice_get self.now.classes place ≡ Some c →
@@ -86,7 +86,7 @@ impl Chains {
         Ok(())
     }
 
-    /// Appends a place with a class. There is no memory for 2^32 places.
+    /// Appends a place with a class. Past 2^32 - 1 places it says that memory is out.
     pub fn push(&mut self, class: ClassId) -> Result<(), AllocError>
         requires { class.0 < self.old.count }
         ensures classes { OnOk result (self.new.classes ≡ self.old.classes ++ class.0 ∷ []) }

@@ -35,7 +35,7 @@ pub struct ListedChoice {
 }
 
 /// All that may stand at the classes of a graph: the inputs, and then the matches, class by class.
-/// There is no memory for 2^32 of them.
+/// Where there are 2^32 of them or more, it says that memory is out.
 pub fn list_choices(
     alloc: Global,
     graph: &Graph,
@@ -51,7 +51,7 @@ pub fn list_choices(
     Ok(rows)
 }
 
-// The inputs.
+// The inputs as choices at their classes.
 fn list_inputs(alloc: Global, graph: &Graph) -> Result<Vec<ListedChoice>, AllocError>
     ensures { IfOk result (λ rows. (pats : _) (cells : List CellParts) (starts : List MicroOf) →
         IsListing (task graph.now pats cells starts)
@@ -68,7 +68,7 @@ fn list_inputs(alloc: Global, graph: &Graph) -> Result<Vec<ListedChoice>, AllocE
     Ok(rows)
 }
 
-// Appends a cell at a class.
+// Appends a cell by a match at a class to the choices.
 fn push_gate(
     to: &mut Vec<ListedChoice>,
     class: ClassId,
@@ -82,7 +82,7 @@ fn push_gate(
     Ok(())
 }
 
-// Appends the matches at a class.
+// Appends the matches at a class, which a search finds.
 fn list_class(
     graph: &Graph,
     pats: &Patterns,
@@ -100,7 +100,7 @@ fn list_class(
     Ok(())
 }
 
-// Appends the matches of a store.
+// Appends the matches of a store, in its order.
 fn list_stored(store: &mut Store, rows: &mut Vec<ListedChoice>) -> Result<(), AllocError>
     requires { store.old.done ≡ 0 }
     ensures { OnOk result (AreStoredListed store.old.lists rows.old.items rows.new.items) }
@@ -112,7 +112,7 @@ fn list_stored(store: &mut Store, rows: &mut Vec<ListedChoice>) -> Result<(), Al
     Ok(())
 }
 
-// Appends the matches by a search at each class.
+// Appends the matches by a search at each class, where there are too many for a store.
 fn list_sought(
     graph: &Graph,
     pats: &Patterns,

@@ -6,7 +6,7 @@ use crate::chains::Chains;
 use lw_pool::ClassId;
 use std::alloc::{AllocError, Global};
 
-/// The choices of each group, with a pin in it.
+/// The numbers of the choices of each group, once for each pin in it.
 #[derive(Drop)]
 pub struct GroupChoices {
     // where the choices of each group begin, and where those of the last one end
@@ -14,7 +14,8 @@ pub struct GroupChoices {
     pub numbers: Vec<u32>,
 }
 
-/// The choices of so many groups, by the groups of the pins and the choice of each pin.
+/// For each of so many groups the choices with a pin in it. `members` has the group of each pin,
+/// and `owners` its choice.
 pub fn choices_by_group(
     alloc: Global,
     members: &Chains,
@@ -34,7 +35,7 @@ pub fn choices_by_group(
     Ok(GroupChoices { starts, numbers })
 }
 
-/// No groups.
+/// The choices of no groups, as they are until `choices_by_group` lists them.
 pub fn no_group_choices(alloc: Global) -> GroupChoices {
     GroupChoices {
         starts: Vec::new(alloc),
@@ -42,7 +43,7 @@ pub fn no_group_choices(alloc: Global) -> GroupChoices {
     }
 }
 
-// Appends the choices with a pin in a group, the last pin first.
+// Appends to `to` the choice of each pin in a group, the last pin first.
 fn list_group(
     pins: &Chains,
     owners: &[u32],

@@ -16,6 +16,17 @@
 //! order. Delays past the first 1024 share lane 0; what does not fit its lane goes to the heap of
 //! the queue (`lw_queue`).
 //!
+//! The words of this crate:
+//!
+//! * choice: what may stand at a class; it is known by its number in the list of all, from 0;
+//! * match: a pattern of a cell at a class, with a class for each pin;
+//! * pin: a pin of the cell of a choice. All pins are numbered too, choice after choice: the owner
+//!   of a pin is its choice, and the first of a choice its first pin;
+//! * group: the pins of one class with one delay, in millionths of a unit of time, by its number.
+//!   Its members are its pins;
+//! * place: an index in an array, for `Chains` that of a pin or a group;
+//! * area: in millionths of a unit of area.
+//!
 //! The one definition to read is `AreListedChoices` in `specs/Choices.antt`: each that may stand at
 //! a class, and no other. Start at `lw_trade`. `lw_curves` calls `list_choices` and
 //! `pin_groups_of`, and `lw_backtrace` reads the choice of a point.

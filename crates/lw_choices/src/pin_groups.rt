@@ -34,10 +34,8 @@ pub struct PinGroups {
     pub by_group: GroupChoices,
 }
 
-/// The lane of the queue of coming groups in which a group waits.
-///
-/// A lane is for one delay. Points are found by rising time, so what one delay puts off comes in
-/// order. Delays past the first 1024 share lane 0.
+/// The lane in which a group waits in the queue of coming groups: one for each delay, since what
+/// one delay puts off comes in order. It is 0 past the first 1024 delays, and past the last group.
 pub fn lane_of(pin_groups: &PinGroups, group: u32) -> u32 {
     let group = group as usize;
     if group < pin_groups.lanes.len() {
@@ -47,7 +45,7 @@ pub fn lane_of(pin_groups: &PinGroups, group: u32) -> u32 {
     }
 }
 
-/// The pins of all choices in groups, for so many classes.
+/// The pins of all choices in groups, over so many classes. `rows` are the choices.
 pub fn pin_groups_of(
     alloc: Global,
     rows: &[ListedChoice],
@@ -63,7 +61,7 @@ pub fn pin_groups_of(
     Ok(pin_groups)
 }
 
-// A group of a class and a delay, if there is one.
+// The number of the group of a class and a delay in millionths, if there is one.
 fn group_with(links: &Chains, delays: &[u64], class: ClassId, delay: u64) -> Option<u32>
     requires class { class.0 < links.now.count }
     requires one_each { length delays.now ≡ length links.now.classes }
@@ -82,8 +80,8 @@ fn group_with(links: &Chains, delays: &[u64], class: ClassId, delay: u64) -> Opt
 // How many lanes there are at most.
 const MOST_LANES: usize = 1024;
 
-// The lane of a delay, which is added where there is none. Where there are as many as there may be,
-// it is lane 0.
+// The lane of a delay, which is added where there is none. Where there are as many lanes as there
+// may be, it is lane 0.
 fn lane_for(lane_delays: &mut Vec<u64>, delay: u64) -> Result<u32, AllocError> {
     for lane in 0..lane_delays.len().min(MOST_LANES) {
         if lane_delays[lane] == delay {
@@ -98,7 +96,7 @@ fn lane_for(lane_delays: &mut Vec<u64>, delay: u64) -> Result<u32, AllocError> {
     Ok(lane)
 }
 
-// Adds a group of a class and a delay.
+// Adds a group of a class and a delay, without pins, and gives its number.
 fn new_group(pin_groups: &mut PinGroups, class: ClassId, delay: u64) -> Result<u32, AllocError>
     requires class { class.0 < pin_groups.old.links.count }
     ensures count { pin_groups.new.links.count ≡ pin_groups.old.links.count }
@@ -113,7 +111,7 @@ fn new_group(pin_groups: &mut PinGroups, class: ClassId, delay: u64) -> Result<u
     Ok(group)
 }
 
-// The group of a class and a delay, which is added where there is none.
+// The number of the group of a class and a delay, which is added where there is none.
 fn group_for(pin_groups: &mut PinGroups, class: ClassId, delay: u64) -> Result<u32, AllocError>
     requires class { class.0 < pin_groups.old.links.count }
     requires are { AreGroups pin_groups.old }
@@ -127,7 +125,7 @@ fn group_for(pin_groups: &mut PinGroups, class: ClassId, delay: u64) -> Result<u
     new_group(pin_groups, class, delay)
 }
 
-// Adds a pin of a choice to the group of its class and its delay.
+// Adds a pin of a choice, by its number, to the group of its class and its delay.
 fn add_pin(
     pin_groups: &mut PinGroups,
     class: ClassId,
@@ -145,7 +143,7 @@ fn add_pin(
     Ok(())
 }
 
-// Adds the pins of a choice.
+// Adds the pins of a choice, by its number: their classes and their delays.
 fn add_pins(
     pin_groups: &mut PinGroups,
     delays: &[Micro],
@@ -172,7 +170,7 @@ fn add_first(pin_groups: &mut PinGroups) -> Result<(), AllocError>
     Ok(())
 }
 
-// Adds the pins of the next choice, if it has any.
+// Adds the pins of the next choice, if it has any. `row` is the choice, and `choice` its number.
 fn add_choice(
     pin_groups: &mut PinGroups,
     lib: &Library,
@@ -196,7 +194,7 @@ fn add_choice(
     }
 }
 
-// No pins, for so many classes.
+// Groups of no pins, over so many classes.
 fn no_uses(alloc: Global, classes: usize) -> Result<PinGroups, AllocError>
     ensures { IfOk result (HasNoUsesFor classes) }
 {

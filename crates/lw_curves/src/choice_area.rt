@@ -17,7 +17,7 @@ use lw_choices::{Stand, joined};
 use lw_fixed::Micro;
 use lw_pool::ClassId;
 
-/// When an input starts.
+/// When an input starts, in millionths: 0 past the last start that is given.
 pub(crate) fn start_of(starts: &[Micro], input: u32) -> u64
     ensures { result ≡ start_of (map millionths starts.now) input }
 {
@@ -29,7 +29,8 @@ pub(crate) fn start_of(starts: &[Micro], input: u32) -> u64
     }
 }
 
-/// The least area that a choice gives by a time, with the points that were found so far.
+/// The least area that a choice gives by a time, with the points that were found so far; none if it
+/// gives nothing by then.
 pub(crate) fn price(stand: &Stand, setup: &Setup, fronts: &Fronts, time: u64) -> Option<u64>
     requires { IsPartFor setup.now.lib.now (length fronts.now.least) (plain_part stand.now) }
     ensures low { IfSome result (λ area. area ≤ most_area) }
@@ -47,7 +48,8 @@ pub(crate) fn price(stand: &Stand, setup: &Setup, fronts: &Fronts, time: u64) ->
     }
 }
 
-// The least area of some pins together by a time.
+// The least area of some pins together by a time, each with its delay; none if one has no point by
+// then.
 fn area_of_pins(delays: &[Micro], pins: &[ClassId], fronts: &Fronts, time: u64) -> Option<u64>
     requires one_each { length delays.now ≡ length pins.now }
     requires within { All (λ (c : ClassId). c.0 < length fronts.now.least) pins.now }

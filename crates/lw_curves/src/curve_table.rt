@@ -58,7 +58,8 @@ impl Curves {
         part(self.points.as_slice(), first, end)
     }
 
-    /// The least area of the covers of a class that arrive by a time, as far as the curves go.
+    /// The least area of the covers of a class that arrive by a time, as far as the curves go; none
+    /// if there is no such cover.
     pub fn area_by(&self, class: ClassId, time: Micro) -> Option<u64>
         requires { class.0 < length self.now.points }
         ensures { (s : Task) (horizon : ℕ) → AreCurves s horizon self.now.points →
@@ -81,7 +82,8 @@ impl Curves {
         Some(self.of(class))
     }
 
-    /// The place of the last point of a class that comes by a time, with a delay.
+    /// The place of the last point of a class whose time plus `delay` is no later than `time`; none
+    /// if there is none.
     pub fn last_by(&self, class: ClassId, delay: u64, time: u64) -> Option<usize>
         ensures { IsLastOf self.now.points class.0 delay time result }
     {
@@ -110,7 +112,8 @@ impl Curves {
         self.points.len()
     }
 
-    /// What stands at the point of a class at a place.
+    /// What stands at the point of a class at a place: an input, or a cell with its pins. None past
+    /// the last.
     pub fn stand(&self, class: ClassId, place: u32) -> Option<&Stand>
         ensures { IfSome result (λ stand. IsStandAt self.now class.0 place stand.now) }
     {
@@ -126,7 +129,7 @@ impl Curves {
         Some(&self.choice(choice).stand)
     }
 
-    /// A choice: what may stand at which class.
+    /// The choice with this number: what may stand at which class.
     pub(crate) fn choice(&self, choice: u32) -> &ListedChoice
         requires { choice < length self.now.choices }
         ensures { slice_get self.now.choices choice ≡ Some (plain_row result.now) }
@@ -135,7 +138,8 @@ impl Curves {
     }
 }
 
-/// Groups points by their classes, beside what may stand at these.
+/// The curves of so many classes, made once by `curves`: the points of the fronts class by class,
+/// with the choices.
 pub(crate) fn group(
     alloc: Global,
     fronts: &Fronts,
@@ -161,7 +165,7 @@ pub(crate) fn group(
     })
 }
 
-// What stands at the places from one on and before another.
+// What stands at the places from `first` on and before `end`.
 fn part<T>(points: &[T], first: usize, end: usize) -> &[T]
     requires first { first ≤ end }
     requires end { end ≤ length points.now }
@@ -170,8 +174,8 @@ fn part<T>(points: &[T], first: usize, end: usize) -> &[T]
     &points[first..end]
 }
 
-// Lists the points of the classes, the last one of the last class first, how they came, and how
-// many points are listed before and behind those of each class.
+// Lists the points of the classes, the last one of the last class first, and how they came. `lefts`
+// gets how many are listed before each class, and at the end of all: `group` turns the lists round.
 fn push_rows(
     fronts: &Fronts,
     classes: u32,

@@ -72,7 +72,8 @@ fn settle_fronts(
     settle_all(setup, &mut seen, fronts, &mut coming, queue)
 }
 
-// The points of so many classes up to a horizon.
+// The points of so many classes up to a horizon, by the choices and groups of a setup. `queue` has
+// the choices that wait at the start.
 fn settle_setup(
     alloc: Global,
     setup: &Setup,
@@ -90,7 +91,8 @@ fn settle_setup(
     Ok(fronts)
 }
 
-// Settles the points of all classes up to a horizon, by what may stand at them.
+// The points of so many classes up to a horizon, by the choices in `rows`: it makes the groups and
+// the queue.
 fn settle_rows(
     alloc: Global,
     rows: &[ListedChoice],

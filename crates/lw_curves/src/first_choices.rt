@@ -13,7 +13,8 @@ use lw_fixed::Micro;
 use lw_queue::Queue;
 use std::alloc::{AllocError, Global};
 
-/// The queue in which the choices wait that need no points of pins.
+/// The queue at the start, in which the choices wait that need no points of pins: each until the
+/// time at which it gives one, if that is within the horizon.
 pub(crate) fn started(
     alloc: Global,
     rows: &[ListedChoice],
@@ -30,7 +31,8 @@ pub(crate) fn started(
     Ok(queue)
 }
 
-// When a choice gives its class a point that needs no point of a pin.
+// When a choice gives its class a point that needs no point of a pin: an input at its start, and a
+// cell without pins at 0. None for other cells.
 fn first_time(stand: &Stand, starts: &[Micro]) -> Option<u64>
     ensures { (s : Task) (t a : ℕ) → s.starts ≡ starts.now → Gives s [] (plain_part stand.now) t a →
         result ≡ Some t }
@@ -46,7 +48,7 @@ fn first_time(stand: &Stand, starts: &[Micro]) -> Option<u64>
     }
 }
 
-// Lets a choice wait that needs no point of a pin.
+// Lets the choice with this number wait, if it needs no point of a pin.
 fn push_start(
     queue: &mut Queue,
     row: &ListedChoice,

@@ -3,7 +3,8 @@ ghost use Rattle.lw_curves.specs.Lasts.{ArePointsRising, IsLastPlace};
 
 use crate::point::Point;
 
-/// The place of the last of some points that comes by a time, with a delay.
+/// The place of the last of some points whose time plus `delay` is no later than `time`, in
+/// millionths; none if each is later.
 pub fn last_by(points: &[Point], delay: u64, time: u64) -> Option<usize>
     ensures { ArePointsRising points.now → IsLastPlace points.now delay time result }
 {

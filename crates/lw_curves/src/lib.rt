@@ -21,6 +21,21 @@
 //! * `curve_table`: the points by class, with their choices (`Curves`);
 //! * `last_point`: the last point of a class by a time.
 //!
+//! The words of this crate:
+//!
+//! * point: a time, and the least area of the covers of a class that arrive by then, where less
+//!   time buys only more area. A class gains a point when one is found with less area;
+//! * choice: an input or a match at a class, by its number in the list of all (`rows`);
+//! * group: the pins of choices that have one class and one delay, by its number;
+//! * seen: the least area of the points of its class that have come to a group, `UNSEEN` at first;
+//! * tally: of a choice, its class and a bound of its area: its cell and what the groups of its
+//!   pins have seen;
+//! * queue: `queue` has the choices that wait for a time, and `coming` the groups that come at one;
+//! * front: the points of a class that were found so far. A place is an index among the points of
+//!   all classes, or in `Curves` among those of one class. A hint is a place that need not be
+//!   right;
+//! * way: how a point came: by which choice, and as which gain.
+//!
 //! The one definition to read is `AreCurves` in `specs/Points.antt`. Start at `lw_trade`, through
 //! which `lw_map` calls `curves`; `lw_backtrace` reads what comes out.
 #![tactic(auto)]

@@ -38,7 +38,7 @@ impl Model for Fronts {
     ghost invariant = { λ f. IsFronts f.links f.points.items f.least.items f.gains };
 }
 
-// More than any area.
+// More than any area, which is 2^62 millionths at most.
 const NO_AREA: u64 = 4_611_686_018_427_387_905;
 
 impl Fronts {
@@ -61,7 +61,7 @@ impl Fronts {
         self.links.len()
     }
 
-    /// The least area of the points of a class by a time.
+    /// The least area of the points of a class by a time, none if it has no point by then.
     pub(crate) fn area_by(&self, class: ClassId, time: u64) -> Option<u64>
         requires { class.0 < length self.now.least }
         ensures { IsLeastSpot self.now.spots class.0 time result }
@@ -69,8 +69,8 @@ impl Fronts {
         area_by(&self.links, self.points.as_slice(), class, time)
     }
 
-    /// The least area of the points of a class by a time, where the point at this time may stand at
-    /// a place.
+    /// The least area of the points of a class by a time, as `area_by` gives it. It is found at
+    /// once if `place` is where a point of the class at just this time stands.
     pub(crate) fn area_near(&self, class: ClassId, time: u64, place: u64) -> Option<u64>
         requires { class.0 < length self.now.least }
         ensures { IsLeastSpot self.now.spots class.0 time result }
@@ -82,7 +82,8 @@ impl Fronts {
         area_by(&self.links, points, class, time)
     }
 
-    /// Where the last point of a class stands.
+    /// Where the last point of a class stands, `u64::MAX` if it has none. Groups that come have it
+    /// as a hint.
     pub(crate) fn last_place(&self, class: ClassId) -> u64
         requires { class.0 < length self.now.least }
     {
@@ -92,7 +93,7 @@ impl Fronts {
         }
     }
 
-    /// Puts the points of a class and how they came behind others, the last one first.
+    /// Appends the points of a class to `to`, and how they came to `ways`, the last one first.
     pub(crate) fn push_row(
         &self,
         class: ClassId,
@@ -106,7 +107,8 @@ impl Fronts {
         push_row(&self.links, self.points.as_slice(), class, to, ways)
     }
 
-    /// Whether all points of a class have more than an area.
+    /// Whether all points of a class have more than an area. The contract alone needs `time`, which
+    /// none of them is after.
     pub(crate) fn is_less(&self, class: ClassId, time: u64, area: u64) -> bool
         requires { MayTry self.now class.0 time area }
         ensures { IsLessOr self.now.spots class.0 time area result }
@@ -154,7 +156,8 @@ impl Fronts {
     }
 }
 
-// The last place of a class, where its point is of a time that no point of the class is after.
+// The place of the last point of a class if that is of this time, which no point of the class is
+// after; else none.
 fn place_at(links: &Chains, points: &[Found], class: ClassId, time: Micro) -> Option<u32>
     requires class { class.0 < links.now.count }
     requires are { AreFoundAt links.now.classes points.now }
@@ -170,7 +173,8 @@ fn place_at(links: &Chains, points: &[Found], class: ClassId, time: Micro) -> Op
     None
 }
 
-// The least area of the points of a class by a time.
+// The least area of the points of a class by a time, none if it has no point by then. It goes back
+// from the last point, by jumps where they lead to points that are still too late.
 fn area_by(links: &Chains, points: &[Found], class: ClassId, time: u64) -> Option<u64>
     requires class { class.0 < links.now.count }
     requires are { AreFoundAt links.now.classes points.now }
@@ -188,7 +192,7 @@ fn area_by(links: &Chains, points: &[Found], class: ClassId, time: u64) -> Optio
     Some(points[place as usize].area)
 }
 
-// The area of the point at a place, if that is one of a class at a time.
+// The area of the point at a place, if that is one of a class at a time; else none.
 fn area_at(links: &Chains, points: &[Found], class: ClassId, time: u64, place: u64) -> Option<u64>
     requires { AreFoundAt links.now.classes points.now }
     ensures { IfSome result (λ area. IsLeastSpot (spots_of links.now.classes points.now) class.0
@@ -205,8 +209,7 @@ fn area_at(links: &Chains, points: &[Found], class: ClassId, time: u64, place: u
     Some(found.area)
 }
 
-// From a point the place of one before the one that it leads to, where that is as near to that as
-// it is to the point.
+// Where two jumps from a point lead, if both leave out as many points of the class; else none.
 fn far_jump(points: &[Found], point: Found) -> Option<u32> {
     if point.jump as usize >= points.len() {
         return None;
@@ -222,8 +225,9 @@ fn far_jump(points: &[Found], point: Found) -> Option<u32> {
     Some(near.jump)
 }
 
-// How many points of a class are before a new one, and the place of one of them: from one to the
-// next a search leaves out about half of those that are left.
+// What a new point of a class gets: how many points of the class are before it, and where it jumps
+// to, `u32::MAX` for the first. From one to the next a search leaves out about half of those that
+// are left.
 fn jump_for(links: &Chains, points: &[Found], class: ClassId, time: u64) -> (u32, u32)
     requires { MayJump links.now points.now class.0 }
 {
@@ -240,7 +244,7 @@ fn jump_for(links: &Chains, points: &[Found], class: ClassId, time: u64) -> (u32
     )
 }
 
-// Puts a point of a class behind all, or in place of the last one of the class where that is of the
+// Puts a point of a class after all, or in place of the last one of the class where that is of the
 // same time.
 fn put(
     links: &mut Chains,
@@ -266,7 +270,7 @@ fn put(
     Ok(())
 }
 
-// Puts the points of a class and how they came behind others, the last one first.
+// Appends the points of a class to `to`, and how they came to `ways`, the last one first.
 fn push_row(
     links: &Chains,
     points: &[Found],

@@ -25,6 +25,7 @@ impl From<AllocError> for CurveFault {
 
     ghost from_gives = { λ e fault. fault ≡ Memory };
 
+    // Running out of memory is the fault `Memory`.
     fn from(_: AllocError) -> Self {
         CurveFault::Memory
     }

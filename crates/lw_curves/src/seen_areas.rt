@@ -21,7 +21,8 @@ pub(crate) struct Seen {
     pub tallies: Vec<Tally>,
 }
 
-/// No group has seen a point yet.
+/// What is seen at the start, made once by `finding`: for each of `groups` the area `UNSEEN`, above
+/// any sum of areas in millionths, and for each choice in `rows` its first tally.
 pub(crate) fn none_seen(
     alloc: Global,
     rows: &[ListedChoice],
@@ -38,7 +39,9 @@ pub(crate) fn none_seen(
     Ok(Seen { areas, tallies })
 }
 
-/// Lets a group see the last point of its class that comes by a time. It may stand at a place.
+/// Lets a group see the last point of its class that comes, by the group's delay, no later than
+/// `time`. If that has less area, the bounds of the group's choices fall. `place` is where the
+/// point may stand.
 pub(crate) fn see(
     pin_groups: &PinGroups,
     fronts: &Fronts,

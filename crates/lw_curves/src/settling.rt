@@ -17,7 +17,7 @@ use lw_pool::ClassId;
 use lw_queue::Queue;
 use std::alloc::AllocError;
 
-// Lets a choice wait at a time, unless that is past the horizon.
+// Lets the choice with this number wait at a time, unless that is past the horizon.
 pub(crate) fn push_due(queue: &mut Queue, time: u64, number: u32) -> Result<(), AllocError>
     ensures { MatchResult result (λ _. IsLetWait queue.old queue.new time number)
         (λ _. queue.new.horizon ≡ queue.old.horizon) }
@@ -36,7 +36,8 @@ pub(crate) struct Gain {
     pub hint: u64,
 }
 
-// Gives the classes their points at a time, before which nothing waits or comes.
+// Gives the classes their points at a time, before which nothing waits or comes. With each point
+// the groups of its class come later.
 pub(crate) fn settle_at(
     setup: &Setup,
     seen: &mut Seen,
@@ -113,7 +114,7 @@ fn push_after(
     Ok(())
 }
 
-// Lets all groups of a class come that gained a point.
+// Lets all groups of a class that gained a point come, each by its delay after that.
 fn push_groups(
     pin_groups: &PinGroups,
     to: &mut Queue,
@@ -136,8 +137,8 @@ fn push_groups(
     Ok(())
 }
 
-// Looks at the choices that wait at a time until one gives its class a point, and says which class
-// it is.
+// Prices the choices that wait at a time until one gives its class a point, and says which class it
+// is; none if none does.
 fn next_gain(
     setup: &Setup,
     seen: &Seen,
@@ -175,8 +176,8 @@ fn next_gain(
     Ok(None)
 }
 
-// Looks at the groups that come at a time, and then at the choices that wait until one gives its
-// class a point, and says which class it is.
+// Looks at the groups that come at a time, and then prices the choices that wait until one gives
+// its class a point, and says which class it is.
 fn gain_at(
     setup: &Setup,
     seen: &mut Seen,
@@ -194,7 +195,7 @@ fn gain_at(
     next_gain(setup, seen, fronts, coming, queue, time)
 }
 
-// The first time at which something waits in one of two queues.
+// The first time at which a group comes or a choice waits, none if nothing is left.
 fn first_time(coming: &Queue, queue: &Queue) -> Option<u64>
     ensures { IsFirstOf coming.now queue.now result }
 {

@@ -14,7 +14,8 @@ use lw_pool::ClassId;
 use std::alloc::{AllocError, Global};
 
 /// The class of a choice, and no more than the area of its cell and what the groups of its pins
-/// have seen together: a bound below 2^96, in two parts, since a `u128` would double the size.
+/// have seen together: a bound in millionths, below 2^96. It is in two parts, since a `u128` would
+/// double the size.
 #[derive(Clone, Copy)]
 pub(crate) struct Tally {
     low: u64,
@@ -29,7 +30,7 @@ const _: () = prove!(size_of::<Tally>() == 16);
 const HIGH_UNIT: u128 = 1 << 64;
 
 impl Tally {
-    /// The tally of a class with a bound.
+    /// The tally of a class with a bound, which is put in two parts.
     pub(crate) fn new(bound: u128, class: ClassId) -> Self
         requires { bound < 2 ^ 96 }
         ensures bound { bound_of result ≡ bound }
@@ -54,7 +55,7 @@ impl Tally {
 // have seen some.
 pub(crate) const UNSEEN: u128 = 147_573_952_589_676_412_928;
 
-/// The tallies of choices whose groups have seen nothing.
+/// The tallies of all choices at the start, when no group has seen a point.
 pub(crate) fn first_tallies(
     alloc: Global,
     rows: &[ListedChoice],
@@ -71,8 +72,8 @@ pub(crate) fn first_tallies(
     Ok(tallies)
 }
 
-/// Lets the bounds of the choices with a pin in a group fall by what the area fell that it has
-/// seen.
+/// Lets the bounds of the choices with a pin in a group fall by `fall`, by which the area fell that
+/// the group has seen: once for each such pin.
 pub(crate) fn lower_tallies(pin_groups: &PinGroups, tallies: &mut [Tally], group: u32, fall: u128)
     requires group { group < pin_groups.now.members.count }
     requires by_group { AreGroupChoices pin_groups.now }
@@ -88,7 +89,7 @@ pub(crate) fn lower_tallies(pin_groups: &PinGroups, tallies: &mut [Tally], group
     }
 }
 
-// The tally of a choice whose groups have seen nothing.
+// The tally of a choice at the start: the area of its cell, and `UNSEEN` for each pin.
 fn first_tally(lib: &Library, row: &ListedChoice) -> Tally
     requires { IsOfLibrary lib.now (plain_part row.now.stand) }
     ensures { IsFirstTally lib.now (plain_row row.now) result }
@@ -104,7 +105,7 @@ fn first_tally(lib: &Library, row: &ListedChoice) -> Tally
     }
 }
 
-// Lets the bound of a choice fall.
+// Lets the bound of the choice with this number fall.
 fn lower_tally(tallies: &mut [Tally], number: u32, fall: u128)
     ensures { IsLowered tallies.old tallies.new number fall }
 {

@@ -20,7 +20,8 @@ pub(crate) struct View<'a, 'b, 'c, 'd> {
     pub fronts: &'d Fronts,
 }
 
-/// Whether by what its groups have seen a choice may give more at a time than what is had.
+/// Whether the choice with this number may give its class a point at a time. By its tally, each
+/// group of its pins has seen a point, and its area may be less than the class has.
 pub(crate) fn may_give(at: &View, number: u32, time: u64) -> bool
     requires { IsReadyFor at.now.setup.now time at.now.seen.now at.now.fronts.now }
     ensures listed { IsTrue result → number < length at.now.setup.now.rows.now }
@@ -39,7 +40,8 @@ pub(crate) fn may_give(at: &View, number: u32, time: u64) -> bool
     at.fronts.is_less(tally.class, time, area)
 }
 
-/// Looks at the choices of the groups that come at a time.
+/// Takes the groups that come at a time from `coming`. Each sees the last point of its class, and
+/// then those of its choices wait in `queue` that may give a point at that time.
 pub(crate) fn look_at_groups(
     setup: &Setup,
     seen: &mut Seen,
@@ -70,8 +72,8 @@ pub(crate) fn look_at_groups(
     Ok(())
 }
 
-// Lets a choice wait at a time, unless by what its groups have seen it gives no more then than what
-// is had.
+// Lets the choice with this number wait at a time, if `may_give` says that it may give a point
+// then.
 fn look_at(at: &View, queue: &mut Queue, number: u32, time: u64) -> Result<(), AllocError>
     requires time { time ≤ queue.old.horizon }
     requires ready { IsReadyFor at.now.setup.now time at.now.seen.now at.now.fronts.now }
@@ -85,8 +87,7 @@ fn look_at(at: &View, queue: &mut Queue, number: u32, time: u64) -> Result<(), A
     Ok(())
 }
 
-// Lets the choices wait at a time that have a pin in a group, but for those that give no more then
-// than what is had.
+// Lets the choices with a pin in a group wait at a time, those that may give a point then.
 fn look_at_group(at: &View, queue: &mut Queue, group: u32, time: u64) -> Result<(), AllocError>
     requires time { time ≤ queue.old.horizon }
     requires ready { IsReadyAt at.now.setup.now time at.now.seen.now at.now.fronts.now group }

@@ -4,7 +4,9 @@ mod Picking
 mod Sorting
 pub mod Assembly
 mod ChosenMatches
+mod ClassChoices
 mod ClassNets
 mod GateLists
 mod Places
 mod Uncovered
+pub mod PortLists

@@ -1,5 +1,5 @@
 -- The needed classes with their chosen matches, and how they are found from the highest down.
-use Rattle.std.specs.Prelude.{ℕ, ◌≡◌, All, IsSome, List, map, None, Option, Some, slice_get, slice_index_or}
+use Rattle.std.specs.Prelude.{ℕ, ◌≡◌, All, IsSome, List, length, map, MatchOption, None, Option, Some, slice_get, slice_index_or}
 use Rattle.lw_pool.specs.declared.id.ClassId.{ClassId}
 use Rattle.lw_laws.specs.Graphs.{Graph}
 use Rattle.lw_laws.specs.Costs.{Cost}
@@ -7,7 +7,7 @@ use Rattle.lw_laws.specs.Covers.{Pattern}
 use Rattle.lw_laws.specs.Choices.{Labels}
 use Rattle.lw_laws.specs.Marks.{heights_of}
 use Rattle.lw_laws.specs.Rounds.{labels_in}
-use Rattle.lw_laws.specs.Extracts.{IsChosen, AreGateClasses}
+use Rattle.lw_laws.specs.Extracts.{IsChosen, IsLeafClass, AreGateClasses}
 use Rattle.lw_laws.specs.MatchLists.{Gated}
 use Rattle.lw_cost.specs.declared.mark.Mark.{Mark}
 use Rattle.lw_cost.specs.declared.mark.Match.{Match}
@@ -30,6 +30,16 @@ RootsHaveMarks marks roots = All (λ (root : ClassId). IsSome (slice_index_or ma
 -- the match is the chosen one of the class
 abbrev pub IsChoice : Graph → Cost → List Pattern → List (Option Mark) → ℕ → Match → Type 0
 IsChoice g cost pats marks c found = (p : Pattern) × IsChosen g cost pats (labels marks) (heights marks) c (plain_match found) p
+
+-- what is found for a class: its chosen match, and nothing if the class is an input's or has no mark
+abbrev pub IsClassChoice : Graph → Cost → List Pattern → List (Option Mark) → ℕ → Option Match → Type 0
+IsClassChoice g cost pats marks c found =
+    MatchOption found ((IsLeafClass g c → ⊥) → slice_index_or marks c None ≡ None) (λ m. (IsLeafClass g c → ⊥) × IsChoice g cost pats marks c m)
+
+-- what is found for the classes of the graph, in the order of their numbers
+pub record AreClassChoices (g : Graph) (cost : Cost) (pats : List Pattern) (marks : List (Option Mark)) (all : List (Option Match)) : Type 0 where
+  pub one_each : length all ≡ length g.pairs
+  pub each : (c : ℕ) (found : Option Match) → slice_get all c ≡ Some found → IsClassChoice g cost pats marks c found
 
 abbrev pub chosen_classes : List Chosen → List ℕ
 chosen_classes chosen = map (λ (x : Chosen). x.class.0) chosen

@@ -12,9 +12,13 @@ use Rattle.lw_extract.specs.declared.ports.Cover.{Cover}
 use Rattle.lw_extract.specs.Choosing.{AreChosen, IsChoice, RootsHaveMarks}
 use Rattle.lw_extract.specs.Covers.{AreFit, AreLibraryLabels, IsCoverBy}
 
--- the labels are least for patterns of the library's cells, with the starts of the inputs; the ports fit, and each root has a label
+-- the labels are least for patterns of the library's cells, with the starts of the inputs
+abbrev pub AreJobLabels : {C : Type 0} → (C → Cost) → Job C → Type 0
+AreJobLabels costs job = AreLibraryLabels job.graph.now (costs job.cost.now) job.pats.now job.lib.now job.marks.now
+
+-- and the ports fit, and each root has a label
 pub record CanCover {C : Type 0} (costs : C → Cost) (job : Job C) : Type 0 where
-  pub labels : AreLibraryLabels job.graph.now (costs job.cost.now) job.pats.now job.lib.now job.marks.now
+  pub labels : AreJobLabels costs job
   pub fit : AreFit job.graph.now job.ports.now
   pub covered : RootsHaveMarks job.marks.now job.ports.now.roots
 

@@ -18,7 +18,7 @@ use lw_pattern::Patterns;
 use lw_pool::{ClassId, Classes, Name, Names, NetId};
 use std::alloc::{AllocError, Global};
 
-// The classes of the gates.
+// The classes of the gates, in the order of a list of matches.
 fn classes_of(alloc: Global, chosen: &[Chosen]) -> Result<Classes, AllocError>
     ensures { IfOk result (λ classes. numbers classes ≡ chosen_classes chosen.now) }
 {
@@ -29,7 +29,8 @@ fn classes_of(alloc: Global, chosen: &[Chosen]) -> Result<Classes, AllocError>
     Ok(Classes::from_vec(classes))
 }
 
-// The names of the inputs and of the gates of some classes.
+// The names of all nets: of the inputs, and of the gates of these classes. A gate has the name of
+// the first output of its class, and else a free one.
 fn names_of(
     alloc: Global,
     graph: &Graph,
@@ -46,7 +47,8 @@ fn names_of(
     net_names(alloc, inputs, outputs, roots, classes, gates)
 }
 
-// The netlist of matches, over the nets of their classes and of the inputs'.
+// The netlist of a list of matches. `nets` has the net of the class of each input and match, and
+// none for other classes.
 pub(crate) fn assemble_over(
     alloc: Global,
     graph: &Graph,
@@ -72,9 +74,9 @@ pub(crate) fn assemble_over(
 }
 
 /// The netlist that a list of matches makes, a gate for each in their order. Each match is one at
-/// its class by some numbers of pins of the cells, each pin is an input's class or stands earlier
-/// in the list, no class stands twice or is an input's, and each output's class is an input's or
-/// stands in the list.
+/// its class by some numbers of pins of the cells, and each pin is an input's class or stands
+/// earlier in the list. No class stands twice or is an input's, and each output's class is an
+/// input's or stands in the list.
 pub fn assemble(
     alloc: Global,
     graph: &Graph,

@@ -1,7 +1,7 @@
 // The classes that are needed, each with its chosen match.
 ghost use Rattle.std.specs.Prelude.{IfOk, reverse};
 ghost use Rattle.lw_match.specs.Cutting.{AreKnown};
-ghost use Rattle.lw_extract.specs.Jobs.{AreJobBounds, AreJobChoices, CanCover, FindsChoice, IsInnerClass};
+ghost use Rattle.lw_extract.specs.Jobs.{AreJobBounds, AreJobChoices, AreJobLabels, CanCover, FindsChoice, IsInnerClass};
 ghost use Rattle.lw_extract.specs.Orders.{AreByHeight};
 ghost use Rattle.lw_extract.specs.Nets.{AreInputNets};
 
@@ -21,9 +21,15 @@ pub struct Chosen {
     pub found: Match,
 }
 
-// The chosen match of a class: the first of those that attain its label and its height.
-fn choice<C: Cost>(job: &Job<C>, bounds: &Bounds, tops: &mut Tops, class: ClassId) -> Option<Match>
-    requires ready { CanCover C.costs job.now }
+// The chosen match of a class: the first of those that attain its label and its height, and none if
+// it has no label.
+pub(crate) fn choice<C: Cost>(
+    job: &Job<C>,
+    bounds: &Bounds,
+    tops: &mut Tops,
+    class: ClassId,
+) -> Option<Match>
+    requires labels { AreJobLabels C.costs job.now }
     requires bounds { AreJobBounds job.now bounds.now }
     requires class { IsInnerClass job.now.graph.now class.0 }
     requires known { AreKnown (C.costs job.now.cost.now) job.now.pats.now bounds.now.gaps tops.old }
@@ -40,8 +46,8 @@ fn choice<C: Cost>(job: &Job<C>, bounds: &Bounds, tops: &mut Tops, class: ClassI
     Some(best.found)
 }
 
-// The needed classes that are no input's, from the highest down, each with its chosen match. A
-// class is lower than each whose chosen match has it as a pin.
+// The needed classes of these places that are no input's, from the highest down, each with its
+// chosen match. A class is lower than each whose chosen match has it as a pin.
 fn choose_down<C: Cost>(
     alloc: Global,
     job: &Job<C>,
@@ -72,6 +78,7 @@ fn choose_down<C: Cost>(
 }
 
 // The needed classes that are no input's, by height and then class, each with its chosen match.
+// Here `nets` has the nets of the inputs' classes alone.
 pub(crate) fn choose<C: Cost>(
     alloc: Global,
     job: &Job<C>,

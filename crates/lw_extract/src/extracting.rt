@@ -19,7 +19,7 @@ use lw_pattern::Patterns;
 use lw_pool::ClassId;
 use std::alloc::{AllocError, Global};
 
-// The first of the roots that has no mark.
+// The place, from 0, of the first root that has no mark, and none if each has one.
 fn first_uncovered(marks: &[Option<Mark>], roots: &[ClassId]) -> Option<u32>
     requires few { length roots.now < 2 ^ 32 }
     requires in_range { All (λ root. root.0 < length marks.now) roots.now }
@@ -35,7 +35,7 @@ fn first_uncovered(marks: &[Option<Mark>], roots: &[ClassId]) -> Option<u32>
     None
 }
 
-// The netlist of the chosen matches.
+// The netlist of the chosen matches, by a table of bounds for the labels.
 fn cover<C: Cost>(alloc: Global, job: &Job<C>, bounds: &Bounds) -> Result<Cover, AllocError>
     requires ready { CanCover C.costs job.now }
     requires bounds { AreJobBounds job.now bounds.now }
@@ -67,9 +67,9 @@ fn cover_with<C: Cost>(
 }
 
 /// The netlist that the labels of a graph's classes give to some outputs, by a table of bounds for
-/// them where one is at hand: a gate for each class that is needed, the chosen match of the class.
-/// Each net costs the label of its class. `NoCover` comes exactly where the class of an output has
-/// no label.
+/// them where one is at hand. It has a gate for each class that is needed, the chosen match of the
+/// class. Each net costs the label of its class. `NoCover` comes exactly where the class of an
+/// output has no label.
 pub fn extract_with<C: Cost>(
     alloc: Global,
     graph: &Graph,

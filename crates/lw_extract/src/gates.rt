@@ -11,7 +11,7 @@ use lw_pattern::Patterns;
 use lw_pool::{ClassId, Name, NetId, Nets};
 use std::alloc::{AllocError, Global};
 
-// The nets of some classes.
+// The nets of some classes, as `nets` has them by class.
 fn nets_of(alloc: Global, nets: &[Option<NetId>], classes: &[ClassId]) -> Result<Nets, AllocError>
     requires { HaveNets nets.now classes.now }
     ensures { IfOk result (λ found. map Some found ≡ map (net_in nets.now) classes.now) }
@@ -25,7 +25,7 @@ fn nets_of(alloc: Global, nets: &[Option<NetId>], classes: &[ClassId]) -> Result
     Ok(Nets::from_vec(found))
 }
 
-// The gate of a match.
+// The gate of a match, which drives the net `out`.
 fn gate_of(
     alloc: Global,
     pats: &Patterns,
@@ -42,7 +42,8 @@ fn gate_of(
     Ok(Gate { cell, pins, out })
 }
 
-// The gates of matches, in order.
+// The gates of matches, in order. The j-th drives net `inputs + j`, after the nets of so many
+// inputs.
 pub(crate) fn gates_of(
     alloc: Global,
     pats: &Patterns,
@@ -63,7 +64,7 @@ pub(crate) fn gates_of(
     Ok(Gates::from_vec(gates))
 }
 
-// The outputs at the nets of their roots.
+// The outputs with their names, at the nets of their roots.
 pub(crate) fn outputs_of(
     alloc: Global,
     nets: &[Option<NetId>],

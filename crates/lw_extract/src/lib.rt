@@ -17,10 +17,22 @@
 //! * `extracting`: from labels to the netlist (`extract_with`);
 //! * `laws`: theorems on when nets arrive.
 //!
+//! The words of this crate:
+//!
+//! * label: the least cost of a cover of a class, in units of the cost, with the class's height in
+//!   gates. The code has both as a mark;
+//! * match: a pattern of a cell at a class, with a class for each pin. It attains label and height
+//!   if they are its own: its cost, and one gate more than its highest pin has;
+//! * needed: the class of an output, or of a pin of the chosen match of a needed class;
+//! * bounds: a table by which the search for the chosen match is cut, and `tops` are costs at which
+//!   the table may be trusted;
+//! * nets: a net or none for each class. Nets are numbered from 0, inputs first and then gates.
+//!
 //! The one definition to read is `IsCoverBy` in `specs/Covers.antt`. `lw_map` calls `extract_with`.
 #![tactic(auto)]
 
 mod assembling;
+mod attaining;
 mod choosing;
 mod extracting;
 mod fault;
@@ -32,6 +44,7 @@ mod ordering;
 mod ports;
 
 pub use assembling::assemble;
+pub use attaining::attaining_matches;
 pub use choosing::Chosen;
 pub use extracting::{extract, extract_with};
 pub use fault::ExtractFault;

@@ -8,7 +8,7 @@ use lw_graph::Graph;
 use lw_pool::NetId;
 use std::alloc::{AllocError, Global};
 
-// The nets of the inputs' classes.
+// A net or none for each class: net i for the class of input i, and none for the others.
 pub(crate) fn input_nets(alloc: Global, graph: &Graph) -> Result<Vec<Option<NetId>>, AllocError>
     ensures { IfOk result (λ nets. AreInputNets graph.now nets.items) }
 {
@@ -19,7 +19,7 @@ pub(crate) fn input_nets(alloc: Global, graph: &Graph) -> Result<Vec<Option<NetI
     Ok(nets)
 }
 
-// Gives the class of the j-th gate net `inputs + j`, behind the nets of the inputs.
+// Gives the class of the j-th match net `inputs + j`, after the nets of the inputs.
 pub(crate) fn add_gates(nets: &mut [Option<NetId>], inputs: u32, chosen: &[Chosen])
     requires few { inputs + length chosen.now < 2 ^ 32 }
     requires in_range { All (λ x. x.class.0 < length nets.old) chosen.now }

@@ -7,7 +7,8 @@ use lw_naming::{Place, sort_places};
 use lw_pool::{ClassId, NetId};
 use std::alloc::{AllocError, Global};
 
-// The classes with marks that are no input's, by height and then class.
+// The classes with marks that are no input's, so that `nets` has none for them, by height and then
+// class.
 pub(crate) fn by_height(
     alloc: Global,
     nets: &[Option<NetId>],

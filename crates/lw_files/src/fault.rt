@@ -38,6 +38,7 @@ pub enum FileFault {
 impl From<AllocError> for FileFault {
     ghost from_gives = { λ _ e. e ≡ Memory };
 
+    // Running out of memory is the fault `Memory`.
     fn from(_e: AllocError) -> FileFault {
         FileFault::Memory
     }

@@ -7,6 +7,7 @@ use lw_fixed::DecimalFault;
 use lw_genlib::LibKind;
 use lw_mapped::MappedKind;
 
+/// The text of the rule that a line of a network breaks.
 pub fn blif_text(kind: &BlifKind) -> &[u8]
     ensures { result.now ≡ blif_text kind.now }
 {
@@ -27,6 +28,7 @@ pub fn blif_text(kind: &BlifKind) -> &[u8]
     }
 }
 
+// The text of what is wrong with a decimal.
 fn decimal_fault_text(fault: &DecimalFault) -> &[u8]
     ensures { result.now ≡ decimal_fault_text fault.now }
 {
@@ -38,6 +40,7 @@ fn decimal_fault_text(fault: &DecimalFault) -> &[u8]
     }
 }
 
+/// The text of the rule that a line of a library breaks.
 pub fn lib_text(kind: &LibKind) -> &[u8]
     ensures { result.now ≡ lib_text kind.now }
 {
@@ -58,6 +61,7 @@ pub fn lib_text(kind: &LibKind) -> &[u8]
     }
 }
 
+/// The text of the rule that a line of a mapped netlist breaks.
 pub fn mapped_kind_text(kind: &MappedKind) -> &[u8]
     ensures { result.now ≡ mapped_kind_text kind.now }
 {

@@ -7,7 +7,7 @@ use itoa::Buffer;
 use lw_fixed::{Micro, print};
 use lw_io::{Sink, Writer};
 
-/// A whole number.
+/// Writes a whole number in decimal.
 pub fn put_number<S: Sink>(out: &mut Writer<'_, S>, number: u128)
     ensures { Writes S.taken S.faults out.old out.new (decimal number) }
 {
@@ -15,7 +15,7 @@ pub fn put_number<S: Sink>(out: &mut Writer<'_, S>, number: u128)
     out.put(digits.format(number).as_bytes());
 }
 
-/// A time.
+/// Writes a time, which is in millionths, as a decimal in units.
 pub fn put_time<S: Sink>(out: &mut Writer<'_, S>, time: Micro)
     ensures { Writes S.taken S.faults out.old out.new (decimal_text time.0) }
 {
@@ -24,6 +24,7 @@ pub fn put_time<S: Sink>(out: &mut Writer<'_, S>, time: Micro)
     out.put(&text[..count]);
 }
 
+/// Writes two pieces, one after the other.
 pub fn put_two<S: Sink>(out: &mut Writer<'_, S>, first: &[u8], second: &[u8])
     ensures { Writes S.taken S.faults out.old out.new (first.now ++ second.now) }
 {
@@ -31,6 +32,7 @@ pub fn put_two<S: Sink>(out: &mut Writer<'_, S>, first: &[u8], second: &[u8])
     out.put(second);
 }
 
+/// Writes three pieces, one after another.
 pub fn put_three<S: Sink>(out: &mut Writer<'_, S>, first: &[u8], second: &[u8], third: &[u8])
     ensures { Writes S.taken S.faults out.old out.new (first.now ++ (second.now ++ third.now)) }
 {
@@ -38,6 +40,7 @@ pub fn put_three<S: Sink>(out: &mut Writer<'_, S>, first: &[u8], second: &[u8], 
     put_two(out, second, third);
 }
 
+/// Writes four pieces, one after another.
 pub fn put_four<S: Sink>(
     out: &mut Writer<'_, S>,
     first: &[u8],
@@ -52,7 +55,7 @@ pub fn put_four<S: Sink>(
     put_three(out, second, third, fourth);
 }
 
-/// A piece, a number behind it, and another piece.
+/// Writes a piece, a number in decimal after it, and another piece.
 pub fn put_count<S: Sink>(out: &mut Writer<'_, S>, before: &[u8], number: u128, behind: &[u8])
     ensures { Writes S.taken S.faults out.old out.new
         (before.now ++ (decimal number ++ behind.now)) }

@@ -16,6 +16,7 @@ const MAX_LEN: usize = 67_108_864;
 /// How many bytes are read at once at most.
 const PIECE: usize = 4096;
 
+// Why an open file was not read to its end.
 #[derive(Clone, Copy, PartialEq, Eq)]
 enum ReadError {
     Failed,
@@ -25,6 +26,7 @@ enum ReadError {
 impl From<Failed> for ReadError {
     ghost from_gives = { λ _ e. e ≡ ReadFailed };
 
+    // The shelf failed.
     fn from(_e: Failed) -> ReadError {
         ReadError::Failed
     }
@@ -33,12 +35,14 @@ impl From<Failed> for ReadError {
 impl From<AllocError> for ReadError {
     ghost from_gives = { λ _ e. e ≡ OutOfMemory };
 
+    // Memory ran out.
     fn from(_e: AllocError) -> ReadError {
         ReadError::Memory
     }
 }
 
-// Reads the next bytes of the open file, and adds them to the text.
+// Reads the next bytes of the open file into `buf`, and adds them to the text. The answer is how
+// many they are, 0 at the end of the file.
 fn read_piece<F: Shelf>(
     shelf: &mut F,
     text: &mut Vec<u8>,
@@ -57,7 +61,7 @@ fn read_piece<F: Shelf>(
     Ok(count)
 }
 
-// Reads the open file to its end, or finds that it is too long.
+// Reads the open file to its end: its bytes, and none if they are more than `MAX_LEN`.
 fn read_all<F: Shelf>(alloc: Global, shelf: &mut F) -> Result<Option<Vec<u8>>, ReadError>
     requires { IsTrue (F.is_open shelf.old) }
     ensures stays { StaysOpen (F.files shelf.old) (F.files shelf.new) (F.faults shelf.old)
@@ -77,7 +81,7 @@ fn read_all<F: Shelf>(alloc: Global, shelf: &mut F) -> Result<Option<Vec<u8>>, R
     Ok(None)
 }
 
-/// The bytes of a file.
+/// The bytes of the file with this name: 67,108,864 at most, and else `TooLong`.
 pub fn read_file<F: Shelf>(alloc: Global, shelf: &mut F, name: &str) -> Result<Vec<u8>, FileFault>
     ensures few { IfOk result (λ v. vec_len v ≤ MAX_LEN) }
     ensures reads { ReadsFile (λ v. v.items) F.files F.faults shelf.old shelf.new

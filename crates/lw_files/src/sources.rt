@@ -17,7 +17,7 @@ use lw_net::NetFault;
 use lw_netlist::NetlistFault;
 use std::alloc::Global;
 
-/// The library of a text.
+/// The library of a text, or its first fault.
 pub fn library_in(alloc: Global, bytes: &[u8]) -> Result<Library, FileFault>
     requires { length bytes.now ≤ most_bytes }
     ensures { Comes (λ cells. cells) (HasCells bytes.now) result }
@@ -47,7 +47,7 @@ pub fn read_library<F: Shelf>(
     library_in(alloc, &bytes)
 }
 
-/// The model of a text.
+/// The model of a text, or its first fault.
 pub fn model_in(alloc: Global, bytes: &[u8]) -> Result<Parsed, FileFault>
     requires { length bytes.now ≤ most_bytes }
     ensures comes { Comes (λ model. model) (HasModel bytes.now) result }
@@ -77,7 +77,7 @@ pub fn read_model<F: Shelf>(alloc: Global, shelf: &mut F, name: &str) -> Result<
     model_in(alloc, &bytes)
 }
 
-/// The mapped netlist of a text.
+/// The mapped netlist of a text, by the cells of a library, or its first fault.
 pub fn mapped_in(alloc: Global, library: &Library, bytes: &[u8]) -> Result<Mapped, FileFault>
     requires { length bytes.now ≤ most_bytes }
     ensures comes { Comes (λ mapped. mapped) (HasMapped library.now bytes.now) result }

@@ -7,7 +7,8 @@ use crate::kinds::{blif_text, lib_text, mapped_kind_text};
 use crate::putting::{put_four, put_number, put_three, put_two};
 use lw_io::{Sink, Writer};
 
-/// A line of a file breaks the rule of this text.
+/// Writes that a line of a file breaks a rule: `file` is the word for the file, `number` that of
+/// the line, from 1, and `text` that of the rule.
 pub fn put_broken<E: Sink>(out: &mut Writer<'_, E>, file: &[u8], number: u32, text: &[u8])
     ensures { Writes E.taken E.faults out.old out.new (broken_text file.now number text.now) }
 {
@@ -18,7 +19,7 @@ pub fn put_broken<E: Sink>(out: &mut Writer<'_, E>, file: &[u8], number: u32, te
     out.put(text);
 }
 
-/// What is wrong with the file that this word names.
+/// Writes what is wrong with the file that the word `file` names.
 pub fn put_fault<E: Sink>(out: &mut Writer<'_, E>, file: &[u8], fault: &FileFault)
     ensures { Writes E.taken E.faults out.old out.new (fault_text file.now fault.now) }
 {

@@ -37,6 +37,7 @@ impl TakesLines<()> for LibReader {
 
     ghost accepts = { λ line. HasNoHash line };
 
+    // Takes the next line of a library.
     fn take_line(&mut self, _over: &(), line: &Line) {
         // The reader keeps a fault, and reports it at its end.
         let _ = self.line(line);
@@ -50,6 +51,7 @@ impl TakesLines<()> for Reader {
 
     ghost accepts = { λ line. Unit {0} };
 
+    // Takes the next line of a network.
     fn take_line(&mut self, _over: &(), line: &Line) {
         // The reader keeps a fault, and reports it at its end.
         let _ = self.line(line);
@@ -63,13 +65,14 @@ impl TakesLines<Library> for MappedReader {
 
     ghost accepts = { λ line. Unit {0} };
 
+    // Takes the next line of a mapped netlist, by the cells of the library.
     fn take_line(&mut self, over: &Library, line: &Line) {
         // The reader keeps a fault, and reports it at its end.
         let _ = self.line(line, over);
     }
 }
 
-// Gives a reader the lines that are finished.
+// Gives a reader the lines that are finished, and takes them from `lines`.
 fn give_lines<C, R: TakesLines<C>>(lines: &mut Lines, over: &C, reader: &mut R)
     requires { (marked : Bool) × IsGivenSome
         (λ r ls. R.given r over.now ls) R.accepts marked lines.old reader.old }
@@ -84,7 +87,8 @@ fn give_lines<C, R: TakesLines<C>>(lines: &mut Lines, over: &C, reader: &mut R)
     }
 }
 
-/// Gives a new reader the lines of a text.
+/// Gives a new reader the lines of a text. If `marked`, a `#@` that begins a line is kept and
+/// begins no comment; `over` is what the reader reads the lines against.
 pub fn read_lines<C, R: TakesLines<C>>(
     alloc: Global,
     bytes: &[u8],

@@ -1,4 +1,4 @@
-// The time of covers as a cost.
+// The time of covers as a cost, in millionths of the library's unit.
 ghost use Rattle.std.specs.Prelude.{◌≡◌, ◌<◌, ◌+◌, All, min, max, map, length};
 ghost use Rattle.lw_laws.specs.Covers.{latest};
 ghost use Rattle.lw_genlib.specs.Cells.{IsSmall};
@@ -46,12 +46,15 @@ impl Cost for DelayCost<'_> {
 
     ghost laws = { λ c. delay_cost_is (timing_of c.lib.now c.starts.now) most_time };
 
+    // When an input starts, in millionths.
     fn leaf(&self, input: u32) -> u64
         ensures { result ≡ (time_cost self.now.lib.now self.now.starts.now).leaf input }
     {
         start_of(self.starts.as_slice(), input as usize)
     }
 
+    // When the output of a cell arrives, given when its pins do, in millionths and at most
+    // `MOST_TIME`.
     fn value(&self, cell: CellId, pins: &[u64]) -> u64
         requires { HasPins (time_cost self.now.lib.now self.now.starts.now).pin_counts cell.0
             (length pins.now) }
@@ -61,6 +64,8 @@ impl Cost for DelayCost<'_> {
         earlier(latest(delays, pins), MOST_TIME)
     }
 
+    // The cell arrives no earlier than a pin plus `gap` if the pin's delay is at least that, up to
+    // the greatest time. Else nothing is known, which 0 says.
     fn known_up_to(&self, cell: CellId, pins: usize, pin: usize, gap: u64) -> u64
         requires has { HasPins (time_cost self.now.lib.now self.now.starts.now).pin_counts cell.0
             pins }
@@ -77,7 +82,7 @@ impl Cost for DelayCost<'_> {
     }
 }
 
-// When an input starts.
+// When an input starts, in millionths: 0 past the last start that is given.
 fn start_of(starts: &[Micro], input: usize) -> u64
     ensures { result ≡ start_at starts.now input }
 {
@@ -88,7 +93,7 @@ fn start_of(starts: &[Micro], input: usize) -> u64
     }
 }
 
-// The greatest time that is reported.
+// The greatest time that is reported, 2^63 - 1 millionths: later ones are cut to it.
 const MOST_TIME: u64 = 9_223_372_036_854_775_807;
 
 // The later of two times.
@@ -105,15 +110,16 @@ fn earlier(a: u64, b: u64) -> u64
     if a < b { a } else { b }
 }
 
-// The sum of two times, or as late as can be told.
+// The sum of two times in millionths, or 2^64 - 1 if it is greater: `latest` adds a pin's delay to
+// its arrival by it.
 fn sum(a: u64, b: u64) -> u64
     ensures { min result most_time ≡ min most_time (a + b) }
 {
     a.saturating_add(b)
 }
 
-// The greatest of each pin's arrival plus its delay, cut at 2^64 - 1. The caller cuts it at
-// `MOST_TIME`.
+// The greatest of each pin's arrival plus its delay, in millionths, cut at 2^64 - 1. The caller
+// cuts it at `MOST_TIME`.
 fn latest(delays: &[Micro], pins: &[u64]) -> u64
     requires { length delays.now ≡ length pins.now }
     ensures { min result most_time ≡ min most_time (latest (map millionths delays.now) pins.now) }

@@ -1,4 +1,4 @@
-// Heights in rounds.
+// Heights in rounds, once the labels are found.
 ghost use Rattle.std.specs.Prelude.{◌≡◌, ◌<◌, ◌/◌, ◌⊎◌, None, true, false, IfSome, length, slice_index_or};
 ghost use Rattle.lw_bounds.specs.Bounds.{AreBounds};
 ghost use Rattle.lw_cost.specs.Labels.{AreLeastMarks};
@@ -40,14 +40,15 @@ pub(crate) struct HeightRounds<'a> {
     pub heights: Heights<'a>,
 }
 
-/// What a visit did: whether it lowered a height, and whether no match would lower one then.
+/// What a visit did: whether it lowered a label or a height, and whether no match would lower one
+/// then.
 #[derive(Clone, Copy)]
 pub(crate) struct Visit {
     pub lowered: bool,
     pub is_still: bool,
 }
 
-// A visit that found nothing to lower.
+// A visit that found nothing to lower, as of a class without a label.
 fn idle_visit() -> Visit
     ensures lowered { result.lowered ≡ false }
     ensures is_still { result.is_still ≡ true }
@@ -59,7 +60,7 @@ fn idle_visit() -> Visit
 }
 
 // What the mark of a match has to be before, so that it lowers the height of a class with this
-// label.
+// label. `mark` is what the class has so far, none while it has no height.
 fn height_bound(label: Mark, mark: Option<Mark>) -> Mark
     ensures cost { result.cost ≡ label.cost }
     ensures height { result.height ≡ height_limit mark }
@@ -74,8 +75,8 @@ fn height_bound(label: Mark, mark: Option<Mark>) -> Mark
     }
 }
 
-// The class of a place that comes first: the one with the lower label, since no match attains a
-// label that has a pin with a higher one.
+// The class of a place that comes first, for labels and for heights: the one with the lower label,
+// since no match attains a label that has a pin with a higher one.
 pub(crate) fn first_of(graph: &Graph, labels: &[Option<Mark>], place: u32) -> ClassId
     requires place { place < places_of graph.now }
     requires one_each { length labels.now ≡ length graph.now.pairs }
@@ -91,8 +92,9 @@ pub(crate) fn first_of(graph: &Graph, labels: &[Option<Mark>], place: u32) -> Cl
     }
 }
 
-// Whether a class with one mark, if it was lowered, may be the pin of a match that lowers the
-// height of a class with the other.
+// Whether a class may be the pin of a match that lowers the height of its complement: it was
+// lowered, and its label is no higher and its height less. `mark` is that of the class, and `other`
+// that of the complement.
 fn may_lower(lowered: bool, mark: Option<Mark>, other: Option<Mark>) -> bool
     ensures { result ≡ false → (lowered ≡ false) ⊎ IsNoPin mark other }
 {
@@ -106,7 +108,7 @@ fn may_lower(lowered: bool, mark: Option<Mark>, other: Option<Mark>) -> bool
 }
 
 impl Heights<'_> {
-    // The mark of a class.
+    // The mark of a class: its label and its height in gates so far; none while it has no height.
     fn mark(&self, class: ClassId) -> Option<Mark>
         requires { class.0 < length self.now.marks.items }
         ensures { result ≡ slice_index_or self.now.marks.items class.0 None }
@@ -127,7 +129,7 @@ impl Heights<'_> {
         }
     }
 
-    // Gives a class the mark of a match that was found.
+    // Gives a class the mark of a match that was found, and says whether there was one.
     fn put(&mut self, class: ClassId, found: Option<Best>) -> bool
         requires class { class.0 < length self.old.marks.items }
         requires table { IfSome self.old.table (HasHeightsOf self.old.marks.items) }
@@ -143,7 +145,7 @@ impl Heights<'_> {
     }
 
     // Gives a class the height of a match that attains its label and whose pins have marks, mostly
-    // the least, where that is lower than its own.
+    // the least, where that is lower than its own. A class without a label gets none.
     fn lower<C: Cost>(&mut self, given: &Given<C>, class: ClassId) -> Visit
         requires place { class.0 / 2 < places_of given.now.task.now.graph.now }
         requires may { MayLowerHeights C.costs given.now self.old (class.0 / 2) }
@@ -215,7 +217,8 @@ impl<'a> HeightRounds<'a> {
         HeightRounds { visits, heights }
     }
 
-    // Lowers the heights of the two classes of the place of a visit, if that is due.
+    // Lowers the heights of the two classes of the place of the visit with this number, if it is
+    // due or the round is whole, and says whether one fell.
     fn lower_place<C: Cost>(&mut self, given: &Given<C>, number: usize, whole: bool) -> bool
         requires number { number < length self.old.visits.order }
         requires rounds { AreHeightRounds C.costs given.now self.old }

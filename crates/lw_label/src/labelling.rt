@@ -17,8 +17,8 @@ pub(crate) struct Task<'a, C> {
     pub cost: &'a C,
 }
 
-/// Labels that fall: the table of bounds by which searches are cut, what is known of its gaps, and
-/// the marks so far.
+/// Labels that fall: the table of bounds by which searches are cut, the costs at which its gaps are
+/// certified, and the labels so far as marks of height 0.
 #[derive(Drop)]
 pub(crate) struct Labelling<'a> {
     pub bounds: Bounds,
@@ -34,7 +34,8 @@ pub(crate) struct LabelRounds<'a> {
 }
 
 impl Labelling<'_> {
-    /// The label of a class (its least cost so far) with its height, or none while it has no label.
+    /// The label of a class, its least cost so far, as a mark of height 0; none while it has no
+    /// label.
     pub(crate) fn mark(&self, class: ClassId) -> Option<Mark>
         requires { class.0 < length self.now.marks.items }
         ensures { result ≡ slice_index_or self.now.marks.items class.0 None }

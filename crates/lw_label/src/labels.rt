@@ -21,8 +21,8 @@ use lw_pool::ClassId;
 use std::alloc::{AllocError, Global};
 use std::marker::Model;
 
-/// The least cost of a cover of each class, and the height of the class. The memory is taken first;
-/// the rounds take none.
+/// The least cost of a cover of each class that has one, and the height of the class. The memory is
+/// taken first; the rounds take none, so `AllocError` comes before any label is found.
 pub fn relabel<C: Cost>(
     alloc: Global,
     graph: &Graph,
@@ -44,7 +44,7 @@ pub struct BoundedLabels {
 }
 
 /// The labels as `relabel` gives them, and the table of bounds for them: what chooses among the
-/// matches needs no other.
+/// matches needs no other. It is the entry for `lw_map`.
 pub fn relabel_with_bounds<C: Cost>(
     alloc: Global,
     graph: &Graph,
@@ -63,7 +63,8 @@ pub fn relabel_with_bounds<C: Cost>(
     Ok(mark_all(&task, room, &mut tops))
 }
 
-/// The memory that labels and heights are found in, all of which is taken first.
+/// The memory that labels and heights are found in, all of which is taken first: `labels` falls
+/// first, then `marks`, which gets the labels again with heights.
 #[derive(Drop)]
 struct Room {
     labels: Vec<Option<Mark>>,
@@ -74,7 +75,9 @@ struct Room {
 }
 
 impl Room {
-    // No class has a label or a height.
+    // Takes all memory: one empty entry for each class in `labels`, whose heights stay 0, and in
+    // `marks`, which get heights; and a table of bounds whose numbers are all 0. A table of heights
+    // comes to it where it saves time.
     fn new<C: Cost>(alloc: Global, task: &Task<C>) -> Result<Room, AllocError>
         requires { HasCells C.costs task.now }
         ensures { IfOk result (IsUnmarked task.now) }
@@ -90,7 +93,8 @@ impl Room {
     }
 }
 
-// Fills in the marks of all classes, by way of their labels.
+// Fills in the marks of all classes: first labels, until no match lowers one, and then heights for
+// these labels.
 fn mark_all<C: Cost>(task: &Task<C>, room: Room, tops: &mut Tops) -> BoundedLabels
     requires { MayMark C.costs task.now room tops.old }
     ensures { AreBoundedMarks task.now.graph.now (C.costs task.now.cost.now) task.now.pats.now

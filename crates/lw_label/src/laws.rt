@@ -1,4 +1,4 @@
-//! Laws over definitions: functions with empty bodies, whose clauses are the laws.
+//! Theorems on labels by time: functions with empty bodies, whose clauses are the theorems.
 ghost use Rattle.std.specs.Prelude.{ℕ, ◌≡◌, ◌≤◌, ◌<◌, ◌+◌, ◌*◌, List, Option, Some, All, length, map};
 ghost use Rattle.lw_fixed.specs.declared.micro.Micro.{Micro};
 ghost use Rattle.lw_laws.specs.Covers.{ArePatterns, Pattern};

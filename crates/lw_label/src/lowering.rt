@@ -1,4 +1,4 @@
-// Labels in rounds.
+// Labels in rounds, for the places that one visit does not make still.
 ghost use Rattle.std.specs.Prelude.{◌≡◌, ◌<◌, ◌/◌, ◌||◌, Some, None, true, IfOk, length, replicate};
 ghost use Rattle.lw_label.specs.Lowering.{AreLowering, IsLowerOf};
 ghost use Rattle.lw_label.specs.Orders.{IsVisited, places_of};
@@ -13,14 +13,15 @@ use lw_match::{better_within, better_without_nands};
 use lw_pool::ClassId;
 use std::alloc::{AllocError, Global};
 
-// No mark at any class.
+// One empty entry for each class.
 pub(crate) fn no_marks(alloc: Global, graph: &Graph) -> Result<Vec<Option<Mark>>, AllocError>
     ensures { IfOk result (λ marks. marks.items ≡ replicate (length graph.now.pairs) None) }
 {
     Ok(vec![in alloc; None; graph.classes() as usize]?)
 }
 
-// The mark of a class that may be an input's of this cost.
+// The mark of a class at which an input of cost `leaf` stands: its own, if that costs no more, else
+// the cost of the input with height 0.
 fn with_leaf(mark: Option<Mark>, leaf: u64) -> Mark
     ensures { IsLowerOf mark leaf result }
 {
@@ -68,7 +69,8 @@ pub(crate) fn is_ahead(mark: Option<Mark>, other: Option<Mark>) -> bool {
 }
 
 impl Labelling<'_> {
-    // Gives a class the cost of a match that was found.
+    // Gives a class the cost of a match that was found as its label, with height 0, and says
+    // whether there was one.
     fn put(&mut self, class: ClassId, found: Option<Best>) -> bool
         requires { class.0 < length self.old.marks.items }
         ensures { PutsLabel self.old self.new class.0 found result }
@@ -83,8 +85,8 @@ impl Labelling<'_> {
         true
     }
 
-    // Gives a class the cost of a match whose pins have marks, mostly the least, where that is
-    // lower than its own.
+    // Looks for a match whose pins have marks that costs less than the label of a class, mostly one
+    // of the least cost, and gives the class that cost.
     pub(crate) fn lower_mark<C: Cost>(&mut self, task: &Task<C>, class: ClassId) -> Visit
         requires class { class.0 < length task.now.graph.now.pairs }
         requires may { MayLower C.costs task.now self.old }
@@ -100,7 +102,7 @@ impl Labelling<'_> {
     }
 
     // Gives a class the cost of a match by a pattern without NANDs, where that is lower than its
-    // own.
+    // own, and says whether it did.
     fn lower_without_nands<C: Cost>(&mut self, task: &Task<C>, class: ClassId) -> bool
         requires class { class.0 < length task.now.graph.now.pairs }
         requires may { MayLower C.costs task.now self.old }
@@ -130,8 +132,9 @@ impl Labelling<'_> {
         false
     }
 
-    // Lets the numbers and the labels of the two classes of a place fall. All numbers come first,
-    // since matches at a class are found by those of its complement too.
+    // Lets the numbers and the labels of the two classes of a place fall, and says whether one
+    // fell. All numbers come first, since matches at a class are found by those of its complement
+    // too.
     fn lower_pair<C: Cost>(&mut self, task: &Task<C>, place: u32) -> bool
         requires place { place < places_of task.now.graph.now }
         requires may { MayLower C.costs task.now self.old }
@@ -150,7 +153,8 @@ impl Labelling<'_> {
 }
 
 impl LabelRounds<'_> {
-    // Lowers the two classes of the place of a visit, if that is due.
+    // Lowers the two classes of the place of the visit with this number, if it is due or the round
+    // is whole, and says whether a number or a label fell.
     fn lower_place<C: Cost>(&mut self, task: &Task<C>, number: usize, whole: bool) -> bool
         requires number { number < length self.old.visits.order }
         requires rounds { AreRounds C.costs task.now self.old }

@@ -1,4 +1,4 @@
-// Labels by one visit of each place.
+// Labels by one visit of each place, before rounds begin.
 ghost use Rattle.std.specs.Prelude.{◌≡◌, ◌<◌, ◌/◌, ◌⊎◌, false, length};
 ghost use Rattle.lw_bounds.specs.Bounds.{AreRows, AreSettledAt, AreZero, IsTableBut};
 ghost use Rattle.lw_label.specs.OneVisit.{AreRowsAround, AreSetAt, IsNoCheaper};
@@ -13,7 +13,8 @@ use lw_cost::{Cost, Mark};
 use lw_graph::Graph;
 use lw_pool::ClassId;
 
-// Gives a class the numbers that its pairs give.
+// Gives a class the numbers that its pairs give, in the table of bounds: they go back to `u64::MAX`
+// and then fall.
 fn set_class(graph: &Graph, bounds: &mut Bounds, marks: &[Option<Mark>], class: ClassId)
     requires class { class.0 < length graph.now.pairs }
     requires around { AreRowsAround graph.now bounds.old marks.now (class.0 / 2) }
@@ -24,7 +25,8 @@ fn set_class(graph: &Graph, bounds: &mut Bounds, marks: &[Option<Mark>], class: 
     bounds.renew(graph, marks, class);
 }
 
-// Gives the two classes of a place the numbers that their pairs give.
+// Gives the two classes of a place the numbers that their pairs give: the one visit of the place
+// begins with it, for labels and for the table of heights.
 pub(crate) fn set_pair(graph: &Graph, bounds: &mut Bounds, marks: &[Option<Mark>], place: u32)
     requires place { place < places_of graph.now }
     requires around { AreRowsAround graph.now bounds.old marks.now place }
@@ -35,8 +37,9 @@ pub(crate) fn set_pair(graph: &Graph, bounds: &mut Bounds, marks: &[Option<Mark>
     set_class(graph, bounds, marks, ClassId(place * 2));
 }
 
-// Whether a class with one mark, if it was lowered, may be the pin of a match that lowers the label
-// of a class with the other.
+// Whether a class may be the pin of a match that lowers the label of its complement: it was
+// lowered, and costs less, or the complement has no label. `mark` is that of the class, and `other`
+// that of the complement.
 fn may_lower(lowered: bool, mark: Option<Mark>, other: Option<Mark>) -> bool
     ensures { result ≡ false → (lowered ≡ false) ⊎ IsNoCheaper mark other }
 {
@@ -50,7 +53,8 @@ fn may_lower(lowered: bool, mark: Option<Mark>, other: Option<Mark>) -> bool
     }
 }
 
-// Puts the numbers of all classes back whose places are not still, so that they can fall.
+// Puts the numbers of all classes whose places are not still back to `u64::MAX`, so that they can
+// fall in the rounds.
 pub(crate) fn forget_moving(graph: &Graph, visits: &Visits, bounds: &mut Bounds)
     requires places { visits.now.places ≡ places_of graph.now }
     requires rows { AreRows bounds.old.parts bounds.old.starts bounds.old.numbers graph.now }
@@ -120,7 +124,8 @@ impl Labelling<'_> {
 }
 
 impl LabelRounds<'_> {
-    // Finds the labels of the place of a visit, if its parts are still.
+    // Finds the labels of the place of the visit with this number, if its parts are still. It is
+    // still then too, unless a match would lower one of them.
     fn label_place<C: Cost>(&mut self, task: &Task<C>, number: usize)
         requires number { number < length self.old.visits.order }
         requires first { AreFirstRounds C.costs task.now self.old }

@@ -19,7 +19,8 @@ pub(crate) struct Walk {
     order: Vec<u32>,
 }
 
-// The part of a place with this number, of the parts that the pairs of its two classes have.
+// The part of a place with this number, two for each pair, of the even class first and then of the
+// odd one; none past the last.
 fn part(graph: &Graph, place: u32, number: usize) -> Option<u32>
     requires { place < places_of graph.now }
     ensures within { IfSome result (λ part. part < places_of graph.now) }
@@ -50,7 +51,7 @@ impl Walk {
         })
     }
 
-    // Enters a place, if it is new.
+    // Enters a place, if it is new: it comes to the end of the path.
     fn enter(&mut self, place: u32) -> Result<(), AllocError>
         requires place { place < length self.old.next.items }
         requires walk { IsWalk (length self.old.next.items) self.old }
@@ -68,7 +69,7 @@ impl Walk {
     }
 
     // Looks at the next part of the place at the end of the path, or leaves that place if there is
-    // none. False where the path has no place.
+    // none. The answer is false once the path is empty.
     fn step(&mut self, graph: &Graph) -> Result<bool, AllocError>
         requires { IsWalk (places_of graph.now) self.old }
         ensures walk { OnOk result (IsWalk (places_of graph.now) self.new) }

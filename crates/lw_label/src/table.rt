@@ -1,4 +1,4 @@
-// A table of bounds on heights.
+// A table of bounds on heights, by which searches for heights are cut.
 ghost use Rattle.std.specs.Prelude.{◌≡◌, ◌<◌, IfOk, IfSome, length, option_map, slice_set};
 ghost use Rattle.lw_bounds.specs.HeightBounds.{height_mark};
 ghost use Rattle.lw_label.specs.HeightTables.{IsNewTable, MaySetRows, SetsRows};
@@ -38,7 +38,7 @@ impl Model for HeightTable {
     ghost view = { λ t. state t.bounds t.marks.items };
 }
 
-// The height of a mark as a cost.
+// The height of a mark, in gates, as the cost of another mark with height 0.
 fn as_cost(mark: Option<Mark>) -> Option<Mark>
     ensures { result ≡ option_map height_mark mark }
 {
@@ -52,7 +52,7 @@ fn as_cost(mark: Option<Mark>) -> Option<Mark>
 }
 
 impl HeightTable {
-    // A table for a graph whose classes have no marks.
+    // A table for a graph whose classes have no marks: its numbers are all 0.
     fn new(alloc: Global, graph: &Graph, pats: &Patterns) -> Result<HeightTable, AllocError>
         ensures { IfOk result (IsNewTable graph.now pats.now) }
     {
@@ -72,7 +72,7 @@ impl HeightTable {
         set_pair(graph, &mut self.bounds, &self.marks, place);
     }
 
-    // Gives a class the height of its mark.
+    // Gives a class the height of its mark in the table.
     fn put(&mut self, class: ClassId, mark: Option<Mark>)
         requires { class.0 < length self.old.marks }
         ensures { self.new ≡ state self.old.bounds
@@ -81,7 +81,7 @@ impl HeightTable {
         self.marks[class.0 as usize] = as_cost(mark);
     }
 
-    // What searches are cut by.
+    // What `lower_within` is cut by: the table and the heights.
     fn seen(&self) -> HeightBounds
         ensures { state result.bounds.now result.marks.now ≡ self.now }
     {
@@ -92,7 +92,7 @@ impl HeightTable {
     }
 }
 
-// Whether the classes of a graph have enough pairs for a table of heights.
+// Whether the classes of a graph that have pairs have more than `PAIRS_FOR_TABLE` on average.
 fn has_many_pairs(graph: &Graph) -> bool {
     let mut pairs: usize = 0;
     let mut classes: usize = 0;
@@ -106,7 +106,7 @@ fn has_many_pairs(graph: &Graph) -> bool {
     pairs > classes.saturating_mul(PAIRS_FOR_TABLE)
 }
 
-// A table for a graph whose classes have no marks, if it saves time.
+// A table for a graph whose classes have no marks, none if it would save no time.
 pub(crate) fn height_table(
     alloc: Global,
     graph: &Graph,
@@ -120,7 +120,8 @@ pub(crate) fn height_table(
     Ok(Some(HeightTable::new(alloc, graph, pats)?))
 }
 
-// Gives the two classes of a place their numbers, if its parts are still.
+// Gives the two classes of a place their numbers in the table, if there is one and the parts of the
+// place are still. It comes before heights are lowered there.
 pub(crate) fn set_if_still<C: Cost>(
     given: &Given<C>,
     visits: &Visits,
@@ -139,7 +140,7 @@ pub(crate) fn set_if_still<C: Cost>(
     table.set_rows(given.task.graph, place);
 }
 
-// Gives a class the height of its mark.
+// Gives a class the height of its mark in the table, if there is one.
 pub(crate) fn put_in(table: &mut Option<HeightTable>, class: ClassId, mark: Option<Mark>)
     requires { IfSome table.old (λ t. class.0 < length t.marks) }
     ensures { table.new ≡ option_map (λ t. state t.bounds

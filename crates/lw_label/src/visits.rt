@@ -8,10 +8,10 @@ use lw_pool::ClassId;
 use std::alloc::{AllocError, Global};
 use std::marker::Model;
 
-// The order of visits, by places, each of which is a class with its complement; and when each place
-// was visited last and when something changed there, or in its parts, their parts and so on. Times
-// are numbers of visits. They decide what is passed over, and so how fast labels come, but not
-// which: what rests on nothing being left to change is a round that passes over nothing.
+// The order of visits, by places, each of which is a class with its complement. It has when each
+// place was visited last, and when something changed there, or in its parts, their parts and so on.
+// Times are numbers of visits. They decide what is passed over, and so how fast labels come, but
+// not which: what rests on nothing being left to change is a round that passes over nothing.
 #[derive(Drop)]
 pub(crate) struct Visits {
     order: Vec<u32>,
@@ -41,7 +41,7 @@ fn later(a: u32, b: u32) -> u32 {
     if a < b { b } else { a }
 }
 
-// When a place of the pairs of a class changed last.
+// The greatest time at which a place of the pairs of a class changed, 0 if none did.
 fn last_change_in(graph: &Graph, changed: &[u32], class: ClassId) -> u32
     requires { IsClassAmong graph.now (length changed.now) class.0 }
 {
@@ -54,7 +54,7 @@ fn last_change_in(graph: &Graph, changed: &[u32], class: ClassId) -> u32
     last
 }
 
-// When a part of a place changed last.
+// The greatest time at which a part of a place changed, 0 if none did.
 fn last_change(graph: &Graph, changed: &[u32], place: u32) -> u32
     requires { IsPlaceAmong graph.now (length changed.now) place }
 {
@@ -64,7 +64,7 @@ fn last_change(graph: &Graph, changed: &[u32], place: u32) -> u32
     later(even, odd)
 }
 
-// Whether the places of the classes in the pairs of a class are still.
+// Whether the places of the classes in the pairs of a class are still: they keep what they have.
 fn are_still_in(graph: &Graph, still: &[bool], class: ClassId) -> bool
     requires { IsClassAmong graph.now (length still.now) class.0 }
     ensures { result ≡ true → ArePartsStill graph.now still.now class.0 }
@@ -146,7 +146,8 @@ impl Visits {
         are_parts_still(graph, &self.still, place)
     }
 
-    // The place of a visit, if it is not still, but its parts are.
+    // The place of the visit with this number, if it is not still, but its parts are, so that its
+    // labels can be found to their end.
     pub(crate) fn ready(&self, graph: &Graph, number: usize) -> Option<u32>
         requires { IsVisitOf graph.now self.now number }
         ensures { IfSome result (IsReady graph.now self.now) }
@@ -161,9 +162,9 @@ impl Visits {
         Some(place)
     }
 
-    // The place of a visit of a round, if it is to be visited: in a whole round, or where it was
-    // not yet, or where a part has changed since. A change of a part counts from now on as one of
-    // the place, for the places that it is a part of.
+    // The place of the visit with this number, if it has to be visited: in a whole round, or where
+    // it was not yet, or where a part has changed since. A change of a part counts from now on as
+    // one of the place, for the places that it is a part of.
     pub(crate) fn due(&mut self, graph: &Graph, number: usize, whole: bool) -> Option<u32>
         requires { IsVisitOf graph.now self.old number }
         ensures kept { self.new ≡ self.old }
@@ -180,7 +181,7 @@ impl Visits {
         None
     }
 
-    // The place of a visit of a round as `due` gives it, but never one that is still.
+    // The place of the visit with this number as `due` gives it, but never one that is still.
     pub(crate) fn due_unless_still(
         &mut self,
         graph: &Graph,

@@ -4,5 +4,4 @@ mod Deciding
 mod Early
 mod NetDepths
 mod Networks
-mod PortLists
 mod RightLists

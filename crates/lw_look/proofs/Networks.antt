@@ -15,7 +15,7 @@ use Rattle.lw_laws.specs.Signals.{signals_of, sop_at}
 use Rattle.lw_laws.proofs.NetlistOnce.{least_time_once}
 use Rattle.lw_netlist.specs.Plain.{plain, mapped_ports}
 use Rattle.lw_extract.specs.declared.ports.Cover.{Cover}
-use Rattle.lw_look.proofs.PortLists.{port_name, zip_outputs}
+use Rattle.lw_extract.proofs.PortLists.{port_name, zip_outputs}
 use Rattle.lw_look.specs.declared.look.Look.{Look}
 use Rattle.lw_look.specs.Lists.{pin_counts}
 use Rattle.lw_look.specs.Looks.{IsMatchCover, IsOfNetwork}

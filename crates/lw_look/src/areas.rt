@@ -8,7 +8,7 @@ ghost use Rattle.lw_look.specs.Areas.{area_in, area_of};
 use lw_genlib::Library;
 use lw_netlist::{Gate, Netlist};
 
-// The area of a gate.
+// The area of a gate, that of its cell, in millionths.
 fn area_at(lib: &Library, gate: &Gate) -> u64
     requires { HasCell lib.now gate.now }
     ensures area { result ≡ area_in (slice_get lib.now gate.now.cell.0) }
@@ -18,7 +18,7 @@ fn area_at(lib: &Library, gate: &Gate) -> u64
     lib.cell(gate.cell).area().0
 }
 
-// The sum of the areas of some gates.
+// The sum of the areas of some gates, in millionths.
 fn sum_of(lib: &Library, gates: &[Gate]) -> u64
     requires over { All (HasCell lib.now) gates.now }
     requires few { length gates.now ≤ most_gates }
@@ -40,7 +40,7 @@ pub fn area_of(lib: &Library, netlist: &Netlist) -> u64
     sum_of(lib, netlist.gates())
 }
 
-// Whether the gates of a netlist take no more than an area.
+// Whether the gates of a netlist take no more than the area `most`, in millionths.
 pub(crate) fn is_within(lib: &Library, netlist: &Netlist, most: u64) -> bool
     requires over { IsOver lib.now netlist.now }
     requires few { length netlist.now.gates ≤ most_gates }

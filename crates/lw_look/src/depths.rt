@@ -11,7 +11,7 @@ use lw_netlist::{Gate, Netlist};
 use lw_pool::NetId;
 use std::alloc::{AllocError, Global};
 
-// The greatest depth of some nets.
+// The greatest depth of the nets of some pins, by the depths of all nets, and 0 without a pin.
 fn deepest(depths: &[u32], pins: &[NetId]) -> u32
     requires { All (λ pin. pin.0 < length depths.now) pins.now }
     ensures { result ≡ greatest_depth depths.now (map net_number pins.now) }
@@ -22,8 +22,8 @@ fn deepest(depths: &[u32], pins: &[NetId]) -> u32
     }
 }
 
-// Fills in the depths of the nets that the gates drive, which are those from `first` on, behind the
-// inputs.
+// Fills in the depths of the nets that the gates drive: one more than the deepest pin. They are
+// those from `first` on, after the inputs, and all depths are 0 at first.
 fn fill_depths(gates: &[Gate], first: usize, depths: &mut [u32])
     requires gates { (j : ℕ) (gate : _) → slice_get gates.now j ≡ Some gate →
         IsGateAt first j gate }
@@ -54,7 +54,8 @@ fn is_rising(depths: &[u32]) -> bool
     true
 }
 
-/// Whether no gate of a netlist stands before one that is less deep.
+/// Whether no gate of a netlist stands before one that is less deep. It is one of the tests of
+/// `Look::fits`.
 pub(crate) fn is_by_depth(alloc: Global, netlist: &Netlist) -> Result<bool, AllocError>
     ensures { IfOk result (λ yes. IsTrue yes ↔ AreByDepth (plain netlist.now)) }
 {

@@ -1,4 +1,4 @@
-//! Laws over definitions: functions with empty bodies, whose clauses are the laws.
+//! Theorems: functions with empty bodies, whose clauses are the theorems.
 ghost use Rattle.std.specs.Prelude.{◌≤◌, ℕ, List};
 ghost use Rattle.std.specs.List.{AllZip};
 ghost use Rattle.lw_laws.specs.Modes.{Mode};

@@ -2,14 +2,26 @@
 //! and not too large. In go a list of matches, whoever made it, and the cover that a network is
 //! mapped to; out comes the netlist of the list, or that cover if the list is refused.
 //!
-//! Each match is one at its class, by the pattern that the list names; each of its pins is an
-//! input's class or stands earlier in the list; no class stands twice, and none is an input's. So
+//! Each match is one at its class, by the pattern that the list names. Each of its pins is an
+//! input's class or stands earlier in the list. No class stands twice, and none is an input's. So
 //! the netlist has the values of its classes, and no cycle. Each output's class is there, and the
-//! output arrives by its time. The gates stand by depth, so that a reader of the netlist keeps their
-//! order. The area, each gate counted once, is at most that of the other cover.
+//! output arrives by its time. The gates stand by depth, so that a reader of the netlist keeps
+//! their order. The area, each gate counted once, is at most that of the other cover.
 //!
 //! `listing` looks at the list, `depths`, `timing` and `areas` at the netlist, and `looking` takes
 //! them together. No command uses it yet.
+//!
+//! The words of this crate:
+//!
+//! * match: a pattern of a cell at a class, with a class for each pin; in the code `Chosen`, or a
+//!   gate;
+//! * seen: a truth value for each class of the graph: whether it is an input's, or a match before
+//!   the present one in the list has it;
+//! * depth: how many gates the longest path from an input to a net has;
+//! * root: the class of an output;
+//! * times: by when each output has to arrive, and starts: when inputs do, in millionths of a unit
+//!   of time;
+//! * most: the greatest area, in millionths of a unit of area.
 #![tactic(auto)]
 
 mod areas;

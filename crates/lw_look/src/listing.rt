@@ -12,7 +12,7 @@ use lw_graph::Graph;
 use lw_pool::ClassId;
 use std::alloc::{AllocError, Global};
 
-// Whether the class is one that can be marked and has not been seen.
+// Whether a class is one of the graph, for which `seen` has a place, and has not been seen.
 fn is_new(seen: &[bool], class: ClassId) -> bool
     ensures { IsTrue result ↔ IsNew seen.now class.0 }
 {
@@ -20,7 +20,7 @@ fn is_new(seen: &[bool], class: ClassId) -> bool
     place < seen.len() && !seen[place]
 }
 
-// Whether each of the classes has been seen.
+// Whether each of some classes has been seen.
 fn are_seen(seen: &[bool], classes: &[ClassId]) -> bool
     ensures { IsTrue result ↔ All (λ class. is_seen seen.now class.0 ≡ true) classes.now }
 {
@@ -33,7 +33,7 @@ fn are_seen(seen: &[bool], classes: &[ClassId]) -> bool
     true
 }
 
-// Marks the classes of the inputs.
+// Marks the classes of the inputs as seen, where none is.
 fn see_inputs(graph: &Graph, seen: &mut [bool])
     requires one_each { length seen.old ≡ length graph.now.pairs }
     requires none { (c : ℕ) → is_seen seen.old c ≡ false }
@@ -44,7 +44,7 @@ fn see_inputs(graph: &Graph, seen: &mut [bool])
     }
 }
 
-// Whether what was found is this class.
+// Whether a class was found, and is this one.
 fn is_at(found: Option<ClassId>, class: ClassId) -> bool
     ensures { IsTrue result ↔ (found ≡ Some class) }
 {
@@ -55,7 +55,8 @@ fn is_at(found: Option<ClassId>, class: ClassId) -> bool
 }
 
 impl Look<'_> {
-    // Whether a match is one at its class, by a pattern of a cell with so many pins.
+    // Whether a match of the list is one: its pattern is there, is of a cell with so many pins, and
+    // stands at its class with its pins at theirs.
     fn is_match(&self, gate: &Chosen) -> bool
         requires of_cells { AreOfCells (pin_counts self.now) self.now.pats.now }
         requires pins { AreWithin self.now.graph.now gate.now.found.pins }
@@ -74,8 +75,8 @@ impl Look<'_> {
         is_at(found, gate.class)
     }
 
-    // Whether a match may stand behind those that marked their classes: its class is new, those of
-    // its pins are not, and it is a match at its class.
+    // Whether a match may stand after those that marked their classes: its class is new, those of
+    // its pins are seen, and it is a match at its class.
     fn may_stand(&self, seen: &[bool], gate: &Chosen) -> bool
         requires of_cells { AreOfCells (pin_counts self.now) self.now.pats.now }
         requires seen { length seen.now ≡ length self.now.graph.now.pairs }
@@ -91,7 +92,8 @@ impl Look<'_> {
         self.is_match(gate)
     }
 
-    // Whether each match may stand where it is. Its class is marked then.
+    // Whether each match of a list may stand where it is. `seen` has the inputs' classes at first,
+    // and then that of each match that was looked at.
     fn all_stand(&self, list: &[Chosen], seen: &mut [bool]) -> bool
         requires of_cells { AreOfCells (pin_counts self.now) self.now.pats.now }
         requires inputs { AreSeen self.now.graph.now (chosen_classes list.now) 0 seen.old }

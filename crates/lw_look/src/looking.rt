@@ -11,8 +11,8 @@ use lw_netlist::Netlist;
 use std::alloc::{AllocError, Global};
 
 impl Look<'_> {
-    // Whether a netlist stands by depth, takes no more than an area, and brings each output by its
-    // time.
+    // Whether a netlist stands by depth, takes no more than the area `most` in millionths, and
+    // brings each output by its time.
     fn fits(&self, alloc: Global, netlist: &Netlist, most: u64) -> Result<bool, AllocError>
         requires ready { IsLook self.now }
         requires fit { IsFit self.now netlist.now }
@@ -27,7 +27,8 @@ impl Look<'_> {
         is_in_time(alloc, self.lib, self.starts, netlist, self.times)
     }
 
-    // The netlist of a list of matches, if it passes.
+    // The netlist of a list of matches, if the list is right and the netlist fits with an area of
+    // at most `most`; else none.
     fn passed(&self, alloc: Global, list: &[Chosen], most: u64) -> Result<Option<Cover>, AllocError>
         requires { IsLook self.now }
         ensures { IfOk result (IsPassed self.now most list.now) }
@@ -44,7 +45,8 @@ impl Look<'_> {
         Ok(None)
     }
 
-    /// The netlist of a list of matches if it passes, else the first cover.
+    /// The netlist of a list of matches if it passes with no more area than the first cover, else
+    /// that cover, with `refused`.
     pub fn choose(&self, alloc: Global, list: &[Chosen], first: Cover) -> Result<Looked, AllocError>
         requires ready { IsLook self.now }
         requires first { IsFit self.now first.netlist }

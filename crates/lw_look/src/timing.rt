@@ -12,7 +12,7 @@ use lw_genlib::Library;
 use lw_netlist::{Netlist, Port};
 use std::alloc::{AllocError, Global};
 
-// Whether each output arrives by its time.
+// Whether each output arrives by its time, given when each net arrives, in millionths.
 fn are_early(outputs: &[Port], times: &[Micro], arrivals: &[Micro]) -> bool
     requires known { All (λ port. port.net.0 < length arrivals.now) outputs.now }
     ensures { IsTrue result ↔ AreEarly arrivals.now outputs.now times.now }
@@ -28,7 +28,7 @@ fn are_early(outputs: &[Port], times: &[Micro], arrivals: &[Micro]) -> bool
     true
 }
 
-// When each net arrives.
+// When each net of a netlist arrives, in millionths, by its number.
 fn arrivals_of(
     alloc: Global,
     lib: &Library,

@@ -52,7 +52,7 @@ use Rattle.lw_map.specs.Options.{plain_options}
 use Rattle.lw_map.specs.Choices.{AreChoicesOf}
 use Rattle.lw_map.specs.Ports.{ArePortsOf}
 use Rattle.lw_map.specs.Trading.{AreEarliest, HasLeastArea, IsTradedNetlist}
-use Rattle.lw_map.proofs.CoverNetlists.{port_name, zip_outputs}
+use Rattle.lw_extract.proofs.PortLists.{port_name, zip_outputs}
 use Rattle.lw_map.proofs.NetNames.{names_tell, own_names}
 use Rattle.lw_map.proofs.PortNames.{port_list, port_names, few_outputs}
 use Rattle.lw_map.proofs.Traded.{IsBest, StandsFor-cost, best_area, best_values, tree_back}

@@ -43,7 +43,8 @@ use Rattle.lw_map.specs.Ports.{ArePortsOf}
 use Rattle.lw_map.specs.Mappings.{IsMappingOf}
 use Rattle.lw_map.specs.Labelled.{AreStepsBy}
 use Rattle.lw_map.specs.declared.labelling.Labeller.{Labeller}
-use Rattle.lw_map.proofs.CoverNetlists.{port_name, cover_is_netlist}
+use Rattle.lw_extract.proofs.PortLists.{port_name}
+use Rattle.lw_map.proofs.CoverNetlists.{cover_is_netlist}
 use Rattle.lw_map.proofs.GateCount.{few_gates}
 use Rattle.lw_map.proofs.Leaves.{start_is_least}
 use Rattle.lw_map.proofs.PortNames.{few_outputs}

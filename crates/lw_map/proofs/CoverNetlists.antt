@@ -1,8 +1,6 @@
 -- A cover of a network's outputs by least marks is the netlist that the network is mapped to.
-use Rattle.std.proofs.Common.{ℕ, ◌≡◌, List, [], ◌∷◌, ◌++◌, map, length, take, Option, Some, ap, ap₂, sym, ◌∙◌, subst}
-use Rattle.std.specs.List.{AllZip}
+use Rattle.std.proofs.Common.{ℕ, ◌≡◌, List, ◌++◌, map, length, take, Option, Some, ap, ap₂, sym, ◌∙◌, subst}
 use Rattle.std.proofs.lemmas.List.{take_at}
-use Rattle.lw_pool.specs.declared.id.ClassId.{ClassId}
 use Rattle.lw_laws.specs.Modes.{Mode}
 use Rattle.lw_laws.specs.Networks.{Network}
 use Rattle.lw_laws.specs.Listings.{listing_of}
@@ -14,7 +12,7 @@ use Rattle.lw_laws.specs.Marks.{heights_of}
 use Rattle.lw_laws.specs.Matches.{choices_of}
 use Rattle.lw_laws.specs.Rounds.{labels_in}
 use Rattle.lw_laws.specs.Delays.{delay_cost}
-use Rattle.lw_laws.specs.Extracts.{AreGateClasses, IsNetOf}
+use Rattle.lw_laws.specs.Extracts.{AreGateClasses}
 use Rattle.lw_laws.specs.Names.{gate_names, free_names, net_names}
 use Rattle.lw_laws.specs.Mapped.{root_class}
 use Rattle.lw_laws.specs.Headline.{Port as PlainPort}
@@ -23,28 +21,13 @@ use Rattle.lw_cost.specs.declared.mark.Mark.{Mark}
 use Rattle.lw_cost.specs.Labels.{costs_of, AreLeastMarks}
 use Rattle.lw_cost.proofs.MarksAsLabels.{mark_of_label}
 use Rattle.lw_netlist.specs.declared.gate.Port.{Port}
-use Rattle.lw_netlist.specs.Plain.{plain, plain_port, mapped_ports}
+use Rattle.lw_netlist.specs.Plain.{plain, mapped_ports}
 use Rattle.lw_extract.specs.declared.ports.Ports.{Ports}
 use Rattle.lw_extract.specs.declared.ports.Cover.{Cover}
 use Rattle.lw_extract.specs.Choosing.{heights}
 use Rattle.lw_extract.specs.Covers.{IsExtractedCover}
+use Rattle.lw_extract.proofs.PortLists.{port_name, zip_outputs}
 use Rattle.lw_pool.specs.Numbers.{numbers}
-
-abbrev pub port_name : PlainPort → List ℕ
-port_name p = p.name
-
--- the outputs have the names and the nets
-pub zip_outputs : (width : ℕ) (net : Network) (g : Graph) (gates : List ℕ) (outputs : List PlainPort) (roots : List ClassId) (mapped : List Port) → numbers roots ≡ root_classes width net g outputs → map (λ (port : Port). port.name) mapped ≡ map port_name outputs → AllZip (λ (root : ClassId) (port : Port). IsNetOf g gates root.0 port.net.0) roots mapped → AllZip (λ p q. (p.name ≡ q.name) × IsNetOf g gates (root_class width net g p.net) q.net) outputs (map plain_port mapped)
-zip_outputs width net g gates [] roots [] classes names nets = tt
-zip_outputs width net g gates [] roots (q ∷ mapped) classes names nets = cc
-zip_outputs width net g gates (p ∷ outputs) roots [] classes names nets = cc
-zip_outputs width net g gates (p ∷ outputs) [] (q ∷ mapped) classes names nets = cc
-zip_outputs width net g gates (p ∷ outputs) (root ∷ roots) (q ∷ mapped) classes names (at, nets) =
-    let c : root.0 ≡ root_class width net g p.net = cc in
-    let cs : numbers roots ≡ root_classes width net g outputs = cc in
-    let n : p.name ≡ q.name = cc in
-    let ns : map (λ (port : Port). port.name) mapped ≡ map port_name outputs = cc in
-    ((n, subst (λ d. IsNetOf g gates d q.net.0) c at), zip_outputs width net g gates outputs roots mapped cs ns nets)
 
 module _ (mode : Mode) (width : ℕ) (net : Network) (g : Graph) (pats : List Pattern) (timing : Timing) (cap : ℕ) (marks : List (Option Mark)) (ports : Ports) (cover : Cover) (inputs : List (List ℕ)) (outputs : List PlainPort) where
   -- the height of a labelled class

@@ -9,7 +9,7 @@ use lw_mapped::{Certificate, OptClasses, OptMicros};
 use lw_pool::{ClassId, Classes};
 use std::alloc::{AllocError, Global};
 
-// The labels of marks.
+// The labels of the classes by their marks, in millionths, none where a class has no mark.
 fn labels_of(alloc: Global, marks: &[Option<Mark>]) -> Result<OptMicros, AllocError>
     ensures { IfOk result (λ labels. labels ≡ map (option_map label_of) marks.now) }
 {
@@ -20,6 +20,7 @@ fn labels_of(alloc: Global, marks: &[Option<Mark>]) -> Result<OptMicros, AllocEr
     Ok(OptMicros::from_vec(labels))
 }
 
+// The classes of the gates, of which each has one, as a certificate holds them.
 fn nets_of(alloc: Global, classes: &[ClassId]) -> Result<OptClasses, AllocError>
     ensures { IfOk result (λ nets. nets ≡ map Some classes.now) }
 {

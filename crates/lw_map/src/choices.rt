@@ -26,7 +26,7 @@ pub struct Choices {
     pub roots: Classes,
 }
 
-// The classes of the outputs.
+// The class of each output, by the form of its net.
 fn roots(alloc: Global, net: &Network, forms: &Forms, graph: &Graph) -> Result<Classes, AllocError>
     requires sops { length forms.now.sops ≡ length net.now.names }
     requires bases { length graph.now.forms ≡ length forms.now.bases }

@@ -30,8 +30,8 @@ pub struct Counts {
 }
 
 /// The sizes of a network that was drawn and mapped: its nodes, the classes of its graph, the gates
-/// of its netlist, the greatest arrival, and how often stored matches were read, if they were not
-/// too many to store.
+/// of its netlist, and the greatest arrival. It has how often stored matches were read, if they
+/// were not too many to store.
 #[derive(Clone, Copy)]
 pub struct Sizes {
     pub nodes: u32,
@@ -75,7 +75,8 @@ pub fn all_at_once(alloc: Global, inputs: u32) -> Result<Micros, AllocError>
     Ok(Micros::from_vec(vec![in alloc; Micro(0); inputs as usize]?))
 }
 
-// What a network comes to by the cells of a library.
+// The sizes of a drawn network of `count` nodes that is mapped to the cells of a library, by stored
+// matches and with all inputs at 0.
 fn map_drawn(alloc: Global, lib: &Library, net: &Network, count: u32) -> Result<Sizes, MapFault>
     requires { IsDistinct bytes_eq (output_names net.now) }
     ensures sizes { IfOk result (AreSizes count lib.now net.now) }

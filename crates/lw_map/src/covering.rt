@@ -30,7 +30,7 @@ use lw_pool::{Classes, Name};
 use std::alloc::{AllocError, Global};
 
 /// The netlist that a network is mapped to, with the class of each gate and the labels of all
-/// classes, and how often a stored match was read to find them: none where they were found in
+/// classes. It has how often a stored match was read to find them: none where they were found in
 /// rounds.
 #[derive(Drop)]
 pub struct Mapping {
@@ -40,8 +40,9 @@ pub struct Mapping {
     pub steps: Option<u64>,
 }
 
-/// The ports at which the graph of a network is covered.
-pub(crate) fn ports(alloc: Global, net: &Network, choices: &Choices) -> Result<Ports, AllocError>
+/// The ports at which the graph of a network is covered: the names of the model, its inputs and its
+/// outputs, and the class of each output.
+pub fn ports(alloc: Global, net: &Network, choices: &Choices) -> Result<Ports, AllocError>
     ensures { IfOk result (ArePortsOf net.now choices.now) }
 {
     let roots = Vec::from_slice(alloc, choices.roots.as_slice())?;
@@ -107,7 +108,7 @@ impl Problem<'_> {
     }
 }
 
-/// Covers the choices of a network by cells of a library: each class gets the least time of its
+/// Covers the choices of a network by cells of a library. Each class gets the least time of its
 /// covers from the starts of the inputs on, and the chosen matches of the needed classes are the
 /// gates. `NoCover` tells the first output that has no cover, and comes exactly where there is one.
 pub fn cover(

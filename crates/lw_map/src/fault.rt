@@ -26,6 +26,7 @@ pub enum MapFault {
 impl From<AllocError> for MapFault {
     ghost from_gives = { λ _ e. e ≡ Memory };
 
+    // Running out of memory is the fault `Memory`.
     fn from(_e: AllocError) -> MapFault {
         MapFault::Memory
     }
@@ -37,6 +38,7 @@ impl From<FormFault> for MapFault {
 
     ghost from_gives = { λ fault e. e ≡ form_fault fault };
 
+    // Too many forms are the fault `Forms`.
     fn from(fault: FormFault) -> MapFault {
         match fault {
             FormFault::Limit => MapFault::Forms,
@@ -51,6 +53,7 @@ impl From<GraphFault> for MapFault {
 
     ghost from_gives = { λ fault e. e ≡ graph_fault fault };
 
+    // Too many splits are the fault `Splits`.
     fn from(fault: GraphFault) -> MapFault {
         match fault {
             GraphFault::Limit => MapFault::Splits,
@@ -65,6 +68,7 @@ impl From<CurveFault> for MapFault {
 
     ghost from_gives = { λ fault e. e ≡ curve_fault fault };
 
+    // Too many points are the fault `Points`.
     fn from(fault: CurveFault) -> MapFault {
         match fault {
             CurveFault::Limit => MapFault::Points,

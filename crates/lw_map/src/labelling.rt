@@ -21,8 +21,8 @@ pub enum Labeller {
 }
 
 /// The labels of the classes of a graph, the table of bounds for them where they are found in
-/// rounds, and how often a stored match was read to find them: none in rounds, which are taken too
-/// where there are too many matches to store.
+/// rounds, and how often a stored match was read to find them. No match is stored in rounds, which
+/// are taken too where there are too many matches to store.
 #[derive(Drop)]
 pub(crate) struct Labelled {
     pub labels: Labels,

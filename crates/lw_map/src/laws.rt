@@ -1,4 +1,4 @@
-//! A law over definitions: a function whose clause is the law.
+//! A theorem: a function whose clause is the theorem.
 ghost use Rattle.std.specs.Prelude.{ℕ};
 ghost use Rattle.std.specs.List.{IsDistinct};
 ghost use Rattle.std.specs.Str.{bytes_eq};
@@ -13,8 +13,8 @@ ghost use Rattle.lw_map.specs.Tabled.{AreLeaves, HasReadableNames, IsTabled, IsT
 use lw_lut::{table_texts_are_mappings, written_tables_are_read};
 
 /// The text of the tables that a network comes to is read as BLIF, its limit on the number of
-/// signals left out, as a network that computes each output of the network, at the least depth of
-/// any cover by tables of any tree that the laws derive for it.
+/// signals left out. The network that is read computes each output of the first one, at the least
+/// depth of any cover by tables of any tree that the rules derive for it.
 pub fn tabled_texts_are_mappings()
     ensures { (options : Options) (most : ℕ) (net : NetworkParts) (frame : Frame)
         (n : PlainTableNet) → IsWide options → AreLeaves most → IsWithinLimits options net →

@@ -9,7 +9,7 @@ use lw_net::Network;
 use lw_pool::{Name, Names, NetId};
 use std::alloc::{AllocError, Global};
 
-// Copies of some names.
+// Copies of some names, in order.
 fn copied(alloc: Global, names: &[Name]) -> Result<Names, AllocError>
     ensures { IfOk result (λ copies. copies ≡ names.now) }
 {
@@ -36,7 +36,8 @@ fn name_of(alloc: Global, net: &Network, id: NetId) -> Result<Name, AllocError>
     Name::from_slice(alloc, net.names()[id.0 as usize].as_bytes())
 }
 
-/// Why a network is not mapped, where an output has no cover or memory ran out.
+/// Why a network is not mapped, by the fault of its cover: the output that has none by its name, or
+/// memory.
 pub(crate) fn refused(alloc: Global, net: &Network, fault: ExtractFault) -> MapFault
     requires { (k : ℕ) → fault ≡ ExtractFault.NoCover k → k < length net.now.outputs }
     ensures named { (k : ℕ) (output : Net) → fault ≡ ExtractFault.NoCover k →

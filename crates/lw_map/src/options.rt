@@ -3,7 +3,7 @@ ghost use Rattle.std.specs.Prelude.{◌≤◌};
 
 use lw_assoc::Mode;
 
-/// How a network is decomposed: the most operands of an And, from 2 to 8, and the laws.
+/// How a network is decomposed: the most operands of an AND, from 2 to 8, and the rules.
 #[derive(Clone, Copy)]
 pub struct Options {
     pub width: u8,

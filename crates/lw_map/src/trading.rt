@@ -25,7 +25,7 @@ use lw_netlist::Netlist;
 use lw_trade::{AreaCost, Targets, curves};
 use std::alloc::{AllocError, Global};
 
-// The latest of some times, and at least the deadline.
+// The latest of some times, and at least the deadline: the horizon of the curves.
 fn latest_of(deadline: Micro, times: &[Micro]) -> Micro
     ensures { result.0 ≡ latest_of deadline.0 (micros times.now) }
 {
@@ -36,7 +36,7 @@ fn latest_of(deadline: Micro, times: &[Micro]) -> Micro
     Micro(latest)
 }
 
-// Each time, or the deadline where that is later.
+// For each time the later of it and the deadline.
 fn put_off(alloc: Global, times: &[Micro], deadline: Micro) -> Result<Vec<Micro>, AllocError>
     ensures { IfOk result (λ later. later.items ≡ map (put_off deadline) times.now) }
 {
@@ -48,7 +48,7 @@ fn put_off(alloc: Global, times: &[Micro], deadline: Micro) -> Result<Vec<Micro>
 }
 
 impl Problem<'_> {
-    // The labels of the outputs' classes, or the first output whose class has none.
+    // The labels of the outputs' classes in millionths, or the first output whose class has none.
     fn labels_of(&self, marks: &[Option<Mark>]) -> Result<Vec<Micro>, ExtractFault>
         requires { CanBeRead self.now marks.now }
         ensures labels { IfOk result (λ labels. HaveLabels self.now marks.now labels.items) }
@@ -67,7 +67,7 @@ impl Problem<'_> {
         Ok(labels)
     }
 
-    // The least time of each output.
+    // The least time of each output in millionths, or why there is none.
     fn earliest(&self) -> Result<Vec<Micro>, MapFault>
         requires { IsProblem self.now }
         ensures least { IfOk result (λ times. AreLeastTimes self.now times.items) }
@@ -99,7 +99,7 @@ impl Problem<'_> {
         })
     }
 
-    // The netlist of least area by a deadline, where these are the least times of the outputs.
+    // The netlist of least area by a deadline. `times` are the least times of the outputs.
     fn in_time(&self, times: &[Micro], deadline: Micro) -> Result<Netlist, MapFault>
         requires problem { IsProblem self.now }
         requires late { IsSmall deadline }
@@ -119,7 +119,7 @@ impl Problem<'_> {
         Ok(netlist)
     }
 
-    // The netlist of least area, where each output has a cover.
+    // The netlist of least area of all, where it is known that each output has a cover.
     fn at_any_time(&self) -> Result<Netlist, MapFault>
         requires problem { IsProblem self.now }
         requires covered { HasTimes self.now }
@@ -176,12 +176,12 @@ fn of_choices(
     netlist
 }
 
-/// What a library and a model come to by a deadline: the netlist of least area, in which each
-/// output arrives by it, or at its least time where that is later, and each use of a shared part
-/// counts. Without a deadline the area is the least of all. `NoCover` tells the first output that
-/// has no cover, and comes exactly where there is one. `Points` comes exactly where there is none,
-/// and where the classes have more than 8,000,000 points up to the latest of these times. `Forms`
-/// and `Splits` come exactly where there are more than are dealt with.
+/// What a library and a model come to by a deadline: the netlist of least area, where each use of a
+/// shared part counts. Each output arrives by the deadline, or at its least time where that is
+/// later. Without a deadline the area is the least of all. `NoCover` tells the first output that
+/// has no cover, and comes exactly where there is one. Where each has one, `Points` comes exactly
+/// if there is a deadline and the classes have more than 8,000,000 points up to the latest of these
+/// times. `Forms` and `Splits` come exactly where there are more than are dealt with.
 pub fn trade(
     alloc: Global,
     lib: &Library,

@@ -6,7 +6,8 @@
 //! with its line. The modules in order:
 //!
 //! * `certificate`: labels of classes and classes of gates;
-//! * `lines`, `frames`, `gates`, `certificate_lines`, `writing`: the text, from its words to the whole;
+//! * `lines`, `frames`, `gates`, `certificate_lines`, `writing`: the text, from its words to the
+//!   whole;
 //! * `fault`: the rules that a line may break;
 //! * `command`, `naming`, `ties`, `saying`, `parsing`: what one line says;
 //! * `contents`, `parts`, `reader`: what lines say together, line by line (`MappedReader`);

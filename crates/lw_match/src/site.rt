@@ -25,7 +25,7 @@ pub struct Site<'a, C> {
     pub class: ClassId,
     /// What searches are cut by, read from the tables of bounds.
     pub cuts: &'a Cuts<'a>,
-    /// What no match at the class costs less than.
+    /// What no match at the class costs less than, 0 if nothing is known.
     pub floor: u64,
 }
 
@@ -62,7 +62,8 @@ impl<'a, C: Cost> Site<'a, C> {
         }
     }
 
-    /// The numbers of pins and constants at the class.
+    /// List 0 of the numbers at the class: the cost of the class, that of its complement, and the
+    /// numbers of true, false and any tree. `u64::MAX` stands for none.
     #[inline(always)]
     pub(crate) fn leaves(&self) -> [u64; 5]
         requires { IsSite C.CAP C.costs self.now }
@@ -72,7 +73,8 @@ impl<'a, C: Cost> Site<'a, C> {
         leaves_at(numbers_of(self.graph, self.marks, self.cuts), self.class)
     }
 
-    /// What is asked at the class, given those.
+    /// The query at the class, given its list 0: the rows of the class and of its complement come
+    /// to it.
     #[inline(always)]
     pub(crate) fn query(self, leaves: &'a [u64]) -> Query<'a, C>
         requires site { IsSite C.CAP C.costs self }

@@ -43,7 +43,8 @@ impl Hunt {
     }
 }
 
-/// Whether the number of a root in a list is below the top.
+/// Whether the number of a root in the list `numbers`, with its shift, is below `top`: only then is
+/// its pattern searched.
 pub(crate) fn is_near(numbers: &[u64], root: Root, top: u64) -> bool
     ensures { IsFalse result → IsFar numbers.now root.place root.shift top }
 {
@@ -55,7 +56,8 @@ pub(crate) fn is_near(numbers: &[u64], root: Root, top: u64) -> bool
     number < top && shifted(number, root.shift) < top
 }
 
-/// Whether a list is empty, so that no number in it is below the top.
+/// Whether a list is empty, as the row of a class without pairs is, so that no number in it is
+/// below `top`, which the contract alone names.
 pub(crate) fn is_bare(numbers: &[u64], top: u64) -> bool
     ensures { IsTrue result → (place shift : ℕ) → IsFar numbers.now place shift top }
 {
@@ -64,7 +66,8 @@ pub(crate) fn is_bare(numbers: &[u64], top: u64) -> bool
     numbers.is_empty()
 }
 
-/// Goes on with a hunt by one pattern.
+/// Goes on with a hunt by one pattern: a better match becomes what was found, and the target what
+/// is before it.
 pub(crate) fn hunt_by<C: Cost>(query: &Query<C>, pat: PatId, hunt: &mut Hunt)
     requires { IsQueryBy C.CAP C.costs query.now pat.0 }
     ensures goes_on { HuntsOn C.costs query.now hunt.old hunt.new }
@@ -76,7 +79,8 @@ pub(crate) fn hunt_by<C: Cost>(query: &Query<C>, pat: PatId, hunt: &mut Hunt)
     }
 }
 
-/// Goes on with a hunt by the pattern of a root, where its number in a list is below the top.
+/// Goes on with a hunt by the pattern of a root, where its number in the list `numbers` is below
+/// the target's top.
 fn hunt_root<C: Cost>(query: &Query<C>, numbers: &[u64], root: Root, hunt: &mut Hunt)
     requires { IsQuery C.CAP C.costs query.now }
     ensures goes_on { HuntsOn C.costs query.now hunt.old hunt.new }
@@ -90,7 +94,8 @@ fn hunt_root<C: Cost>(query: &Query<C>, numbers: &[u64], root: Root, hunt: &mut 
     }
 }
 
-/// Goes on with a hunt by the patterns whose roots have their numbers in a list.
+/// Goes on with a hunt by the patterns of these roots, whose numbers stand in the list with this
+/// index.
 fn hunt_list<C: Cost>(query: &Query<C>, list: u8, roots: &[Root], hunt: &mut Hunt)
     requires query { IsQuery C.CAP C.costs query.now }
     requires listed { AreRootsIn query.now list roots.now }
@@ -117,7 +122,8 @@ fn hunt_all<C: Cost>(query: &Query<C>, hunt: &mut Hunt)
     }
 }
 
-/// Goes on with a hunt by all patterns, where it may be known from lists which are near.
+/// Goes on with a hunt by all patterns whose roots are near, list by list as `pick_near` does, or
+/// by all if the table lacks a root.
 pub(crate) fn hunt_near<C: Cost>(query: &Query<C>, hunt: &mut Hunt)
     requires query { IsQuery C.CAP C.costs query.now }
     requires listed { HasRootsListed query.now }

@@ -4,8 +4,9 @@ ghost use Rattle.lw_match.specs.Cutting.{IsSharper, IsTopOf};
 
 use lw_cost::Mark;
 
-/// What a match has to be before, the number from which on none is, and whether marks count, so
-/// that the least mark is sought and not any before the bound.
+/// What a match has to be before, none if any will do; the cost from which on no match is,
+/// `u64::MAX` if none is known. If marks count, the least mark is sought and not any before the
+/// bound.
 #[derive(Clone, Copy)]
 pub struct Target {
     pub bound: Option<Mark>,
@@ -14,7 +15,8 @@ pub struct Target {
     ghost is_top: { IsTopOf bound top },
 }
 
-/// A bound that is as good for matches, none of which has height 0.
+/// The bound with height 0 in place of height 1. No match has height 0, so the matches before the
+/// two are alike, but `top_of` is one lower.
 pub(crate) fn sharpened(bound: Option<Mark>) -> Option<Mark>
     ensures { IsSharper bound result }
 {
@@ -26,7 +28,8 @@ pub(crate) fn sharpened(bound: Option<Mark>) -> Option<Mark>
     })
 }
 
-/// The number from which on no match is before a bound.
+/// The cost from which on no match is before a bound: its own if its height is 0, and else one
+/// more; `u64::MAX` if there is no bound.
 pub(crate) fn top_of(bound: Option<Mark>) -> u64
     ensures { IsTopOf bound result }
 {
@@ -37,7 +40,8 @@ pub(crate) fn top_of(bound: Option<Mark>) -> u64
     }
 }
 
-/// Any match before a bound, as it stands.
+/// The target of a hunt for any match before a bound, as the bound stands. `find_first` hunts by
+/// it.
 pub(crate) fn before(bound: Option<Mark>) -> Target
     ensures bound { result.bound ≡ bound }
     ensures by_marks { result.by_marks ≡ false }

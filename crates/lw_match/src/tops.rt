@@ -1,4 +1,4 @@
-// Numbers at which the gaps of all patterns may be trusted, remembered over many searches.
+// Costs at which the gaps of all patterns may be trusted, remembered over many searches.
 ghost use Rattle.std.specs.Prelude.{◌≡◌, ◌<◌, ◌≤◌, ◌≢◌, IsTrue, ℕ, length};
 ghost use Rattle.lw_cost.specs.Least.{AreOfCells};
 ghost use Rattle.lw_bounds.specs.Numbers.{never};
@@ -12,11 +12,11 @@ use lw_pattern::Patterns;
 use lw_pool::PatId;
 use std::marker::Model;
 
-/// How many numbers are remembered at most.
+/// How many costs are remembered at most, besides the one up to which all are known.
 const PLACES: usize = 4096;
 
-/// Whether a pattern has the cell and the gaps of the one before it, as the patterns of a cell
-/// have, which stand together.
+/// Whether the pattern with the index `number` has the cell and the gaps of the one before it, so
+/// that it needs no test of its own. The patterns of a cell stand together.
 fn is_like_last(pats: &Patterns, gaps: &[[u64; 16]], number: u32) -> bool
     requires { number < length pats.now }
     ensures { IsTrue result → IsLikeLast pats.now gaps.now number }
@@ -29,7 +29,8 @@ fn is_like_last(pats: &Patterns, gaps: &[[u64; 16]], number: u32) -> bool
     pattern.cell == last.cell && gaps_at(gaps, PatId(number)) == gaps_at(gaps, PatId(number - 1))
 }
 
-/// Whether the gaps of all patterns are certified at a number. It is asked once for each cell.
+/// Whether the gaps of all patterns are certified at the cost `top`, with one test for each cell.
+/// `gaps` has 16 numbers for each pattern.
 fn are_certified<C: Cost>(pats: &Patterns, cost: &C, gaps: &[[u64; 16]], top: u64) -> bool
     requires { AreOfCells (C.costs cost.now).pin_counts pats.now }
     ensures { IsTrue result → AreCertified (C.costs cost.now) pats.now gaps.now top }
@@ -45,7 +46,8 @@ fn are_certified<C: Cost>(pats: &Patterns, cost: &C, gaps: &[[u64; 16]], top: u6
     true
 }
 
-/// Up to which number the gaps of all patterns are known to be certified.
+/// The cost up to which the gaps of all patterns are known to be certified without a call of
+/// `value`, in units of `cost`: 0 where nothing is known. `gaps` has 16 numbers for each pattern.
 fn known_up_to<C: Cost>(pats: &Patterns, cost: &C, gaps: &[[u64; 16]]) -> u64
     requires { AreOfCells (C.costs cost.now).pin_counts pats.now }
     ensures { (top : ℕ) → top ≤ result → AreCertified (C.costs cost.now) pats.now gaps.now top }
@@ -60,15 +62,16 @@ fn known_up_to<C: Cost>(pats: &Patterns, cost: &C, gaps: &[[u64; 16]]) -> u64
     known
 }
 
-/// The place of a number: numbers that lie close together have different ones.
+/// The place in `tops` at which a cost is remembered. Costs that lie close together mostly have
+/// different places.
 fn place_of(top: u64) -> usize
     ensures { result < most_tops }
 {
     (top.wrapping_mul(0x9e37_79b9_7f4a_7c15) >> 32) as usize % PLACES
 }
 
-/// Numbers at which the gaps of all patterns were certified: all up to one, and of those above it
-/// some. Each place has the last of those that belong there.
+/// Costs at which the gaps of all patterns are certified: all up to `known`, and those in `tops`.
+/// There each place has the last of those that belong there, or `u64::MAX` if none was found.
 #[derive(Drop)]
 pub struct Tops {
     known: u64,
@@ -87,7 +90,7 @@ impl Model for Tops {
 }
 
 impl Tops {
-    /// What is known of the patterns' gaps by the cost alone.
+    /// What is known of the patterns' gaps by the cost alone, without a call of `value`.
     pub fn new<C: Cost>(pats: &Patterns, cost: &C, bounds: &Bounds) -> Self
         requires { AreOfCells (C.costs cost.now).pin_counts pats.now }
         ensures { AreKnown (C.costs cost.now) pats.now bounds.now.gaps result }
@@ -98,7 +101,9 @@ impl Tops {
         }
     }
 
-    /// Whether the gaps of all patterns are certified at a number, which is remembered.
+    /// Whether the gaps of all patterns are certified at the cost `top`, so that a search that
+    /// passed over sides from there on missed nothing. A yes is remembered; at `u64::MAX` it says
+    /// no.
     pub(crate) fn are_sure_at<C: Cost>(&mut self, query: &Query<C>, top: u64) -> bool
         requires of_cells { HasPatternsOfCells C.costs query.now }
         requires known { AreKnownFor C.costs query.now self.old }

@@ -38,7 +38,7 @@ impl Want {
     }
 }
 
-/// The target of a hunt for this.
+/// The target of a hunt for this, with its bound sharpened and the top of that.
 pub(crate) fn target_of(want: Want) -> Target
     ensures { IsTargetOf want result }
 {
@@ -51,8 +51,8 @@ pub(crate) fn target_of(want: Want) -> Target
     }
 }
 
-/// The target after a match was found with a mark before it. Where marks count its number stays, so
-/// that what was passed over at it needs no other certificate.
+/// The target after a match was found with a mark before it: what is before that mark. Where marks
+/// count the top stays, so that what was passed over at it needs no other certificate.
 pub(crate) fn target_after(target: Target, mark: Mark) -> Target
     requires within { IsWithin target.bound (plain_mark mark) }
     ensures sharper { IsSharper (Some mark) result.bound }
@@ -68,7 +68,8 @@ pub(crate) fn target_after(target: Target, mark: Mark) -> Target
     target_of(Want::any(Some(mark)))
 }
 
-/// A target by which sides alone are passed over that stand nowhere, or too high.
+/// Any match before the bound, with no cost from which on sides are passed over. `improving` hunts
+/// by it for a pattern whose gaps are not certified, so only sides that stand nowhere are cut.
 pub(crate) fn unlimited(bound: Option<Mark>) -> Target
     ensures { IsUnlimited bound result }
 {
@@ -79,7 +80,8 @@ pub(crate) fn unlimited(bound: Option<Mark>) -> Target
     }
 }
 
-/// What costs less than a number.
+/// The target of a hunt for any match that costs less than a number, which is its top.
+/// `find_at_number_by` hunts by it.
 pub(crate) fn cheaper(number: u64) -> Target
     ensures { IsCheaper number result }
 {

@@ -6,7 +6,7 @@ use std::alloc::{AllocError, Global};
 use std::collections::VecDeque;
 use std::marker::Model;
 
-/// What waits in the order in which it came, none with more time left than what came before it.
+/// Items that wait in the order in which they came, none with more time left than one before it.
 #[derive(Drop)]
 pub struct Lane {
     queue: VecDeque<(u64, (u64, u32))>,
@@ -26,7 +26,7 @@ impl Model for Lane {
 }
 
 impl Lane {
-    /// Nothing waits.
+    /// A lane in which nothing waits.
     pub fn new(alloc: Global) -> Lane
         ensures { result ≡ [] }
     {
@@ -36,14 +36,15 @@ impl Lane {
         }
     }
 
-    /// Whether no more time is left than to those that wait.
+    /// Whether an item to which so much time is left may wait after the others: each of these has
+    /// as much left or more.
     pub fn fits(&self, left: u64) -> bool
         ensures { IsTrue result → All (λ (x : Item). left ≤ x.0) self.now }
     {
         left <= self.last
     }
 
-    /// Lets one more wait behind the others.
+    /// Lets one more item wait after the others, to each of which as much time is left or more.
     pub fn push(&mut self, item: (u64, (u64, u32))) -> Result<(), AllocError>
         requires { All (λ (x : Item). item.0 ≤ x.0) self.old }
         ensures { MatchResult result (λ _. self.new ≡ self.old ++ item ∷ [])
@@ -54,7 +55,7 @@ impl Lane {
         Ok(())
     }
 
-    /// The most time that is left to any.
+    /// The most time that is left to any item, none if none waits: it is left to the first.
     pub fn first(&self) -> Option<u64>
         ensures { IsMostLeft self.now result }
     {
@@ -64,7 +65,7 @@ impl Lane {
         }
     }
 
-    /// Takes the first one, if that has some time left.
+    /// Takes the first item, if just this time is left to it, and gives its hint and its number.
     pub fn take(&mut self, left: u64) -> Option<(u64, u32)>
         ensures { IsLaneTaken self.old self.new left result }
     {

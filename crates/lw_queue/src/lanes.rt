@@ -16,8 +16,8 @@ pub fn no_lanes(alloc: Global, count: usize) -> Result<Vec<Lane>, AllocError>
     Ok(lanes)
 }
 
-/// Lets one more wait behind those of a lane, unless less time is left to one of these or there is
-/// no such lane, and says whether it does.
+/// Lets one more item wait after those of a lane, and says whether it does: not if less time is
+/// left to one of these, or there is no such lane.
 pub fn push_behind(
     lanes: &mut Vec<Lane>,
     lane: u32,
@@ -34,7 +34,8 @@ pub fn push_behind(
     Ok(true)
 }
 
-/// The most time that is left to any in some lanes, or to others.
+/// The most time that is left to any item in some lanes or elsewhere, where the most is `others`;
+/// none if none waits.
 pub fn most_left(lanes: &[Lane], others: Option<u64>) -> Option<u64>
     ensures { (xs : List Item) → IsMostLeft xs others → IsMostLeft (xs ++ flat lanes.now) result }
 {
@@ -45,8 +46,8 @@ pub fn most_left(lanes: &[Lane], others: Option<u64>) -> Option<u64>
     most
 }
 
-/// Takes one that has some time left, and says from which lane. The lanes from one on are looked at
-/// before the others.
+/// Takes an item to which just this time is left, and gives its lane with its hint and number. The
+/// lanes from `at` on are looked at before the others.
 pub fn take_any(lanes: &mut Vec<Lane>, at: usize, left: u64) -> Option<(usize, (u64, u32))>
     ensures { IsTakenAny lanes.old.items lanes.new.items left (option_map (λ p. p.1) result) }
 {
@@ -58,7 +59,7 @@ pub fn take_any(lanes: &mut Vec<Lane>, at: usize, left: u64) -> Option<(usize, (
     take_in(lanes, 0, first, left)
 }
 
-// The greater of two, if there is one.
+// The greater of two, or the one that there is.
 fn greater(one: Option<u64>, other: Option<u64>) -> Option<u64>
     ensures { (xs ys : List Item) → IsMostLeft xs one → IsMostLeft ys other →
         IsMostLeft (xs ++ ys) result }
@@ -72,7 +73,8 @@ fn greater(one: Option<u64>, other: Option<u64>) -> Option<u64>
     Some(first.max(second))
 }
 
-// Takes one that has some time left from a lane between two, and says from which.
+// Takes an item to which just this time is left from one of the lanes from `first` on and before
+// `end`, and gives its lane with its hint and number.
 fn take_in(
     lanes: &mut Vec<Lane>,
     first: usize,

@@ -9,6 +9,14 @@
 //! * `lanes`: lanes side by side, of which any may have the first;
 //! * `queue`: the lanes and the heap together (`Queue`).
 //!
+//! The words of this crate:
+//!
+//! * number: what waits, that of a choice or of a group of pins;
+//! * left: the horizon less the time for which a number waits, in millionths. The earliest has most
+//!   left;
+//! * hint: a number that comes back with one that waits;
+//! * item: what is left, and then the hint and the number.
+//!
 //! The one definition to read is `Waits` in `specs/Queues.antt`. Start at `lw_trade`. `lw_curves`
 //! has two queues: of the groups of pins that come, and of the choices that wait to be looked at.
 #![tactic(auto)]

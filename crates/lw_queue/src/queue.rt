@@ -43,7 +43,7 @@ impl Model for Queue {
 }
 
 impl Queue {
-    /// Nothing waits, in so many lanes.
+    /// A queue of so many lanes, in which nothing waits.
     pub fn new(alloc: Global, horizon: u64, lanes: usize) -> Result<Queue, AllocError>
         ensures { IfOk result (IsIdle horizon) }
     {
@@ -77,7 +77,7 @@ impl Queue {
         Ok(())
     }
 
-    /// The first time for which a number waits.
+    /// The first time for which a number waits, none if none waits.
     pub fn next_time(&self) -> Option<u64>
         ensures { IsFirstTime self.now result }
     {
@@ -87,7 +87,7 @@ impl Queue {
         }
     }
 
-    /// Takes a number that waits for a time, before which none waits.
+    /// Takes a number that waits for this time, before which none waits; none if none does.
     pub fn take_at(&mut self, time: u64) -> Option<u32>
         requires within { time ≤ self.old.horizon }
         requires first { (t n : ℕ) → Waits self.old t n → time ≤ t }
@@ -99,8 +99,8 @@ impl Queue {
         }
     }
 
-    /// Takes a number that waits for a time, before which none waits, behind the hint with which it
-    /// was pushed.
+    /// Takes a number that waits for this time, before which none waits. It comes after the hint
+    /// with which it was pushed; none if none does.
     pub fn take_hinted_at(&mut self, time: u64) -> Option<(u64, u32)>
         requires within { time ≤ self.old.horizon }
         requires first { (t n : ℕ) → Waits self.old t n → time ≤ t }
@@ -120,7 +120,7 @@ impl Queue {
     }
 }
 
-// The most time that is left to any in a heap.
+// The most time that is left to any item in a heap, none if it is empty.
 fn most_in_heap(heap: &BinaryHeap<(u64, (u64, u32))>) -> Option<u64>
     ensures { IsHeap item_cmp (heap_items heap.now) → IsMostLeft (heap_items heap.now) result }
 {

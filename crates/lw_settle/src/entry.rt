@@ -12,7 +12,7 @@ pub(crate) struct Entry {
     pub class: u32,
 }
 
-/// A class that does not wait.
+/// The entry of a class that does not wait, which is before none that waits.
 pub(crate) fn no_mark(class: u32) -> Entry
     ensures { IsIdleLeaf result class }
 {
@@ -23,7 +23,7 @@ pub(crate) fn no_mark(class: u32) -> Entry
     }
 }
 
-/// A class that waits with a mark.
+/// The entry of a class that waits with a mark, whose height is less than `u32::MAX`.
 pub(crate) fn with_mark(class: u32, mark: Mark) -> Entry
     ensures { mark.height < 2 ^ 32 - 1 → IsWaitingLeaf result class mark }
 {
@@ -41,7 +41,7 @@ pub(crate) fn is_before(one: Entry, other: Entry) -> bool
     one.cost < other.cost || (one.cost == other.cost && one.height < other.height)
 }
 
-/// The lesser of two.
+/// The lesser of two entries, and the first if neither is before the other.
 pub(crate) fn lesser(one: Entry, other: Entry) -> Entry
     ensures { result ≡ lesser one other }
 {

@@ -16,6 +16,7 @@ impl From<AllocError> for StoreFault {
 
     ghost from_gives = { λ e fault. fault ≡ Memory };
 
+    // Running out of memory is the fault `Memory`.
     fn from(_: AllocError) -> Self {
         StoreFault::Memory
     }

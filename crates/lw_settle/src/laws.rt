@@ -1,4 +1,4 @@
-//! Laws over definitions: functions with empty bodies, whose clauses are the laws.
+//! Theorems: functions with empty bodies, whose clauses are the theorems.
 ghost use Rattle.std.specs.Prelude.{◌≡◌, ℕ, List, Option, Some, slice_get};
 ghost use Rattle.lw_graph.specs.Graphs.{IsGraph};
 ghost use Rattle.lw_laws.specs.Costs.{Cost, IsCost};
@@ -14,7 +14,7 @@ ghost use Rattle.lw_settle.specs.Steps.{AreSteps};
 ghost use Rattle.lw_settle.specs.Stores.{AreOfStoredCells, IsStoreOf, Stored};
 ghost use Rattle.lw_laws.specs.Choices.{Labels};
 
-/// A law: marks that are settled by a store of a graph and patterns are the least marks of these.
+/// Marks that are settled by a store of a graph and patterns are the least marks of these.
 pub fn settled_marks_are_least()
     ensures { (g : Graph) (cost : Cost) (pats : List Pattern) (lists : List (List Stored)) →
         IsGraph g → IsCost cost → AreOfCells cost.pin_counts pats → IsStoreOf g pats lists →
@@ -22,21 +22,21 @@ pub fn settled_marks_are_least()
         AreLeastMarks g cost pats marks }
 {}
 
-/// A law: all least marks of a graph and patterns are the same.
+/// All least marks of a graph and patterns are the same.
 pub fn least_marks_are_one()
     ensures { (g : Graph) (cost : Cost) (pats : List Pattern)
         (marks others : List (Option Mark)) → AreLeastMarks g cost pats marks →
         AreLeastMarks g cost pats others → (c : ℕ) → marks_in marks c ≡ marks_in others c }
 {}
 
-/// A law: where the patterns are of cells with these numbers of pins, so are the matches of a store
-/// of them.
+/// Where the patterns are of cells with these numbers of pins, so are the matches of a store of
+/// them.
 pub fn stores_are_of_cells()
     ensures { (g : Graph) (pats : List Pattern) (pin_counts : List ℕ) (lists : List (List Stored)) →
         AreOfCells pin_counts pats → IsStoreOf g pats lists → AreOfStoredCells pin_counts lists }
 {}
 
-/// A law: where no cover of an input's class costs less than the input, none that is made of stored
+/// Where no cover of an input's class costs less than the input, none that is made of stored
 /// matches does.
 pub fn leaf_costs_are_least()
     ensures { (g : Graph) (cost : Cost) (pats : List Pattern) (lists : List (List Stored)) →
@@ -45,8 +45,8 @@ pub fn leaf_costs_are_least()
         IsLeastCover g pats cost c (Some (cost.leaf i))) → HaveLeafCosts g cost lists }
 {}
 
-/// A law: all stores of a graph and patterns are read as often, so that there is one count of steps
-/// at most.
+/// All stores of a graph and patterns are read as often, so that there is one count of steps at
+/// most.
 pub fn steps_are_one()
     ensures { (g : Graph) (pats : List Pattern) (labels : Labels) (steps others : Option ℕ) →
         AreSteps g pats labels steps →

@@ -18,6 +18,19 @@
 //!   mark is taken never gets another;
 //! * `laws`: theorems on stores and marks.
 //!
+//! The words of this crate:
+//!
+//! * mark: the least cost of a cover of a class, in units of the cost, and its height in gates. It
+//!   is before another if it costs less, or as much with less height;
+//! * binding: a class or none for each pin of a pattern. A goal is a node with the class at which
+//!   it has to stand;
+//! * side: what a node of a pattern is, where all leaves are alike: a leaf, a part, its complement,
+//!   or not known. A part is a NAND of two sides;
+//! * way: a choice of pairs by which a part stands at a class. Ways are counted up to 16,777,216;
+//! * use: a stored match with a pin of it that has the class;
+//! * place: the number of a stored match, from 0, by class;
+//! * left: how many pins of a match have classes that are not taken yet.
+//!
 //! The definitions to read are `IsStoreOf` in `specs/Stores.antt` and `AreSettledMarks` in
 //! `specs/Settled.antt`. `lw_map` calls both for `big` and `trade none`, and `lw_choices` lists the
 //! choices of `trade` by a store.

@@ -39,7 +39,7 @@ impl Model for Queue {
 }
 
 impl Queue {
-    /// No class of so many waits.
+    /// A queue of so many classes, none of which waits.
     pub(crate) fn new(alloc: Global, classes: usize) -> Result<Queue, AllocError>
         requires some { 0 < classes }
         requires few { classes < 2 ^ 32 }
@@ -64,7 +64,7 @@ impl Queue {
         }
     }
 
-    /// Takes the first of the classes that wait, and none where none waits.
+    /// Takes the class with the least mark of those that wait, and none where none waits.
     pub(crate) fn take(&mut self) -> Option<Taken>
         ensures { TakesFirst self.old self.new result }
     {
@@ -88,7 +88,8 @@ impl Queue {
     }
 }
 
-// Finds anew the lesser entries above a place.
+// Finds anew the entries of the nodes above the one at `place`, up to node 1: each is the lesser of
+// the two below it.
 fn renew(tree: &mut [Entry], classes: usize, place: usize)
     requires place { place < 2 * classes }
     requires tree { IsWonBut classes tree.old (place / 2) }
@@ -102,7 +103,7 @@ fn renew(tree: &mut [Entry], classes: usize, place: usize)
     }
 }
 
-// Puts an entry at the leaf of a class.
+// Puts an entry at the leaf of a class, and what follows from it at the nodes above.
 fn set_leaf(tree: &mut [Entry], classes: usize, class: usize, entry: Entry)
     requires class { class < classes }
     requires tree { IsWonBut classes tree.old 0 }

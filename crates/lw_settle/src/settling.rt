@@ -41,7 +41,7 @@ pub fn settle<C: Cost>(
     Ok(Labels::from_marks(marks))
 }
 
-// Offers a mark to a class, unless its own is taken.
+// Offers a mark to a class, unless the class was taken, so that it has its own.
 fn offer(queue: &mut Queue, marks: &[Option<Mark>], class: ClassId, mark: Mark)
     requires { MayOffer marks.now queue.old class.0 mark }
     ensures offering { IsOffering (marks_in marks.now) (marks_in queue.old)
@@ -53,7 +53,8 @@ fn offer(queue: &mut Queue, marks: &[Option<Mark>], class: ClassId, mark: Mark)
     }
 }
 
-// Prices a match and offers it to its class.
+// Prices the match with the number `place`, all of whose pins have marks, and offers what it costs
+// to its class.
 fn offer_match<C: Cost>(
     store: &mut Store,
     cost: &C,
@@ -71,7 +72,7 @@ fn offer_match<C: Cost>(
     offer(queue, marks, head.class, mark);
 }
 
-// Offers the inputs to their classes.
+// Offers to each input's class the cost of the input, with height 0.
 fn offer_inputs<C: Cost>(graph: &Graph, cost: &C, queue: &mut Queue)
     requires { queue.old ≡ replicate (length graph.now.pairs) None }
     ensures { AreInputsOffered graph.now (C.costs cost.now) (length graph.now.leaves) queue.new }
@@ -86,7 +87,7 @@ fn offer_inputs<C: Cost>(graph: &Graph, cost: &C, queue: &mut Queue)
     }
 }
 
-// How many pins each match has.
+// Puts in `left` how many pins each match has: at first no class is taken.
 fn count_pins(store: &Store, left: &mut [u8])
     requires { length left.old ≡ length (placed store.now.lists) }
     ensures { left.new ≡ map pin_count (placed store.now.lists) }
@@ -97,7 +98,7 @@ fn count_pins(store: &Store, left: &mut [u8])
     }
 }
 
-// Offers the matches without pins to their classes.
+// Offers the matches without pins to their classes, since no use of a class leads to them.
 fn offer_pinless<C: Cost>(
     store: &mut Store,
     cost: &C,
@@ -116,8 +117,8 @@ fn offer_pinless<C: Cost>(
     }
 }
 
-// Reads a use of a class: one pin less is left of its match, which is offered to its class where
-// that was the last one.
+// Reads the use of a class with the number `n`: one pin less is left of its match, which is offered
+// to its class where that was the last one.
 fn read_use<C: Cost>(
     store: &mut Store,
     cost: &C,
@@ -140,7 +141,7 @@ fn read_use<C: Cost>(
     }
 }
 
-// Reads the uses of a class.
+// Reads the uses of a class that was taken, one after the other.
 fn read_uses<C: Cost>(
     store: &mut Store,
     cost: &C,
@@ -158,7 +159,7 @@ fn read_uses<C: Cost>(
     }
 }
 
-// Takes the classes in the order of their marks, until none waits.
+// Takes the classes in the order of their marks, until none waits, and reads the uses of each.
 fn settle_classes<C: Cost>(
     store: &mut Store,
     cost: &C,
@@ -176,7 +177,8 @@ fn settle_classes<C: Cost>(
     }
 }
 
-// Settles all classes.
+// Settles all classes. At first none has a mark in `marks` or waits in `queue`; inputs and matches
+// without pins are offered, and then the classes are taken.
 fn settle_all<C: Cost>(
     store: &mut Store,
     graph: &Graph,

@@ -73,7 +73,7 @@ impl Model for Store {
     ghost invariant = { λ s. IsKeptStore (length s.ends.items) s.rows.items s.pins.items (cell_numbers s.cells.items) s.ends.items s.uses.items };
 }
 
-// Where the uses of a class start.
+// Where the uses of a class start: where those of the class before it end.
 fn start_of(ends: &[u32], class: usize) -> u32
     requires { class < length ends.now }
     ensures { result ≡ start_at ends.now class }
@@ -93,7 +93,8 @@ fn pins_of(pins: &[ClassId], row: Row) -> &[ClassId]
     &pins[start..start + row.pins as usize]
 }
 
-// The costs of the marks of some pins, and the greatest height of these marks.
+// Puts the costs of the marks of some pins at the front of `costs`. It gives the greatest height of
+// these marks, 0 if there is no pin.
 fn read_marks(pins: &[ClassId], marks: &[Option<Mark>], costs: &mut [u64]) -> u32
     requires { AreMarkedPins (length costs.old) marks.now pins.now }
     ensures { (ks : List PlainMark) × HaveMarks (marks_in marks.now) (numbers pins.now) ks ×
@@ -109,7 +110,8 @@ fn read_marks(pins: &[ClassId], marks: &[Option<Mark>], costs: &mut [u64]) -> u3
     height
 }
 
-// The mark that a match of a cell gives its class, by the marks of its pins.
+// The mark that a match of a cell gives its class, by the marks of its pins: one gate higher than
+// the highest of them.
 fn mark_of<C: Cost>(pins: &[ClassId], cell: CellId, cost: &C, marks: &[Option<Mark>]) -> Mark
     requires pins { AreMarkedPins 16 marks.now pins.now }
     requires of_cell { HasPins (C.costs cost.now).pin_counts cell.0 (length pins.now) }
@@ -140,6 +142,7 @@ fn pins_at(classes: &[ClassId]) -> Pins
 impl Store {
     ghost use Rattle.lw_settle.specs.Kept.{cell_numbers, grouped, placed_rows, IsKeptStore};
 
+    // A store of these arrays, of which nothing was read yet.
     pub(crate) fn new(
         rows: Vec<Row>,
         pins: Vec<ClassId>,
@@ -178,14 +181,14 @@ impl Store {
         self.pins.len() as u64
     }
 
-    /// How often a match was read: by a use of a class, or by its price.
+    /// How often a match was read: by `use_at`, `price` or `read`.
     pub fn done(&self) -> u64
         ensures { result ≡ self.now.done }
     {
         self.done
     }
 
-    /// The class of a match, and its number of pins.
+    /// The class of the match with the number `place`, and how many pins it has. It is no reading.
     pub fn head(&self, place: u32) -> Head
         requires { place < length (placed self.now.lists) }
         ensures { IsHeadOf self.now.lists place result.class.0 result.pins }
@@ -206,7 +209,8 @@ impl Store {
         self.ends[class] - start_of(&self.ends, class)
     }
 
-    /// The match of a use of a class. It counts as a reading.
+    /// The number of the match of a use of a class, `n` being the number of the use. It counts as a
+    /// reading.
     pub fn use_at(&mut self, class: ClassId, n: u32) -> u32
         requires class { class.0 < length self.old.lists }
         requires within { n < length (uses_of self.old.lists class.0) }
@@ -219,8 +223,8 @@ impl Store {
         self.uses[(start + n) as usize]
     }
 
-    /// What a match costs over the marks of its pins, and 1 more than the greatest of their
-    /// heights. It counts as a reading.
+    /// What the match with the number `place` costs over the marks of its pins, and 1 more than the
+    /// greatest of their heights. It counts as a reading.
     pub fn price<C: Cost>(&mut self, place: u32, cost: &C, marks: &[Option<Mark>]) -> Mark
         requires { IsPriceable self.old (C.costs cost.now) C.CAP marks.now place }
         ensures price { IsPriceOf self.old.lists (C.costs cost.now)
@@ -233,7 +237,7 @@ impl Store {
         mark_of(pins_of(&self.pins, row), cell, cost, marks)
     }
 
-    /// A match with its class, its cell and its pins. It counts as a reading.
+    /// The match with the number `place`: its class, its cell and its pins. It counts as a reading.
     pub fn read(&mut self, place: u32) -> Found
         requires place { place < length (placed self.old.lists) }
         requires fresh { self.old.done < 2 ^ 63 }

@@ -51,6 +51,8 @@ pub enum Answer {
 /// The answer to a command, or why there is none.
 pub type Answered = Result<Answer, Refusal>;
 
+// The answer of `map`: a library and a network are read, and the network is mapped, with a
+// certificate if `certified`.
 fn map_files<F: Shelf>(
     alloc: Global,
     options: Options,
@@ -67,6 +69,8 @@ fn map_files<F: Shelf>(
     map_model(alloc, library, model, options, certified)
 }
 
+// The answer of `check`: a library, a network and a mapped netlist are read in this order, and the
+// netlist is checked.
 fn check_files<F: Shelf>(
     alloc: Global,
     options: Options,
@@ -101,6 +105,7 @@ fn check_files<F: Shelf>(
     answer
 }
 
+// The answer of `time`: a library and a mapped netlist are read, and the netlist is timed.
 fn time_files<F: Shelf>(alloc: Global, library: &str, mapped: &str, shelf: &mut F) -> Answered
     ensures { Responds F.files F.faults shelf.old shelf.new (timing library.now mapped.now) result }
 {
@@ -109,6 +114,7 @@ fn time_files<F: Shelf>(alloc: Global, library: &str, mapped: &str, shelf: &mut 
     time_mapped(alloc, library, mapped)
 }
 
+// The answer of `sim`: a network and vectors for its inputs are read, and a simulator is made.
 fn simulate_files<F: Shelf>(alloc: Global, network: &str, vectors: &str, shelf: &mut F) -> Answered
     ensures { Responds F.files F.faults shelf.old shelf.new
         (simulation network.now vectors.now) result }
@@ -118,6 +124,8 @@ fn simulate_files<F: Shelf>(alloc: Global, network: &str, vectors: &str, shelf: 
     simulate(alloc, model, vectors)
 }
 
+// The answer of `sim -g`: a library, a mapped netlist and vectors for its inputs are read, and a
+// simulator is made.
 fn simulate_gate_files<F: Shelf>(
     alloc: Global,
     library: &str,
@@ -146,6 +154,7 @@ fn simulate_gate_files<F: Shelf>(
     }
 }
 
+// The answer of `graph`: a network is read, and the graph of its forms is counted.
 fn count_files<F: Shelf>(alloc: Global, options: Options, network: &str, shelf: &mut F) -> Answered
     ensures { Responds F.files F.faults shelf.old shelf.new
         (counting (plain_options options) network.now) result }
@@ -154,6 +163,7 @@ fn count_files<F: Shelf>(alloc: Global, options: Options, network: &str, shelf: 
     count_model(alloc, &model, options)
 }
 
+// The answer of `lut`: a network is read and covered by tables of at most `leaves` fan-ins.
 fn table_files<F: Shelf>(
     alloc: Global,
     leaves: u8,
@@ -169,6 +179,8 @@ fn table_files<F: Shelf>(
     table_model(alloc, model, options, leaves)
 }
 
+// The answer of `big`: a library is read, and a network of `count` nodes, drawn from `seed`, is
+// mapped to its cells.
 fn draw_files<F: Shelf>(
     alloc: Global,
     seed: u64,
@@ -184,6 +196,7 @@ fn draw_files<F: Shelf>(
     draw(alloc, &library, seed, count)
 }
 
+// The answer of `verilog`: a library and a mapped netlist are read, for a text in Verilog.
 fn to_verilog_files<F: Shelf>(alloc: Global, library: &str, mapped: &str, shelf: &mut F) -> Answered
     ensures { Responds F.files F.faults shelf.old shelf.new
         (to_verilog library.now mapped.now) result }
@@ -193,6 +206,7 @@ fn to_verilog_files<F: Shelf>(alloc: Global, library: &str, mapped: &str, shelf:
     say_verilog(alloc, library, mapped)
 }
 
+// The answer of `unverilog`: a library and a netlist in Verilog are read, for a mapped text.
 fn from_verilog_files<F: Shelf>(
     alloc: Global,
     library: &str,
@@ -207,6 +221,8 @@ fn from_verilog_files<F: Shelf>(
     map_verilog(alloc, library, netlist)
 }
 
+// The answer of `trade`: a library and a network are read, and the network is mapped with the least
+// area by a deadline, or of all without one.
 fn trade_files<F: Shelf>(
     alloc: Global,
     deadline: Option<Micro>,

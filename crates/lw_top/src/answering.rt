@@ -97,7 +97,7 @@ pub(crate) fn table_model(alloc: Global, model: Parsed, options: Options, leaves
     }
 }
 
-/// What a check of a mapped netlist comes to.
+/// What a check of a mapped netlist comes to: `Yes`, or a refusal with the reason against it.
 pub(crate) fn check_mapped(
     alloc: Global,
     library: &Library,
@@ -119,7 +119,7 @@ pub(crate) fn check_mapped(
     }
 }
 
-/// The counts of a network's graph.
+/// The counts of a network's graph, or why there are none.
 pub(crate) fn count_model(alloc: Global, model: &Parsed, options: Options) -> Answered
     ensures { Gives (Counts (plain_options options) model.now) result }
 {
@@ -129,7 +129,8 @@ pub(crate) fn count_model(alloc: Global, model: &Parsed, options: Options) -> An
     }
 }
 
-/// The sizes of a network that is drawn from a number and mapped to cells of the library.
+/// The sizes of a network of `count` nodes that is drawn from `seed` and mapped to cells of the
+/// library, or why there are none.
 pub(crate) fn draw(alloc: Global, library: &Library, seed: u64, count: u32) -> Answered
     requires { IsCount count }
     ensures { Gives (Draws seed count library.now) result }

@@ -1,4 +1,4 @@
-//! A law over definitions: a function with no work of its own, whose clause is the law.
+//! A theorem: a function with no work of its own, whose clause is the theorem.
 ghost use Rattle.std.specs.Prelude.{ℕ, List, Ok};
 ghost use Rattle.lw_files.specs.Steps.{Files};
 ghost use Rattle.lw_top.specs.Answers.{IsAnswer};

@@ -27,7 +27,8 @@ pub enum Outcome {
     Refused(Refusal),
 }
 
-/// Computes the whole answer, and then writes it.
+/// Computes the whole answer of a command, and then writes it. Without a command the words are
+/// refused.
 pub fn serve<F: Shelf, O: Sink>(
     alloc: Global,
     command: Option<Command<'_>>,
@@ -49,7 +50,7 @@ pub fn serve<F: Shelf, O: Sink>(
     }
 }
 
-// Writes an answer, all of it.
+// Writes an answer, all of it, and lets go of it.
 fn written<O: Sink>(answer: Answer, out: &mut O) -> Outcome
     requires { CanBeWritten answer }
     ensures writes { WritesAnswer O.taken O.is_finished O.faults out.old out.new answer result }
@@ -90,6 +91,7 @@ fn write_text<O: Sink>(answer: &mut Answer, out: &mut O) -> Result<(), Failed>
     }
 }
 
+// Writes the counts of a graph, one on a line.
 fn write_counts<O: Sink>(counts: Counts, out: &mut O) -> Result<(), Failed>
     ensures { IsTaken (O.taken out.old) (O.faults out.old) (O.taken out.new) (O.faults out.new)
         (counts_text counts) result }
@@ -101,7 +103,7 @@ fn write_counts<O: Sink>(counts: Counts, out: &mut O) -> Result<(), Failed>
     text.end()
 }
 
-// How often stored matches were read.
+// Writes how often stored matches were read, `none` if none was stored.
 fn put_steps<O: Sink>(out: &mut Writer<'_, O>, steps: Option<u64>)
     ensures { Writes O.taken O.faults out.old out.new (steps_text steps) }
 {
@@ -111,6 +113,7 @@ fn put_steps<O: Sink>(out: &mut Writer<'_, O>, steps: Option<u64>)
     }
 }
 
+// Writes the sizes of a drawn network, one on a line, the greatest arrival as a decimal.
 fn write_sizes<O: Sink>(sizes: Sizes, out: &mut O) -> Result<(), Failed>
     ensures { IsTaken (O.taken out.old) (O.faults out.old) (O.taken out.new) (O.faults out.new)
         (sizes_text sizes) result }

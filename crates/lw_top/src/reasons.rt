@@ -10,6 +10,7 @@ use lw_map::Reason;
 use lw_pool::{ClassId, Name};
 use lw_verilog::{NoVerilog, VerilogKind};
 
+// Writes a label as a decimal, `none` if there is none.
 fn put_label<S: Sink>(out: &mut Writer<'_, S>, label: Option<Micro>)
     ensures { Writes S.taken S.faults out.old out.new (label_text label) }
 {
@@ -19,6 +20,7 @@ fn put_label<S: Sink>(out: &mut Writer<'_, S>, label: Option<Micro>)
     }
 }
 
+// Writes that the label of a class is no bound: a match at it, or an input of it, gives less.
 fn put_label_reason<S: Sink>(
     out: &mut Writer<'_, S>,
     class: ClassId,
@@ -35,6 +37,8 @@ fn put_label_reason<S: Sink>(
     put_time(out, value);
 }
 
+// Writes that the net of an output is of the class `found`, and not of `root`, its class in the
+// network.
 fn put_root_reason<S: Sink>(out: &mut Writer<'_, S>, name: &Name, found: ClassId, root: ClassId)
     ensures { Writes S.taken S.faults out.old out.new (root_reason name.now found.0 root.0) }
 {
@@ -46,6 +50,7 @@ fn put_root_reason<S: Sink>(out: &mut Writer<'_, S>, name: &Name, found: ClassId
     put_number(out, u128::from(root.0));
 }
 
+// Writes that an output arrives at another time than its label.
 fn put_value_reason<S: Sink>(out: &mut Writer<'_, S>, name: &Name, arrival: Micro, label: Micro)
     ensures { Writes S.taken S.faults out.old out.new (value_reason name.now arrival.0 label.0) }
 {
@@ -57,7 +62,7 @@ fn put_value_reason<S: Sink>(out: &mut Writer<'_, S>, name: &Name, arrival: Micr
     put_time(out, label);
 }
 
-/// The text of a reason.
+/// Writes why a check says no.
 pub(crate) fn put_reason<S: Sink>(out: &mut Writer<'_, S>, reason: &Reason)
     ensures { Writes S.taken S.faults out.old out.new (reason_text reason.now) }
 {
@@ -76,7 +81,7 @@ pub(crate) fn put_reason<S: Sink>(out: &mut Writer<'_, S>, reason: &Reason)
     }
 }
 
-/// Why a mapped netlist has no text in Verilog.
+/// Writes why a mapped netlist has no text in Verilog.
 pub(crate) fn put_no_verilog<S: Sink>(out: &mut Writer<'_, S>, why: &NoVerilog)
     ensures { Writes S.taken S.faults out.old out.new (no_verilog_text why.now) }
 {
@@ -103,7 +108,7 @@ pub(crate) fn put_no_verilog<S: Sink>(out: &mut Writer<'_, S>, why: &NoVerilog)
     }
 }
 
-/// Why a line of a text in Verilog is refused.
+/// The text of the rule that a line of a netlist in Verilog breaks.
 pub(crate) fn verilog_kind_text(kind: &VerilogKind) -> &[u8]
     ensures { result.now ≡ verilog_kind_text kind.now }
 {

@@ -76,6 +76,7 @@ impl Refusal {
 impl From<AllocError> for Refusal {
     ghost from_gives = { λ _ e. e ≡ Memory };
 
+    // Running out of memory is the refusal `Memory`.
     fn from(_e: AllocError) -> Refusal {
         Refusal::Memory
     }

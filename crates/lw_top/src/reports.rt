@@ -12,7 +12,7 @@ use lw_mapped::Mapped;
 use lw_report::{Sim, Timing, Vectors};
 use std::alloc::Global;
 
-/// The timing of a mapped netlist.
+/// The answer to a mapped netlist that was read: its timing.
 pub(crate) fn time_mapped(alloc: Global, library: Library, mapped: Mapped) -> Answered
     requires { IsReadNetlist library mapped }
     ensures { Gives (Times library mapped) result }
@@ -25,7 +25,8 @@ pub(crate) fn time_mapped(alloc: Global, library: Library, mapped: Mapped) -> An
     Ok(Answer::Times(library, mapped.netlist, timing))
 }
 
-/// A simulator of a network.
+/// The answer to a network and vectors that were read: a simulator, which gives the values as they
+/// are written.
 pub(crate) fn simulate(alloc: Global, model: Parsed, vectors: Vectors) -> Answered
     requires { AreReadVectors model.network.inputs vectors }
     ensures { Gives (Simulates model (values_in vectors)) result }
@@ -38,7 +39,8 @@ pub(crate) fn simulate(alloc: Global, model: Parsed, vectors: Vectors) -> Answer
     Ok(Answer::Values(model.network, vectors, sim))
 }
 
-/// A simulator of a mapped netlist.
+/// The answer to a mapped netlist and vectors that were read: a simulator, which gives the values
+/// as they are written.
 pub(crate) fn simulate_gates(
     alloc: Global,
     library: Library,

@@ -70,7 +70,7 @@ pub(crate) fn read_mapped<F: Shelf>(
     }
 }
 
-// The text of a file.
+// The bytes of a file. `which` file of the command it is goes into the refusal.
 fn read_text<F: Shelf>(
     alloc: Global,
     shelf: &mut F,
@@ -101,7 +101,7 @@ fn netlist_in(alloc: Global, library: &Library, bytes: Bytes) -> Result<Netlist,
     }
 }
 
-// The refusal of a netlist as a whole.
+// The refusal of a netlist in Verilog for a fault that no line has.
 fn of_netlist(fault: NetlistFault) -> Refusal
     ensures { result ≡ netlist_refusal fault }
 {
@@ -140,13 +140,14 @@ impl TakesLines<Inputs> for Vectors {
 
     ghost accepts = { λ line. Unit {0} };
 
+    // Takes the next line as a vector. A fault is kept until all lines are given.
     fn take_line(&mut self, _over: &Inputs, line: &Line) {
         // The vectors keep a fault, which `fault` reports when all lines are given.
         let _ = self.line(line);
     }
 }
 
-// The vectors of a text.
+// The vectors of a text, each with a value for so many inputs.
 fn vectors_in(alloc: Global, inputs: u32, bytes: &[u8]) -> Result<Vectors, Refusal>
     requires { length bytes.now ≤ most_bytes }
     ensures comes { Comes values_in (HasVectors inputs bytes.now) result }

@@ -16,7 +16,7 @@ use lw_io::{Failed, Sink, Writer};
 use lw_map::Reason;
 use lw_verilog::NoVerilog;
 
-/// Writes the line of an outcome, if it has one.
+/// Writes the line of an outcome to `err`, if it has one.
 pub fn tell<E: Sink>(
     command: Option<Command<'_>>,
     outcome: &Outcome,
@@ -30,6 +30,7 @@ pub fn tell<E: Sink>(
     out.end()
 }
 
+// Writes the line of an outcome, and nothing if the answer was written.
 fn put_outcome<E: Sink>(command: Option<Command<'_>>, outcome: &Outcome, out: &mut Writer<'_, E>)
     ensures { Writes E.taken E.faults out.old out.new
         (outcome_line (asked command.entry) outcome.now) }
@@ -41,6 +42,7 @@ fn put_outcome<E: Sink>(command: Option<Command<'_>>, outcome: &Outcome, out: &m
     }
 }
 
+// Writes the line of a refusal, which begins with the program's name.
 fn put_line<E: Sink>(command: Option<Command<'_>>, refusal: &Refusal, out: &mut Writer<'_, E>)
     ensures { Writes E.taken E.faults out.old out.new
         (refusal_line (asked command.entry) refusal.now) }
@@ -50,7 +52,7 @@ fn put_line<E: Sink>(command: Option<Command<'_>>, refusal: &Refusal, out: &mut 
     out.put(b"\n");
 }
 
-// Why there is no answer.
+// Writes why there is no answer. A file is named by its word in the command.
 fn put_refusal<E: Sink>(command: Option<Command<'_>>, refusal: &Refusal, out: &mut Writer<'_, E>)
     ensures { Writes E.taken E.faults out.old out.new
         (refusal_text (asked command.entry) refusal.now) }
@@ -80,6 +82,7 @@ fn put_refusal<E: Sink>(command: Option<Command<'_>>, refusal: &Refusal, out: &m
     }
 }
 
+// Writes why a check says no, after `no: `.
 fn put_no<E: Sink>(out: &mut Writer<'_, E>, reason: &Reason)
     ensures { Writes E.taken E.faults out.old out.new (codes "no: " ++ reason_text reason.now) }
 {
@@ -87,6 +90,7 @@ fn put_no<E: Sink>(out: &mut Writer<'_, E>, reason: &Reason)
     put_reason(out, reason);
 }
 
+// Writes why there is no text in Verilog, after `no verilog: `.
 fn put_unsaid<E: Sink>(out: &mut Writer<'_, E>, why: &NoVerilog)
     ensures { Writes E.taken E.faults out.old out.new
         (codes "no verilog: " ++ no_verilog_text why.now) }
@@ -95,5 +99,6 @@ fn put_unsaid<E: Sink>(out: &mut Writer<'_, E>, why: &NoVerilog)
     put_no_verilog(out, why);
 }
 
+// The line for words of no written form.
 const USAGE: &[u8] =
     b"usage: map [-w K] [-i] [-c] LIB IN | check [-w K] [-i] LIB IN MAPPED | time LIB MAPPED | sim IN VECTORS | sim -g LIB MAPPED VECTORS | graph [-w K] [-i] IN | big SEED N LIB | trade [-w K] [-i] T LIB IN | lut L [-w K] [-i] IN | verilog LIB MAPPED | unverilog LIB VER";

@@ -48,14 +48,14 @@ pub fn run<F: Shelf, O: Sink, E: Sink>(
     // At 0, over known files and where a mapping was asked for, that text is of a netlist of the
     // library's cells, with the latches of the network's text. It gives each root, which is an
     // output or what a latch reads, the network's value for all values of the inputs and of the
-    // latches' outputs, and brings it, counted from the inputs' arrivals, at the least time of all
-    // covers of all trees that the command's laws derive for it.
+    // latches' outputs. Each root arrives, counted from the inputs' arrivals, at the least time of
+    // all covers of all trees that the command's rules derive for it.
     ensures mapping { (files : List File) → F.files shelf.old ≡ Some files →
         AsksForMapping (map string_bytes words.now.items) → result ≡ 0
         → ((text : List ℕ) × IsMappingText (map string_bytes words.now.items) (bytes_of files) text
         × IsDone O.taken O.is_finished out.old out.new text) }
 
-    // At 6, over known files and where a mapping was asked for, no tree that the command's laws
+    // At 6, over known files and where a mapping was asked for, no tree that the command's rules
     // derive for the root whose name is reported has a cover.
     ensures no_cover { (files : List File) → F.files shelf.old ≡ Some files →
         AsksForMapping (map string_bytes words.now.items) → result ≡ 6
@@ -71,9 +71,9 @@ pub fn run<F: Shelf, O: Sink, E: Sink>(
 
     // At 0, over known files and where lookup tables were asked for, that text is BLIF: a network
     // with the latches of the network's text, whose nodes have no more fan-ins than were asked for.
-    // It gives each root the network's value under every assignment, and each root is as deep,
-    // wires not counted, as the shallowest of all covers by tables of all trees that the command's
-    // laws derive for it.
+    // It gives each root the network's value under every assignment. Each root is as deep, wires
+    // not counted, as the shallowest of all covers by tables of all trees that the command's rules
+    // derive for it.
     ensures tables { (files : List File) → F.files shelf.old ≡ Some files →
         AsksForTables (map string_bytes words.now.items) → result ≡ 0
         → ((text : List ℕ) × AreTables (map string_bytes words.now.items) (bytes_of files) text
@@ -82,8 +82,8 @@ pub fn run<F: Shelf, O: Sink, E: Sink>(
     // At 0, over known files and where the least area by a deadline was asked for, that text is of
     // a netlist of the library's cells, with the latches of the network's text. It gives each root
     // the network's value under every assignment. Each root arrives by the deadline, or at its
-    // least time where that is later, and has the least area, in which each use of a shared part
-    // counts, of all covers that are in time of all trees that the command's laws derive for it.
+    // least time where that is later. It has the least area, in which each use of a shared part
+    // counts, of all covers in time of all trees that the command's rules derive for it.
     ensures trading { (files : List File) → F.files shelf.old ≡ Some files →
         AsksForTrade (map string_bytes words.now.items) → result ≡ 0
         → ((text : List ℕ) × IsTrade (map string_bytes words.now.items) (bytes_of files) text
@@ -150,6 +150,7 @@ pub fn run<F: Shelf, O: Sink, E: Sink>(
     status(&outcome)
 }
 
+// The exit status of a refusal, from 1 to 11.
 fn status_of(refusal: &Refusal) -> u8
     ensures { result ≡ status_of refusal.now }
 {
@@ -165,6 +166,7 @@ fn status_of(refusal: &Refusal) -> u8
     }
 }
 
+// The exit status of an outcome: 0 if the answer was written, and 7 if it was cut short.
 fn status(outcome: &Outcome) -> u8
     ensures { result ≡ outcome_status outcome.now }
 {

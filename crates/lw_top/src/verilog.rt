@@ -31,7 +31,7 @@ fn is_said(alloc: Global, library: &Library, mapped: &Mapped) -> Result<(), Refu
     }
 }
 
-/// What a mapped netlist comes to in Verilog.
+/// What a mapped netlist comes to in Verilog: itself, to be written so, or why it has no text.
 pub(crate) fn say_verilog(alloc: Global, library: Library, mapped: Mapped) -> Answered
     requires { IsReadNetlist library mapped }
     ensures { Gives (SaysVerilog library mapped) result }
@@ -46,7 +46,7 @@ pub(crate) fn say_verilog(alloc: Global, library: Library, mapped: Mapped) -> An
     }
 }
 
-// What stands around a netlist that has inputs and outputs alone, and starts of 0 for its inputs.
+// What stands around a netlist from Verilog, which has no latches, and starts of 0 for its inputs.
 fn whole(alloc: Global, netlist: &Netlist) -> Result<(Frame, Micros), Refusal>
     ensures frame { IfOk result (λ around. around.0 ≡ whole_frame netlist.now) }
     ensures starts { IfOk result (λ around. around.1 ≡ at_once netlist.now.inputs) }
@@ -64,7 +64,8 @@ fn whole(alloc: Global, netlist: &Netlist) -> Result<(Frame, Micros), Refusal>
     Ok((frame, starts))
 }
 
-/// What a netlist in Verilog comes to as a mapped text.
+/// What a netlist in Verilog comes to as a mapped text: it has no certificate, and its inputs start
+/// at 0.
 pub(crate) fn map_verilog(alloc: Global, library: Library, netlist: Netlist) -> Answered
     requires { IsOver library netlist }
     ensures { Gives (SaysMapped library netlist) result }

@@ -36,12 +36,14 @@ pub enum Command<'a> {
     Trading(Option<Micro>, Options, &'a str, &'a str),
 }
 
+// Whether a word may name a file: it does not begin with `-`.
 fn is_file_word(word: &str) -> bool
     ensures { result ≡ is_file_word word.now }
 {
     !word.starts_with("-")
 }
 
+// The only word, if there is one and it may name a file.
 fn one_file(words: &[String]) -> Option<&str>
     ensures { MatchOption result (one_file (map string_bytes words.now) ≡ None)
         (λ a. one_file (map string_bytes words.now) ≡ Some a.now) }
@@ -52,6 +54,7 @@ fn one_file(words: &[String]) -> Option<&str>
     }
 }
 
+// The two words, if there are so many and each may name a file.
 fn two_files(words: &[String]) -> Option<(&str, &str)>
     ensures { MatchOption result (two_files (map string_bytes words.now) ≡ None)
         (λ files. two_files (map string_bytes words.now) ≡ Some (two files.0.now files.1.now)) }
@@ -64,6 +67,7 @@ fn two_files(words: &[String]) -> Option<(&str, &str)>
     }
 }
 
+// The three words, if there are so many and each may name a file.
 fn three_files(words: &[String]) -> Option<(&str, &str, &str)>
     ensures { MatchOption result (three_files (map string_bytes words.now) ≡ None)
         (λ files. three_files (map string_bytes words.now)
@@ -78,7 +82,7 @@ fn three_files(words: &[String]) -> Option<(&str, &str, &str)>
     }
 }
 
-// One of the words `2` to `8`.
+// The width that one of the words `2` to `8` is; none for other words.
 fn width_of(word: &str) -> Option<u8>
     ensures { result ≡ width_of word.now }
 {
@@ -88,7 +92,7 @@ fn width_of(word: &str) -> Option<u8>
     }
 }
 
-// One of the words `2` to `6`.
+// The number of leaves that one of the words `2` to `6` is; none for other words.
 fn leaves_of(word: &str) -> Option<u8>
     ensures { result ≡ leaves_of word.now }
 {
@@ -98,14 +102,14 @@ fn leaves_of(word: &str) -> Option<u8>
     }
 }
 
-/// Options, and the words behind them.
+/// Options, and the words after them.
 #[derive(Clone, Copy)]
 pub struct Begun<'a> {
     options: Options,
     rest: &'a [String],
 }
 
-// `[-i]`, behind the width.
+// Reads `[-i]` after the width: the options, and the words after them.
 fn with_mode(width: u8, words: &[String]) -> Begun<'_>
     requires { (2 ≤ width) × (width ≤ 8) }
     ensures { plain_begun result ≡ with_mode width (map string_bytes words.now) }
@@ -128,7 +132,8 @@ fn with_mode(width: u8, words: &[String]) -> Begun<'_>
     }
 }
 
-// `[-w K] [-i]`, at width 6 without the first.
+// Reads `[-w K] [-i]`: the options, with width 6 if none is given, and the words after them. None
+// if K is no width.
 fn begun_by(words: &[String]) -> Option<Begun<'_>>
     ensures { option_map plain_begun result ≡ begun_by (map string_bytes words.now) }
 {
@@ -140,14 +145,14 @@ fn begun_by(words: &[String]) -> Option<Begun<'_>>
     }
 }
 
-// One digit or more, and nothing else.
+// Whether a word is one digit or more, and nothing else.
 fn is_numeral(word: &str) -> bool
     ensures { result ≡ is_numeral word.now }
 {
     1 <= word.len() && are_digits(word.as_bytes())
 }
 
-// A decimal numeral below 2^64.
+// The number that a word is, a decimal numeral below 2^64; none for other words.
 fn number_of(word: &str) -> Option<u64>
     ensures { result ≡ number_of word.now }
 {
@@ -163,7 +168,7 @@ fn number_of(word: &str) -> Option<u64>
 // The most digits of a seed.
 const SEED_DIGITS: usize = 20;
 
-// A number of at most 20 digits.
+// The seed that a word is, a number of at most 20 digits; none for other words.
 fn seed_of(word: &str) -> Option<u64>
     ensures { result ≡ seed_of word.now }
 {
@@ -177,7 +182,7 @@ fn seed_of(word: &str) -> Option<u64>
 // The most nodes of a drawn network.
 const MOST_NODES: u64 = 20_000;
 
-// A number without leading zero, from 1 to 20000.
+// The count that a word is, a number from 1 to 20000 without leading zero; none for other words.
 fn count_of(word: &str) -> Option<u32>
     ensures { result ≡ count_of word.now }
 {
@@ -190,7 +195,7 @@ fn count_of(word: &str) -> Option<u32>
     }
 }
 
-// `[-c] LIB IN`.
+// Reads `[-c] LIB IN`, after the options of `map`.
 fn certified_of(options: Options, words: &[String]) -> Option<Command<'_>>
     ensures { asked result ≡ certified_of (plain_options options) (map string_bytes words.now) }
 {
@@ -206,6 +211,7 @@ fn certified_of(options: Options, words: &[String]) -> Option<Command<'_>>
     }
 }
 
+// Reads `[-w K] [-i] [-c] LIB IN`, after `map`.
 fn mapping_of(words: &[String]) -> Option<Command<'_>>
     ensures { asked result ≡ mapping_begun (begun_by (map string_bytes words.now)) }
 {
@@ -213,6 +219,7 @@ fn mapping_of(words: &[String]) -> Option<Command<'_>>
     certified_of(begun.options, begun.rest)
 }
 
+// Reads `[-w K] [-i] LIB IN MAPPED`, after `check`.
 fn checking_of(words: &[String]) -> Option<Command<'_>>
     ensures { asked result ≡ checking_begun (begun_by (map string_bytes words.now)) }
 {
@@ -221,6 +228,7 @@ fn checking_of(words: &[String]) -> Option<Command<'_>>
     Some(Command::Checking(begun.options, library, network, mapped))
 }
 
+// Reads `[-w K] [-i] IN`, after `graph`.
 fn counting_of(words: &[String]) -> Option<Command<'_>>
     ensures { asked result ≡ counting_begun (begun_by (map string_bytes words.now)) }
 {
@@ -229,7 +237,7 @@ fn counting_of(words: &[String]) -> Option<Command<'_>>
     Some(Command::Counting(begun.options, network))
 }
 
-// `L [-w K] [-i] IN`.
+// Reads `L [-w K] [-i] IN`, after `lut`.
 fn tabling_of(words: &[String]) -> Option<Command<'_>>
     ensures { asked result ≡ tabling_begun (map string_bytes words.now) }
 {
@@ -244,6 +252,7 @@ fn tabling_of(words: &[String]) -> Option<Command<'_>>
     }
 }
 
+// Reads `LIB MAPPED`, after `time`.
 fn timing_of(words: &[String]) -> Option<Command<'_>>
     ensures { asked result ≡ timing_of (two_files (map string_bytes words.now)) }
 {
@@ -251,7 +260,7 @@ fn timing_of(words: &[String]) -> Option<Command<'_>>
     Some(Command::Timing(library, mapped))
 }
 
-// `IN VECTORS`, or `-g LIB MAPPED VECTORS`.
+// Reads `IN VECTORS`, or `-g LIB MAPPED VECTORS`, after `sim`.
 fn simulation_of(words: &[String]) -> Option<Command<'_>>
     ensures { asked result ≡ simulation_of (map string_bytes words.now) }
 {
@@ -267,7 +276,7 @@ fn simulation_of(words: &[String]) -> Option<Command<'_>>
     }
 }
 
-// `SEED N LIB`.
+// Reads `SEED N LIB`, after `big`.
 fn drawing_of(words: &[String]) -> Option<Command<'_>>
     ensures { asked result ≡ drawing_of (map string_bytes words.now) }
 {
@@ -282,6 +291,7 @@ fn drawing_of(words: &[String]) -> Option<Command<'_>>
     }
 }
 
+// Reads `LIB MAPPED`, after `verilog`.
 fn to_verilog_of(words: &[String]) -> Option<Command<'_>>
     ensures { asked result ≡ to_verilog_of (two_files (map string_bytes words.now)) }
 {
@@ -289,6 +299,7 @@ fn to_verilog_of(words: &[String]) -> Option<Command<'_>>
     Some(Command::ToVerilog(library, mapped))
 }
 
+// Reads `LIB VER`, after `unverilog`.
 fn from_verilog_of(words: &[String]) -> Option<Command<'_>>
     ensures { asked result ≡ from_verilog_of (two_files (map string_bytes words.now)) }
 {
@@ -299,7 +310,8 @@ fn from_verilog_of(words: &[String]) -> Option<Command<'_>>
 // What each time is below.
 const TIME_UNITS: u64 = 1_000_000;
 
-// `none`, or a decimal below 1000000.
+// The deadline that a word is: none for `none`, or a decimal below 1000000, in millionths. Other
+// words have no answer.
 fn deadline_of(word: &str) -> Option<Option<Micro>>
     ensures { result ≡ deadline_of word.now }
 {
@@ -312,7 +324,7 @@ fn deadline_of(word: &str) -> Option<Option<Micro>>
     }
 }
 
-// `T LIB IN`.
+// Reads `T LIB IN`, after the options of `trade`.
 fn traded_of(options: Options, words: &[String]) -> Option<Command<'_>>
     ensures { asked result ≡ traded_of (plain_options options) (map string_bytes words.now) }
 {
@@ -326,6 +338,7 @@ fn traded_of(options: Options, words: &[String]) -> Option<Command<'_>>
     }
 }
 
+// Reads `[-w K] [-i] T LIB IN`, after `trade`.
 fn trading_of(words: &[String]) -> Option<Command<'_>>
     ensures { asked result ≡ trading_begun (begun_by (map string_bytes words.now)) }
 {
@@ -333,6 +346,7 @@ fn trading_of(words: &[String]) -> Option<Command<'_>>
     traded_of(begun.options, begun.rest)
 }
 
+// The command that a name and the words after it are a written form of, if they are one.
 fn named<'a>(name: &str, words: &'a [String]) -> Option<Command<'a>>
     ensures { asked result ≡ named name.now (map string_bytes words.now) }
 {
@@ -351,7 +365,7 @@ fn named<'a>(name: &str, words: &'a [String]) -> Option<Command<'a>>
     }
 }
 
-/// The command that the words are a written form of.
+/// The command that the words are a written form of, if they are one.
 pub fn command_of(words: &[String]) -> Option<Command<'_>>
     ensures { asked result ≡ command_of (map string_bytes words.now) }
 {
@@ -361,7 +375,7 @@ pub fn command_of(words: &[String]) -> Option<Command<'_>>
     }
 }
 
-// The file of the library, if the command reads one.
+// The word for the file of the library, empty if the command reads none.
 fn library_word<'a>(command: Command<'a>) -> &'a str
     ensures { result.now ≡ file_in (plain_command command.entry) which.Library }
 {
@@ -378,7 +392,7 @@ fn library_word<'a>(command: Command<'a>) -> &'a str
     }
 }
 
-// The file of the network.
+// The word for the file of the network, which a refusal names; empty if the command reads none.
 fn network_word<'a>(command: Command<'a>) -> &'a str
     ensures { result.now ≡ file_in (plain_command command.entry) which.Network }
 {
@@ -393,7 +407,8 @@ fn network_word<'a>(command: Command<'a>) -> &'a str
     }
 }
 
-// The file of the netlist, mapped or in Verilog.
+// The word for the file of the netlist, mapped or in Verilog, which a refusal names; empty if the
+// command reads none.
 fn mapped_word<'a>(command: Command<'a>) -> &'a str
     ensures { result.now ≡ file_in (plain_command command.entry) which.Mapped }
 {
@@ -407,7 +422,7 @@ fn mapped_word<'a>(command: Command<'a>) -> &'a str
     }
 }
 
-// The file of the vectors.
+// The word for the file of the vectors, which a refusal names; empty if the command reads none.
 fn vectors_word<'a>(command: Command<'a>) -> &'a str
     ensures { result.now ≡ file_in (plain_command command.entry) which.Vectors }
 {
@@ -417,7 +432,8 @@ fn vectors_word<'a>(command: Command<'a>) -> &'a str
     }
 }
 
-/// The word of a file.
+/// The word for one of the command's files, empty if it reads none or there is no command. By it
+/// `telling` names the file in the line of a refusal; no file is opened by it.
 pub fn file_word<'a>(command: Option<Command<'a>>, which: Which) -> &'a [u8]
     ensures { result.now ≡ file_word (asked command.entry) which }
 {

@@ -1,4 +1,4 @@
-// Gates by depth.
+// The netlist of the gates that a walk has found.
 ghost use Rattle.std.specs.Prelude.{◌≡◌, ◌+◌, ◌<◌, ◌≤◌, All, IfOk, length, map};
 ghost use Rattle.std.specs.List.{range_with_len};
 ghost use Rattle.std.specs.List.Sorted.{IsPermutation};
@@ -16,7 +16,7 @@ use lw_netlist::{Gate, Gates, Netlist, Port, PortList};
 use lw_pool::{ClassId, Name, Names, NetId, Nets, Numbers};
 use std::alloc::{AllocError, Global};
 
-/// The nodes of a walk beside so many inputs, and the places where they stand.
+/// The gates of a walk after so many inputs, and for each gate its place in the netlist.
 #[derive(Drop)]
 pub(crate) struct Placing<'a> {
     pub inputs: u32,
@@ -24,7 +24,7 @@ pub(crate) struct Placing<'a> {
     pub walk: &'a Walk,
 }
 
-/// The netlist of the gates that a walk has found, by depth.
+/// The netlist of the gates that a walk has found, by depth, with the names of `targets`.
 pub(crate) fn assemble(
     alloc: Global,
     inputs: u32,
@@ -50,7 +50,8 @@ pub(crate) fn assemble(
     Ok(Netlist::new(model, names, inputs, gates, outputs))
 }
 
-// The nodes by depth, and at one depth in the order in which they were found.
+// The gates by depth, and at one depth in the order in which they were found. `pins` has the nets
+// of the pins of each.
 fn by_depth(alloc: Global, inputs: usize, pins: &[Numbers]) -> Result<Vec<u32>, AllocError>
     requires graph { IsGraph inputs pins.now }
     requires few { inputs + length pins.now ≤ most_signals }
@@ -65,7 +66,7 @@ fn by_depth(alloc: Global, inputs: usize, pins: &[Numbers]) -> Result<Vec<u32>, 
     in_order(alloc, gates, &levels.heights[inputs..])
 }
 
-// The place of each node in an order.
+// The place of each gate in an order.
 fn places_in(alloc: Global, order: &[u32]) -> Result<Vec<u32>, AllocError>
     requires few { length order.now ≤ most_signals }
     requires moved { IsPermutation (range_with_len 0 (length order.now)) order.now }
@@ -78,7 +79,8 @@ fn places_in(alloc: Global, order: &[u32]) -> Result<Vec<u32>, AllocError>
     Ok(places)
 }
 
-// A net, where the nodes stand in other places.
+// The net of the netlist that a net of the walk is: an input's stays, and a gate's goes to the
+// place of the gate.
 fn net_at(at: &Placing, net: u32) -> NetId
     requires fit { FitPlaces at.now.inputs at.now.places.now }
     requires net { HasNet at.now net }
@@ -90,7 +92,7 @@ fn net_at(at: &Placing, net: u32) -> NetId
     NetId(at.inputs + at.places[(net - at.inputs) as usize])
 }
 
-// The gate of a node.
+// The gate of the netlist that the gate of the walk with this number is.
 fn gate_of(alloc: Global, at: &Placing, gate: u32) -> Result<Gate, AllocError>
     requires fit { FitWalk at.now.inputs at.now.places.now at.now.walk.now }
     requires gate { gate < length at.now.places.now }
@@ -109,7 +111,7 @@ fn gate_of(alloc: Global, at: &Placing, gate: u32) -> Result<Gate, AllocError>
     })
 }
 
-// The gates of nodes.
+// The gates of the netlist, from the gates of the walk in this order.
 fn gates_of(alloc: Global, at: &Placing, order: &[u32]) -> Result<Vec<Gate>, AllocError>
     requires fit { FitWalk at.now.inputs at.now.places.now at.now.walk.now }
     requires order { All (λ j. j < length at.now.places.now) order.now }
@@ -123,7 +125,7 @@ fn gates_of(alloc: Global, at: &Placing, order: &[u32]) -> Result<Vec<Gate>, All
     Ok(gates)
 }
 
-// The outputs with these names at these nets.
+// The outputs with these names at these nets of the walk.
 fn outputs(
     alloc: Global,
     at: &Placing,
@@ -144,7 +146,8 @@ fn outputs(
     Ok(outputs)
 }
 
-// The nets of outputs, as classes of their own.
+// The nets of the outputs as classes, since `net_names` names gates by the outputs of their
+// classes.
 fn classes_of_outputs(alloc: Global, outputs: &[Port]) -> Result<Vec<ClassId>, AllocError>
     ensures { IfOk result (λ classes. numbers classes.items ≡ map port_net outputs.now) }
 {
@@ -155,7 +158,7 @@ fn classes_of_outputs(alloc: Global, outputs: &[Port]) -> Result<Vec<ClassId>, A
     Ok(classes)
 }
 
-// The nets that gates drive, as classes of their own.
+// The nets that so many gates drive after the inputs, as classes of their own.
 fn classes_of_gates(alloc: Global, inputs: u32, gates: usize) -> Result<Vec<ClassId>, AllocError>
     requires { inputs + gates ≤ most_signals }
     ensures { IfOk result (λ classes. numbers classes.items ≡ range_with_len inputs gates) }
@@ -167,7 +170,7 @@ fn classes_of_gates(alloc: Global, inputs: u32, gates: usize) -> Result<Vec<Clas
     Ok(classes)
 }
 
-// The names of the inputs, and of the nets that so many gates drive, of which some are outputs.
+// The names of the inputs, and of the nets that so many gates drive: of an output, or a free one.
 fn names_of(
     alloc: Global,
     inputs: u32,

@@ -1,8 +1,9 @@
-//! Laws over definitions: functions with empty bodies, whose clauses are the laws.
+//! Theorems: functions with empty bodies, whose clauses are the theorems.
 ghost use Rattle.lw_trade.specs.Trades.{BuiltNetsAreCovers, PinsComeBefore};
 
-/// In a netlist that is built from points by their choices the net of each exact point stands for a
-/// cover of its class that arrives by its time and has its area, which is the least.
+/// In a netlist that is built from points by their choices, the net of each exact point stands for
+/// a cover of its class. That cover arrives by the point's time and has its area, which is the
+/// least.
 pub fn built_nets_are_covers()
     ensures { BuiltNetsAreCovers }
 {}

@@ -12,6 +12,16 @@
 //! * `assembly`: the gates that the way down found, by depth and with their names;
 //! * `laws`: theorems on netlists that are built from points.
 //!
+//! The words of this crate:
+//!
+//! * target: the class of an output, with its name and the time by which it has to arrive. Times
+//!   are in millionths of a unit of time, and areas of a unit of area;
+//! * point: a time, and the least area of the covers of a class that arrive by then;
+//! * walk: the gates that the way down found, by their numbers from 0, with the nets of their pins.
+//!   The inputs are the first nets, and each gate drives the next one;
+//! * depth: the length of the longest path to a gate from an input, in gates;
+//! * place: the number that a gate gets once the gates stand by depth.
+//!
 //! The one definition to read is `IsTraded` in `specs/Traded.antt`. `lw_map` calls `curves` and
 //! `trade`, and for `trade none` it finds labels by `AreaCost`.
 #![tactic(auto)]
