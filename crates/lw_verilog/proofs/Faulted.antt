@@ -21,6 +21,10 @@ use Rattle.lw_verilog.proofs.Derived.{derived-accepted}
 use Rattle.lw_verilog.proofs.ReadRuns.{none-moved}
 use Rattle.lw_verilog.proofs.Stuck.{can-go-on, cannot-go-on, goes-further, next-move, runs-begin, runs-fewer, strange-stuck, unended-at}
 
+-- what the tokens behind one come to
+abbrev next_read : List CellParts → Reading → Token → List Token → Result Reading FaultAt
+next_read cells r t ts = read cells (moved_on r t.name (move_at r.place t.kind)) ts
+
 -- behind a reading, the token with which reading stops
 record StopsAt (cells : List CellParts) (r : Reading) (ts : List Token) (f : FaultAt) : Type 0 where
   n : ℕ
@@ -73,18 +77,15 @@ unfolding read
 read-stops cells [] r f e = cc
 read-stops cells (t ∷ ts) r f e = by_done (is_done r.place) refl e (λ g. read-stops cells ts (moved_on r t.name (move_at r.place t.kind)) f g)
   where
-    abbrev next : Result Reading FaultAt
-    next = read cells (moved_on r t.name (move_at r.place t.kind)) ts
-
-    by_done : (b : Bool) → is_done r.place ≡ b → cond b (Ok r) (fault_or t.line (token_fault cells r t.kind t.name) next) ≡ Err f → (next ≡ Err f → StopsAt cells (moved_on r t.name (move_at r.place t.kind)) ts f) → StopsAt cells r (t ∷ ts) f
+    by_done : (b : Bool) → is_done r.place ≡ b → cond b (Ok r) (fault_or t.line (token_fault cells r t.kind t.name) (next_read cells r t ts)) ≡ Err f → (next_read cells r t ts ≡ Err f → StopsAt cells (moved_on r t.name (move_at r.place t.kind)) ts f) → StopsAt cells r (t ∷ ts) f
     by_done true d g later = cc
     by_done false d g later = by_fault (token_fault cells r t.kind t.name) refl g
       where
-        by_fault : (o : Option VerilogKind) → token_fault cells r t.kind t.name ≡ o → fault_or t.line o next ≡ Err f → StopsAt cells r (t ∷ ts) f
-        by_fault None o h = stops-later cells r t ts f d o (later h)
-        by_fault (Some k) o h =
+        by_fault : (o : Option VerilogKind) → token_fault cells r t.kind t.name ≡ o → fault_or t.line o (next_read cells r t ts) ≡ Err f → StopsAt cells r (t ∷ ts) f
+        by_fault None g h = stops-later cells r t ts f d g (later h)
+        by_fault (Some k) g h =
             let same : ◌≡◌ {A = FaultAt} (record { line = t.line; kind = k }) f = cc in
-            stops-first cells r t ts f d (o ∙ ap (λ (x : FaultAt). Some x.kind) same) (ap (λ (x : FaultAt). x.line) same)
+            stops-first cells r t ts f d (g ∙ ap (λ (x : FaultAt). Some x.kind) same) (ap (λ (x : FaultAt). x.line) same)
 
 -- No further rule is that of the grammar.
 
@@ -134,8 +135,8 @@ module _ (cells : List CellParts) (ts : List Token) (f : FaultAt) (s : StopsAt c
   abbrev kinds : List Kind
   kinds = take s.n (kinds_of ts)
 
-  breaks : (m : Move) → move_at s.before.place s.token.kind ≡ Some m → rule_fault cells s.before.names (ports_of s.before.said) s.before.declared m.task s.token.name ≡ Some f.kind → BreaksRule cells ts s.n f
-  breaks m moves rule = record {
+  breaks-rule : (m : Move) → move_at s.before.place s.token.kind ≡ Some m → rule_fault cells s.before.names (ports_of s.before.said) s.before.declared m.task s.token.name ≡ Some f.kind → BreaksRule cells ts s.n f
+  breaks-rule m moves rule = record {
     token = s.token;
     is = s.is;
     line = s.line;
@@ -161,7 +162,7 @@ module _ (cells : List CellParts) (ts : List Token) (f : FaultAt) (s : StopsAt c
           by_move (Some m) o g =
               let further : CanGoOn (take (suc s.n) (kinds_of ts)) = subst CanGoOn (sym s.more) (goes-further kinds s.token.kind s.before.place m s.runs o) in
               let other : f.kind ≢ broken.Expected = λ same. rule-never cells s.before.names (ports_of s.before.said) s.before.declared m.task s.token.name (g ∙ ap Some same) in
-              inr (further, (other, breaks m o g))
+              inr (further, (other, breaks-rule m o g))
 
   fault-at : IsFaultAt cells ts f s.n
   fault-at = record {
@@ -180,7 +181,7 @@ module _ (cells : List CellParts) (ts : List Token) (f : FaultAt) (s : StopsAt c
       let fewer : s.n < k = runs-fewer (kinds_of ts) place.Begin s.before.place k s.n run s.runs s.opened in
       let part = runs-begin (kinds_of ts) place.Begin place.Done k (suc s.n) (omega (arith, fewer)) run in
       let m = next-move kinds s.token.kind s.before.place part.0 s.runs (subst (λ l. Runs place.Begin l part.0) s.more part.1) in
-      (s.n, (fewer, breaks m.0 m.1 (by_strange (is_strange s.token.kind) refl m.0 m.1 s.fault)))
+      (s.n, (fewer, breaks-rule m.0 m.1 (by_strange (is_strange s.token.kind) refl m.0 m.1 s.fault)))
     where
       by_strange : (b : Bool) → is_strange s.token.kind ≡ b → (m : Move) → move_at s.before.place s.token.kind ≡ Some m → cond b (Some broken.BadByte) (move_fault cells s.before s.token.name (move_at s.before.place s.token.kind)) ≡ Some f.kind → rule_fault cells s.before.names (ports_of s.before.said) s.before.declared m.task s.token.name ≡ Some f.kind
       by_strange true d m e g = absurd (strange-stuck s.before.place s.token.kind m d e)
@@ -203,14 +204,11 @@ read-all cells (t ∷ ts) r s zero run e =
     stops false d g = cc
 read-all cells (t ∷ ts) r s (suc k) (m, moves, run) e = by_done (is_done r.place) refl e (λ g. read-all cells ts (moved_on r t.name (move_at r.place t.kind)) s k (subst (λ (o : Option Move). Runs (moved_on r t.name o).place (take k (kinds_of ts)) place.Done) (sym moves) run) g)
   where
-    abbrev next : Result Reading FaultAt
-    next = read cells (moved_on r t.name (move_at r.place t.kind)) ts
-
-    by_done : (b : Bool) → is_done r.place ≡ b → cond b (Ok r) (fault_or t.line (token_fault cells r t.kind t.name) next) ≡ Ok s → (next ≡ Ok s → is_done s.place ≡ true) → is_done s.place ≡ true
+    by_done : (b : Bool) → is_done r.place ≡ b → cond b (Ok r) (fault_or t.line (token_fault cells r t.kind t.name) (next_read cells r t ts)) ≡ Ok s → (next_read cells r t ts ≡ Ok s → is_done s.place ≡ true) → is_done s.place ≡ true
     by_done true d g later = let same : r ≡ s = cc in ap (λ (x : Reading). is_done x.place) (sym same) ∙ d
     by_done false d g later = by_fault (token_fault cells r t.kind t.name) g
       where
-        by_fault : (o : Option VerilogKind) → fault_or t.line o next ≡ Ok s → is_done s.place ≡ true
+        by_fault : (o : Option VerilogKind) → fault_or t.line o (next_read cells r t ts) ≡ Ok s → is_done s.place ≡ true
         by_fault None h = later h
         by_fault (Some x) h = cc
 

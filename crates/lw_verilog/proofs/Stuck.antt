@@ -13,6 +13,7 @@ use Rattle.lw_verilog.specs.Phrases.{Derives, Runs, file}
 use Rattle.lw_verilog.specs.Readings.{is_done}
 use Rattle.lw_verilog.specs.Tokens.{is_strange}
 use Rattle.lw_verilog.proofs.Accepted.{accepted-derived}
+use Rattle.lw_verilog.proofs.Behind.{no-move}
 use Rattle.lw_verilog.proofs.Derived.{derived-accepted}
 
 -- A way from each place to the end of the module.
@@ -213,27 +214,27 @@ runs-begin (x ∷ ks) p s (suc k) (suc j) le (m, e, run) =
 -- Behind the end of a module nothing stands.
 
 not-done : (q : Place) → place.Done ≡ q → is_done q ≡ false → ⊥
-not-done q e f = let same : is_done place.Done ≡ is_done q = ap is_done e in cc
+not-done q e f = let same : true ≡ is_done q = ap is_done e in cc
 
 done-stays : (k : Kind) (m : Move) → move_at place.Done k ≡ Some m → ⊥
 unfolding move_at
-done-stays kind.Gap m e = cc
-done-stays kind.Name m e = cc
-done-stays kind.Module m e = cc
-done-stays kind.EndModule m e = cc
-done-stays kind.Input m e = cc
-done-stays kind.Output m e = cc
-done-stays kind.Wire m e = cc
-done-stays kind.Assign m e = cc
-done-stays kind.Open m e = cc
-done-stays kind.Close m e = cc
-done-stays kind.Comma m e = cc
-done-stays kind.Semicolon m e = cc
-done-stays kind.Point m e = cc
-done-stays kind.Equals m e = cc
-done-stays kind.Strange m e = cc
-done-stays kind.Unclosed m e = cc
-done-stays kind.End m e = cc
+done-stays kind.Gap m e = no-move m e
+done-stays kind.Name m e = no-move m e
+done-stays kind.Module m e = no-move m e
+done-stays kind.EndModule m e = no-move m e
+done-stays kind.Input m e = no-move m e
+done-stays kind.Output m e = no-move m e
+done-stays kind.Wire m e = no-move m e
+done-stays kind.Assign m e = no-move m e
+done-stays kind.Open m e = no-move m e
+done-stays kind.Close m e = no-move m e
+done-stays kind.Comma m e = no-move m e
+done-stays kind.Semicolon m e = no-move m e
+done-stays kind.Point m e = no-move m e
+done-stays kind.Equals m e = no-move m e
+done-stays kind.Strange m e = no-move m e
+done-stays kind.Unclosed m e = no-move m e
+done-stays kind.End m e = no-move m e
 
 -- tokens that come to another place are fewer than those of a whole text
 pub runs-fewer : (ks : List Kind) (p q : Place) (k n : ℕ) → Runs p (take k ks) place.Done → Runs p (take n ks) q → is_done q ≡ false → n < k
@@ -283,37 +284,37 @@ unended-at xs p run opened derived = not-done p (runs-once xs place.Begin place.
 
 strange-nowhere : (p : Place) (m : Move) → move_at p kind.Strange ≡ Some m → ⊥
 unfolding move_at
-strange-nowhere place.Begin m e = cc
-strange-nowhere place.ModelName m e = cc
-strange-nowhere place.BehindModel m e = cc
-strange-nowhere place.FirstPort m e = cc
-strange-nowhere place.NextPort m e = cc
-strange-nowhere place.BehindPort m e = cc
-strange-nowhere place.BehindPorts m e = cc
-strange-nowhere place.Item m e = cc
-strange-nowhere place.FirstInput m e = cc
-strange-nowhere place.NextInput m e = cc
-strange-nowhere place.BehindInput m e = cc
-strange-nowhere place.FirstOutput m e = cc
-strange-nowhere place.NextOutput m e = cc
-strange-nowhere place.BehindOutput m e = cc
-strange-nowhere place.NextWire m e = cc
-strange-nowhere place.BehindWire m e = cc
-strange-nowhere place.Target m e = cc
-strange-nowhere place.BehindTarget m e = cc
-strange-nowhere place.Source m e = cc
-strange-nowhere place.BehindSource m e = cc
-strange-nowhere place.InstanceName m e = cc
-strange-nowhere place.BehindInstance m e = cc
-strange-nowhere place.FirstTie m e = cc
-strange-nowhere place.NextTie m e = cc
-strange-nowhere place.Pin m e = cc
-strange-nowhere place.BehindPin m e = cc
-strange-nowhere place.Net m e = cc
-strange-nowhere place.BehindNet m e = cc
-strange-nowhere place.BehindTie m e = cc
-strange-nowhere place.BehindTies m e = cc
-strange-nowhere place.Done m e = cc
+strange-nowhere place.Begin m e = no-move m e
+strange-nowhere place.ModelName m e = no-move m e
+strange-nowhere place.BehindModel m e = no-move m e
+strange-nowhere place.FirstPort m e = no-move m e
+strange-nowhere place.NextPort m e = no-move m e
+strange-nowhere place.BehindPort m e = no-move m e
+strange-nowhere place.BehindPorts m e = no-move m e
+strange-nowhere place.Item m e = no-move m e
+strange-nowhere place.FirstInput m e = no-move m e
+strange-nowhere place.NextInput m e = no-move m e
+strange-nowhere place.BehindInput m e = no-move m e
+strange-nowhere place.FirstOutput m e = no-move m e
+strange-nowhere place.NextOutput m e = no-move m e
+strange-nowhere place.BehindOutput m e = no-move m e
+strange-nowhere place.NextWire m e = no-move m e
+strange-nowhere place.BehindWire m e = no-move m e
+strange-nowhere place.Target m e = no-move m e
+strange-nowhere place.BehindTarget m e = no-move m e
+strange-nowhere place.Source m e = no-move m e
+strange-nowhere place.BehindSource m e = no-move m e
+strange-nowhere place.InstanceName m e = no-move m e
+strange-nowhere place.BehindInstance m e = no-move m e
+strange-nowhere place.FirstTie m e = no-move m e
+strange-nowhere place.NextTie m e = no-move m e
+strange-nowhere place.Pin m e = no-move m e
+strange-nowhere place.BehindPin m e = no-move m e
+strange-nowhere place.Net m e = no-move m e
+strange-nowhere place.BehindNet m e = no-move m e
+strange-nowhere place.BehindTie m e = no-move m e
+strange-nowhere place.BehindTies m e = no-move m e
+strange-nowhere place.Done m e = no-move m e
 
 pub strange-stuck : (p : Place) (k : Kind) (m : Move) → is_strange k ≡ true → move_at p k ≡ Some m → ⊥
 strange-stuck p kind.Gap m d e = cc
