@@ -1,4 +1,5 @@
 // The points whose gates are shared, where any cover in time will do.
+use crate::fault::WalkFault;
 use crate::second_look::is_cut;
 use crate::trail::{NO_GATE, Node, Trail};
 use crate::wants::{Plan, demand_of, to_u32};
@@ -6,7 +7,7 @@ use lw_choices::Stand;
 use lw_curves::Curves;
 use lw_fixed::Micro;
 use lw_pool::ClassId;
-use std::alloc::{AllocError, Global};
+use std::alloc::Global;
 
 /// What the first point of a class is. Classes are gone through by it, from the highest down.
 #[derive(Clone, Copy, PartialEq, Eq, PartialOrd, Ord)]
@@ -20,7 +21,7 @@ struct Rank {
 /// Chooses the place of the point of each class that is shared, given the exact gates of each, the
 /// highest class first. Each class is needed by a time by roots, or by the pins of those that are
 /// chosen before it.
-pub(crate) fn share(alloc: Global, plan: &Plan, trail: &mut Trail) -> Result<(), AllocError> {
+pub(crate) fn share(alloc: Global, plan: &Plan, trail: &mut Trail) -> Result<(), WalkFault> {
     need_roots(plan, trail);
     let ranks = ranks_of(alloc, plan)?;
     for rank in ranks.iter().rev() {
@@ -42,7 +43,7 @@ fn rank_of(curves: &Curves, class: ClassId) -> Option<Rank> {
 }
 
 // The ranks of the classes that no input has, the lowest first.
-fn ranks_of(alloc: Global, plan: &Plan) -> Result<Vec<Rank>, AllocError> {
+fn ranks_of(alloc: Global, plan: &Plan) -> Result<Vec<Rank>, WalkFault> {
     let mut ranks = Vec::new(alloc);
     for class in 0..plan.inputs.len() {
         let number = ClassId(to_u32(class)?);
@@ -116,13 +117,13 @@ fn need(needs: &mut Vec<Option<u64>>, class: ClassId, time: u64) {
 }
 
 // Notes by which times the pins of the gate of a point need their classes.
-fn need_pins(plan: &Plan, trail: &mut Trail, class: ClassId, place: u32) -> Result<(), AllocError> {
+fn need_pins(plan: &Plan, trail: &mut Trail, class: ClassId, place: u32) -> Result<(), WalkFault> {
     let node = Node {
         class,
         place,
         exact: false,
     };
-    let demand = demand_of(plan, node).ok_or(AllocError)?;
+    let demand = demand_of(plan, node).ok_or(WalkFault::Lost)?;
     for (pin, delay) in demand.pins.iter().zip(demand.delays) {
         need(&mut trail.needs, *pin, demand.time.saturating_sub(delay.0));
     }
@@ -140,21 +141,21 @@ fn need_roots(plan: &Plan, trail: &mut Trail) {
 
 // The place of the point that is shared of a class needed by a time: the latest with an exact gate,
 // or else the latest that fits. Then the pins of its gate need their classes.
-fn place_by(plan: &Plan, trail: &mut Trail, rank: Rank, time: u64) -> Result<u32, AllocError> {
-    let last = to_u32(plan.curves.last_by(rank.class, 0, time).ok_or(AllocError)?)?;
-    let gates = trail.owners.get(rank.class.0 as usize).ok_or(AllocError)?;
+fn place_by(plan: &Plan, trail: &mut Trail, rank: Rank, time: u64) -> Result<u32, WalkFault> {
+    let last = to_u32(plan.curves.last_by(rank.class, 0, time).ok_or(WalkFault::Lost)?)?;
+    let gates = trail.owners.get(rank.class.0 as usize).ok_or(WalkFault::Lost)?;
     if let Some(place) = owned_place(gates.as_slice(), last) {
         return Ok(place);
     }
-    let place = fitting_place(plan, rank, last).ok_or(AllocError)?;
+    let place = fitting_place(plan, rank, last).ok_or(WalkFault::Lost)?;
     need_pins(plan, trail, rank.class, place)?;
     Ok(place)
 }
 
 // Chooses the place of the point that is shared of a class, if that is needed.
-fn choose(plan: &Plan, trail: &mut Trail, rank: Rank) -> Result<(), AllocError> {
+fn choose(plan: &Plan, trail: &mut Trail, rank: Rank) -> Result<(), WalkFault> {
     let class = rank.class.0 as usize;
-    if let Some(time) = *trail.needs.get(class).ok_or(AllocError)? {
+    if let Some(time) = *trail.needs.get(class).ok_or(WalkFault::Lost)? {
         let place = place_by(plan, trail, rank, time)?;
         if class < trail.places.len() {
             trail.places[class] = place;

@@ -1,7 +1,8 @@
 // What a walk has found so far.
+use crate::fault::WalkFault;
 use crate::wants::{Plan, to_u32};
 use lw_pool::{CellId, ClassId, Numbers};
-use std::alloc::{AllocError, Global};
+use std::alloc::Global;
 
 /// The gates that a walk has found. The inputs are the first nets, and each gate drives the next
 /// one.
@@ -63,7 +64,7 @@ pub(crate) const NO_GATE: u32 = u32::MAX;
 pub(crate) const MOST_GATES: usize = 8_000_000;
 
 /// Nothing is found yet: no class or point has a gate, and no class is needed.
-pub(crate) fn no_trail(alloc: Global, plan: &Plan, sharing: bool) -> Result<Trail, AllocError> {
+pub(crate) fn no_trail(alloc: Global, plan: &Plan, sharing: bool) -> Result<Trail, WalkFault> {
     Ok(Trail {
         nodes: Vec::new(alloc),
         users: Vec::new(alloc),
@@ -78,8 +79,8 @@ pub(crate) fn no_trail(alloc: Global, plan: &Plan, sharing: bool) -> Result<Trai
 
 /// The number of the gate of a node. If it has none yet, it becomes the next gate, and `user` is
 /// the first to use it.
-pub(crate) fn gate_at(trail: &mut Trail, node: Node, user: User) -> Result<u32, AllocError> {
-    let gate = gate_of_node(trail, node).ok_or(AllocError)?;
+pub(crate) fn gate_at(trail: &mut Trail, node: Node, user: User) -> Result<u32, WalkFault> {
+    let gate = gate_of_node(trail, node).ok_or(WalkFault::Lost)?;
     if gate != NO_GATE {
         return Ok(gate);
     }
@@ -100,10 +101,10 @@ fn no_walk(alloc: Global) -> Walk {
 }
 
 // `NO_GATE` for each point of each class.
-fn no_owners(alloc: Global, plan: &Plan) -> Result<Vec<Vec<u32>>, AllocError> {
+fn no_owners(alloc: Global, plan: &Plan) -> Result<Vec<Vec<u32>>, WalkFault> {
     let mut owners = Vec::with_capacity(alloc, plan.inputs.len())?;
     for class in 0..plan.inputs.len() {
-        let points = plan.curves.get(ClassId(to_u32(class)?)).ok_or(AllocError)?;
+        let points = plan.curves.get(ClassId(to_u32(class)?)).ok_or(WalkFault::Lost)?;
         owners.push(vec![in alloc; NO_GATE; points.len()]?)?;
     }
     Ok(owners)

@@ -3,6 +3,7 @@ ghost use Rattle.std.specs.Prelude.{◌<◌, IfOk, IsTrue, length};
 ghost use Rattle.lw_backtrace.specs.SecondLook.{IsRightWalk};
 ghost use Rattle.lw_backtrace.specs.Walks.{AreInputsTo, IsWalkBy, IsWalkDown};
 
+use crate::fault::WalkFault;
 use crate::second_look::{is_cut, is_right};
 use crate::shared_points::share;
 use crate::targets::Targets;
@@ -72,18 +73,18 @@ fn node_for(plan: &Plan, trail: &Trail, want: Want) -> Option<Node> {
 
 // The net that is wanted: that of the input of the class, or of a point's gate, which `user` may be
 // the first to use.
-fn net_for(plan: &Plan, trail: &mut Trail, want: Want, user: User) -> Result<u32, AllocError> {
-    let input = plan.inputs.get(want.class.0 as usize).ok_or(AllocError)?;
+fn net_for(plan: &Plan, trail: &mut Trail, want: Want, user: User) -> Result<u32, WalkFault> {
+    let input = plan.inputs.get(want.class.0 as usize).ok_or(WalkFault::Lost)?;
     if let Some(input) = *input {
         return Ok(input);
     }
-    let node = node_for(plan, trail, want).ok_or(AllocError)?;
+    let node = node_for(plan, trail, want).ok_or(WalkFault::Lost)?;
     let gate = gate_at(trail, node, user)?;
-    plan.count.checked_add(gate).ok_or(AllocError)
+    plan.count.checked_add(gate).ok_or(WalkFault::Lost)
 }
 
 // Appends the nets of the roots, of which those that are cut may share gates.
-fn push_roots(plan: &Plan, trail: &mut Trail) -> Result<(), AllocError> {
+fn push_roots(plan: &Plan, trail: &mut Trail) -> Result<(), WalkFault> {
     trail.walk.nets.reserve(plan.roots.len())?;
     for (k, (root, time)) in plan.roots.iter().zip(plan.times).enumerate() {
         let exact = !trail.sharing || !is_cut(plan.curves, *root, time.0);
@@ -95,7 +96,7 @@ fn push_roots(plan: &Plan, trail: &mut Trail) -> Result<(), AllocError> {
 }
 
 // Finds the exact gates of the roots whose last points by their times are not cut.
-fn start_at_roots(plan: &Plan, trail: &mut Trail) -> Result<(), AllocError> {
+fn start_at_roots(plan: &Plan, trail: &mut Trail) -> Result<(), WalkFault> {
     for (k, (root, time)) in plan.roots.iter().zip(plan.times).enumerate() {
         let place = to_u32(k)?;
         if !is_cut(plan.curves, *root, time.0) {
@@ -108,10 +109,10 @@ fn start_at_roots(plan: &Plan, trail: &mut Trail) -> Result<(), AllocError> {
 
 // Goes on to the pins of the gate with the number `at`: notes its cell and the nets of its pins,
 // which may be of new gates.
-fn go_through(alloc: Global, plan: &Plan, trail: &mut Trail, at: usize) -> Result<(), AllocError>
+fn go_through(alloc: Global, plan: &Plan, trail: &mut Trail, at: usize) -> Result<(), WalkFault>
     requires { at < length trail.old.nodes.items }
 {
-    let demand = demand_of(plan, trail.nodes[at]).ok_or(AllocError)?;
+    let demand = demand_of(plan, trail.nodes[at]).ok_or(WalkFault::Lost)?;
     let gate = Some(to_u32(at)?);
     let mut row = Vec::with_capacity(alloc, demand.pins.len())?;
     for pin in 0..demand.pins.len().min(demand.delays.len()) {
@@ -125,7 +126,7 @@ fn go_through(alloc: Global, plan: &Plan, trail: &mut Trail, at: usize) -> Resul
 }
 
 // Goes on to the pins of each gate that was found and not yet gone through.
-fn walk_on(alloc: Global, plan: &Plan, trail: &mut Trail) -> Result<(), AllocError> {
+fn walk_on(alloc: Global, plan: &Plan, trail: &mut Trail) -> Result<(), WalkFault> {
     for at in trail.walk.cells.len()..MOST_GATES {
         if at >= trail.nodes.len() {
             break;
@@ -136,14 +137,14 @@ fn walk_on(alloc: Global, plan: &Plan, trail: &mut Trail) -> Result<(), AllocErr
 }
 
 // Walks from the roots that are not cut, and then chooses the points that the others share.
-fn walk_first(alloc: Global, plan: &Plan, trail: &mut Trail) -> Result<(), AllocError> {
+fn walk_first(alloc: Global, plan: &Plan, trail: &mut Trail) -> Result<(), WalkFault> {
     start_at_roots(plan, trail)?;
     walk_on(alloc, plan, trail)?;
     share(alloc, plan, trail)
 }
 
 // Walks from the roots down, and says whether what was found is right.
-fn walk_through(alloc: Global, plan: &Plan, trail: &mut Trail) -> Result<bool, AllocError>
+fn walk_through(alloc: Global, plan: &Plan, trail: &mut Trail) -> Result<bool, WalkFault>
     ensures { IfOk result (λ right. IsTrue right → IsRightWalk plan.now trail.new) }
 {
     if trail.sharing {
@@ -156,14 +157,14 @@ fn walk_through(alloc: Global, plan: &Plan, trail: &mut Trail) -> Result<bool, A
 
 // Walks from the roots down, of which those that are cut may share gates. What was found is looked
 // through once more, so that the walk itself need not be known to be right.
-fn walk_by(alloc: Global, plan: &Plan, sharing: bool) -> Result<Walk, AllocError>
+fn walk_by(alloc: Global, plan: &Plan, sharing: bool) -> Result<Walk, WalkFault>
     ensures { IfOk result (IsWalkBy plan.now) }
 {
     let mut trail = no_trail(alloc, plan, sharing)?;
     if walk_through(alloc, plan, &mut trail)? {
         return Ok(trail.walk);
     }
-    Err(AllocError)
+    Err(WalkFault::Lost)
 }
 
 // Whether some root is cut.
@@ -186,5 +187,9 @@ fn walk_either(alloc: Global, plan: &Plan) -> Result<Walk, AllocError>
             return Ok(walk);
         }
     }
-    walk_by(alloc, plan, false)
+    match walk_by(alloc, plan, false) {
+        Ok(walk) => Ok(walk),
+        Err(WalkFault::Lost) => Err(AllocError),
+        Err(WalkFault::Memory) => Err(AllocError),
+    }
 }
