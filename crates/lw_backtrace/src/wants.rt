@@ -97,7 +97,7 @@ pub(crate) fn demand_of<'a>(plan: &Plan<'a>, node: Node) -> Option<Demand<'a>>
     })
 }
 
-/// A number as one of 32 bits. For a greater one it says that memory is out.
+/// A number as one of 32 bits. A greater one loses the walk.
 pub(crate) fn to_u32(number: usize) -> Result<u32, WalkFault>
     ensures { IfOk result (λ n. n ≡ number) }
 {
