@@ -142,8 +142,15 @@ fn need_roots(plan: &Plan, trail: &mut Trail) {
 // The place of the point that is shared of a class needed by a time: the latest with an exact gate,
 // or else the latest that fits. Then the pins of its gate need their classes.
 fn place_by(plan: &Plan, trail: &mut Trail, rank: Rank, time: u64) -> Result<u32, WalkFault> {
-    let last = to_u32(plan.curves.last_by(rank.class, 0, time).ok_or(WalkFault::Lost)?)?;
-    let gates = trail.owners.get(rank.class.0 as usize).ok_or(WalkFault::Lost)?;
+    let last = to_u32(
+        plan.curves
+            .last_by(rank.class, 0, time)
+            .ok_or(WalkFault::Lost)?,
+    )?;
+    let gates = trail
+        .owners
+        .get(rank.class.0 as usize)
+        .ok_or(WalkFault::Lost)?;
     if let Some(place) = owned_place(gates.as_slice(), last) {
         return Ok(place);
     }

@@ -104,7 +104,10 @@ fn no_walk(alloc: Global) -> Walk {
 fn no_owners(alloc: Global, plan: &Plan) -> Result<Vec<Vec<u32>>, WalkFault> {
     let mut owners = Vec::with_capacity(alloc, plan.inputs.len())?;
     for class in 0..plan.inputs.len() {
-        let points = plan.curves.get(ClassId(to_u32(class)?)).ok_or(WalkFault::Lost)?;
+        let points = plan
+            .curves
+            .get(ClassId(to_u32(class)?))
+            .ok_or(WalkFault::Lost)?;
         owners.push(vec![in alloc; NO_GATE; points.len()]?)?;
     }
     Ok(owners)

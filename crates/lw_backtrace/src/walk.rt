@@ -74,7 +74,10 @@ fn node_for(plan: &Plan, trail: &Trail, want: Want) -> Option<Node> {
 // The net that is wanted: that of the input of the class, or of a point's gate, which `user` may be
 // the first to use.
 fn net_for(plan: &Plan, trail: &mut Trail, want: Want, user: User) -> Result<u32, WalkFault> {
-    let input = plan.inputs.get(want.class.0 as usize).ok_or(WalkFault::Lost)?;
+    let input = plan
+        .inputs
+        .get(want.class.0 as usize)
+        .ok_or(WalkFault::Lost)?;
     if let Some(input) = *input {
         return Ok(input);
     }
