@@ -5,16 +5,14 @@ use Rattle.lw_genlib.specs.Cells.{CellParts}
 use Rattle.lw_verilog.specs.declared.fault.VerilogKind.{VerilogKind}
 use Rattle.lw_verilog.specs.declared.fault.VerilogKind.TheVariants as broken
 use Rattle.lw_verilog.specs.declared.kind.Kind.{Kind}
-use Rattle.lw_verilog.specs.declared.kind.Kind.TheVariants as kind
 use Rattle.lw_verilog.specs.declared.place.Move.{Move}
-use Rattle.lw_verilog.specs.declared.place.Place.{Place}
 use Rattle.lw_verilog.specs.declared.place.Place.TheVariants as place
 use Rattle.lw_verilog.specs.declared.place.Task.{Task}
 use Rattle.lw_verilog.specs.declared.place.Task.TheVariants as task
 use Rattle.lw_verilog.specs.Faults.{BreaksRule, CanGoOn, IsBadByte, IsFaultAt, IsFurther, IsUnexpected, ReadsOrBreaks}
 use Rattle.lw_verilog.specs.Grammar.{move_at}
 use Rattle.lw_verilog.specs.Phrases.{Derives, Runs, file, kinds_of}
-use Rattle.lw_verilog.specs.Readings.{FaultAt, Reading, cell_fault, cell_in, declared_fault, fault_or, formal_fault, is_done, missing_fault, move_fault, moved_on, name_fault, nothing_read, ports_fault, read, rule_fault, token_fault}
+use Rattle.lw_verilog.specs.Readings.{FaultAt, Reading, cell_in, declared_fault, fault_or, formal_fault, is_done, missing_fault, move_fault, moved_on, name_fault, nothing_read, read, rule_fault, token_fault}
 use Rattle.lw_verilog.specs.Statements.{Tie, ports_of, ties_in}
 use Rattle.lw_verilog.specs.Tokens.{Token, is_strange}
 use Rattle.lw_verilog.proofs.Derived.{derived-accepted}
@@ -158,11 +156,11 @@ module _ (cells : List CellParts) (ts : List Token) (f : FaultAt) (s : StopsAt c
       by_strange false d e = inr (by_move (move_at s.before.place s.token.kind) refl e)
         where
           by_move : (o : Option Move) → move_at s.before.place s.token.kind ≡ o → move_fault cells s.before s.token.name o ≡ Some f.kind → IsUnexpected ts s.n s.token f.kind ⊎ IsFurther cells ts s.n f
-          by_move None o g = let same : f.kind ≡ broken.Expected = cc in inl (d, (same, λ further. unexpected further o))
+          by_move None o g = let same : f.kind ≡ broken.Expected = cc in inl (d, same, λ further. unexpected further o)
           by_move (Some m) o g =
               let further : CanGoOn (take (suc s.n) (kinds_of ts)) = subst CanGoOn (sym s.more) (goes-further kinds s.token.kind s.before.place m s.runs o) in
               let other : f.kind ≢ broken.Expected = λ same. rule-never cells s.before.names (ports_of s.before.said) s.before.declared m.task s.token.name (g ∙ ap Some same) in
-              inr (further, (other, breaks-rule m o g))
+              inr (further, other, breaks-rule m o g)
 
   fault-at : IsFaultAt cells ts f s.n
   fault-at = record {
@@ -181,7 +179,7 @@ module _ (cells : List CellParts) (ts : List Token) (f : FaultAt) (s : StopsAt c
       let fewer : s.n < k = runs-fewer (kinds_of ts) place.Begin s.before.place k s.n run s.runs s.opened in
       let part = runs-begin (kinds_of ts) place.Begin place.Done k (suc s.n) (omega (arith, fewer)) run in
       let m = next-move kinds s.token.kind s.before.place part.0 s.runs (subst (λ l. Runs place.Begin l part.0) s.more part.1) in
-      (s.n, (fewer, breaks-rule m.0 m.1 (by_strange (is_strange s.token.kind) refl m.0 m.1 s.fault)))
+      (s.n, fewer, breaks-rule m.0 m.1 (by_strange (is_strange s.token.kind) refl m.0 m.1 s.fault))
     where
       by_strange : (b : Bool) → is_strange s.token.kind ≡ b → (m : Move) → move_at s.before.place s.token.kind ≡ Some m → cond b (Some broken.BadByte) (move_fault cells s.before s.token.name (move_at s.before.place s.token.kind)) ≡ Some f.kind → rule_fault cells s.before.names (ports_of s.before.said) s.before.declared m.task s.token.name ≡ Some f.kind
       by_strange true d m e g = absurd (strange-stuck s.before.place s.token.kind m d e)

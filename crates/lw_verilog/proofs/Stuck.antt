@@ -1,5 +1,5 @@
 -- Where tokens can go on to a text of the grammar, and where none does.
-use Rattle.std.proofs.Common.{ℕ, zero, suc, ◌≡◌, ◌<◌, ◌≤◌, Bool, true, false, List, [], ◌∷◌, ◌++◌, take, Option, Some, None, refl, ap, sym, ◌∙◌, subst, arith}
+use Rattle.std.proofs.Common.{ℕ, zero, suc, ◌≡◌, ◌<◌, ◌≤◌, true, false, List, [], ◌∷◌, ◌++◌, take, Option, Some, None, refl, ap, sym, ◌∙◌, subst, arith}
 use Rattle.lw_verilog.specs.declared.kind.Kind.{Kind}
 use Rattle.lw_verilog.specs.declared.kind.Kind.TheVariants as kind
 use Rattle.lw_verilog.specs.declared.place.Move.{Move}
@@ -190,7 +190,7 @@ runs-apart : (xs ys : List Kind) (p s : Place) → Runs p (xs ++ ys) s → (q : 
 runs-apart [] ys p s run = (p, refl, run)
 runs-apart (x ∷ xs) ys p s (m, e, run) =
     let parts = runs-apart xs ys m.next s run in
-    (parts.0, (m, e, parts.1.0), parts.1.1)
+    (parts.0, (m, e, parts.1), parts.2)
 
 same-move : (o : Option Move) (m n : Move) → o ≡ Some m → o ≡ Some n → m ≡ n
 same-move o m n e f = cc
@@ -261,9 +261,9 @@ can-go-on xs p run =
 pub next-move : (xs : List Kind) (k : Kind) (p s : Place) → Runs place.Begin xs p → Runs place.Begin (xs ++ k ∷ []) s → (m : Move) × (move_at p k ≡ Some m)
 next-move xs k p s run go =
     let parts = runs-apart xs (k ∷ []) place.Begin s go in
-    let same : parts.0 ≡ p = runs-once xs place.Begin parts.0 p parts.1.0 run in
-    let m = parts.1.1 in
-    (m.0, ap (λ q. move_at q k) (sym same) ∙ m.1.0)
+    let same : parts.0 ≡ p = runs-once xs place.Begin parts.0 p parts.1 run in
+    let m = parts.2 in
+    (m.0, ap (λ q. move_at q k) (sym same) ∙ m.1)
 
 no-move-left : (o : Option Move) (m : Move) → o ≡ None → o ≡ Some m → ⊥
 no-move-left o m e f = cc
@@ -271,7 +271,7 @@ no-move-left o m e f = cc
 pub cannot-go-on : (xs : List Kind) (k : Kind) (p : Place) → Runs place.Begin xs p → move_at p k ≡ None → CanGoOn (xs ++ k ∷ []) → ⊥
 cannot-go-on xs k p run none (rest, derived) =
     let parts = runs-apart (xs ++ k ∷ []) rest place.Begin place.Done (derived-accepted ((xs ++ k ∷ []) ++ rest) derived) in
-    let m = next-move xs k p parts.0 run parts.1.0 in
+    let m = next-move xs k p parts.0 run parts.1 in
     no-move-left (move_at p k) m.0 none m.1
 
 pub goes-further : (xs : List Kind) (k : Kind) (p : Place) (m : Move) → Runs place.Begin xs p → move_at p k ≡ Some m → CanGoOn (xs ++ k ∷ [])

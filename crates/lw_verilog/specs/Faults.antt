@@ -1,5 +1,5 @@
 -- Which token of a text breaks a rule, and why.
-use Rattle.std.specs.Prelude.{ℕ, suc, ◌≡◌, ◌≢◌, ◌<◌, ◌⊎◌, true, false, List, [], ◌∷◌, ◌++◌, take, slice_get, Some, Result, Ok, Err}
+use Rattle.std.specs.Prelude.{ℕ, suc, ◌≡◌, ◌≢◌, ◌<◌, ◌⊎◌, true, false, List, ◌++◌, take, slice_get, Some, Result, Ok, Err}
 use Rattle.lw_genlib.specs.Cells.{CellParts}
 use Rattle.lw_verilog.specs.declared.fault.VerilogKind.{VerilogKind}
 use Rattle.lw_verilog.specs.declared.fault.VerilogKind.TheVariants as broken
