@@ -48,7 +48,9 @@ fn ranks_of(alloc: Global, plan: &Plan) -> Result<Vec<Rank>, WalkFault> {
     for class in 0..plan.inputs.len() {
         let number = ClassId(to_u32(class)?);
         if let (None, Some(rank)) = (plan.inputs[class], rank_of(plan.curves, number)) {
-            ranks.push(rank)?;
+            let Ok(()) = ranks.push(rank) else {
+                return Err(WalkFault::Memory);
+            };
         }
     }
     ranks.sort_unstable();

@@ -2,7 +2,7 @@
 use crate::fault::WalkFault;
 use crate::wants::{Plan, to_u32};
 use lw_pool::{CellId, ClassId, Numbers};
-use std::alloc::Global;
+use std::alloc::{AllocError, Global};
 
 /// The gates that a walk has found. The inputs are the first nets, and each gate drives the next
 /// one.
@@ -85,10 +85,16 @@ pub(crate) fn gate_at(trail: &mut Trail, node: Node, user: User) -> Result<u32, 
         return Ok(gate);
     }
     let gate = to_u32(trail.nodes.len())?;
-    trail.nodes.push(node)?;
-    trail.users.push(user)?;
+    add_node(trail, node, user)?;
     note_gate(trail, node, gate);
     Ok(gate)
+}
+
+// Appends a node with its first user.
+fn add_node(trail: &mut Trail, node: Node, user: User) -> Result<(), AllocError> {
+    trail.nodes.push(node)?;
+    trail.users.push(user)?;
+    Ok(())
 }
 
 // No gates yet.
@@ -108,7 +114,9 @@ fn no_owners(alloc: Global, plan: &Plan) -> Result<Vec<Vec<u32>>, WalkFault> {
             .curves
             .get(ClassId(to_u32(class)?))
             .ok_or(WalkFault::Lost)?;
-        owners.push(vec![in alloc; NO_GATE; points.len()]?)?;
+        let Ok(()) = owners.push(vec![in alloc; NO_GATE; points.len()]?) else {
+            return Err(WalkFault::Memory);
+        };
     }
     Ok(owners)
 }

@@ -12,7 +12,7 @@ use crate::wants::{Plan, Want, demand_of, pin_want, root_want, to_u32};
 use lw_curves::Curves;
 use lw_genlib::Library;
 use lw_graph::Graph;
-use lw_pool::{ClassId, Numbers};
+use lw_pool::{CellId, ClassId, Numbers};
 use std::alloc::{AllocError, Global};
 
 /// Walks from the roots down. Each root takes the last point of its class by its time. Each pin of
@@ -93,7 +93,9 @@ fn push_roots(plan: &Plan, trail: &mut Trail) -> Result<(), WalkFault> {
         let exact = !trail.sharing || !is_cut(plan.curves, *root, time.0);
         let (want, place) = (root_want(*root, *time, exact), to_u32(k)?);
         let net = net_for(plan, trail, want, User { gate: None, place })?;
-        trail.walk.nets.push(net)?;
+        let Ok(()) = trail.walk.nets.push(net) else {
+            return Err(WalkFault::Memory);
+        };
     }
     Ok(())
 }
@@ -121,10 +123,18 @@ fn go_through(alloc: Global, plan: &Plan, trail: &mut Trail, at: usize) -> Resul
     for pin in 0..demand.pins.len().min(demand.delays.len()) {
         let place = to_u32(pin)?;
         let want = pin_want(&demand, pin);
-        row.push(net_for(plan, trail, want, User { gate, place })?)?;
+        let net = net_for(plan, trail, want, User { gate, place })?;
+        let Ok(()) = row.push(net) else {
+            return Err(WalkFault::Memory);
+        };
     }
-    trail.walk.cells.push(demand.cell)?;
-    trail.walk.pins.push(Numbers::new(row))?;
+    Ok(add_gate(&mut trail.walk, demand.cell, row)?)
+}
+
+// Appends a gate with the nets of its pins.
+fn add_gate(walk: &mut Walk, cell: CellId, nets: Vec<u32>) -> Result<(), AllocError> {
+    walk.cells.push(cell)?;
+    walk.pins.push(Numbers::new(nets))?;
     Ok(())
 }
 
