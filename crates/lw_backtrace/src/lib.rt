@@ -10,7 +10,6 @@
 //! * `targets`: what a netlist is built for (`Targets`);
 //! * `wants`: what a walk goes by, and what a pin or a root asks for;
 //! * `trail`: what a walk has found so far;
-//! * `fault`: what keeps a walk from its gates: it is lost, or memory is out;
 //! * `walk`: the walk from the roots through the pins of each gate found (`walk_down`);
 //! * `shared_points`: the point of each class that shared uses take, the highest class first;
 //! * `second_look`: whether what a walk has found is right, gate by gate. The walk itself is not
@@ -35,7 +34,6 @@
 //! `walk_down`.
 #![tactic(auto)]
 
-mod fault;
 mod second_look;
 mod shared_points;
 mod targets;

@@ -1,5 +1,4 @@
 // The points whose gates are shared, where any cover in time will do.
-use crate::fault::WalkFault;
 use crate::second_look::is_cut;
 use crate::trail::{NO_GATE, Node, Trail};
 use crate::wants::{Plan, demand_of, to_u32};
@@ -7,7 +6,7 @@ use lw_choices::Stand;
 use lw_curves::Curves;
 use lw_fixed::Micro;
 use lw_pool::ClassId;
-use std::alloc::Global;
+use std::alloc::{AllocError, Global};
 
 /// What the first point of a class is. Classes are gone through by it, from the highest down.
 #[derive(Clone, Copy, PartialEq, Eq, PartialOrd, Ord)]
@@ -21,7 +20,7 @@ struct Rank {
 /// Chooses the place of the point of each class that is shared, given the exact gates of each, the
 /// highest class first. Each class is needed by a time by roots, or by the pins of those that are
 /// chosen before it.
-pub(crate) fn share(alloc: Global, plan: &Plan, trail: &mut Trail) -> Result<(), WalkFault> {
+pub(crate) fn share(alloc: Global, plan: &Plan, trail: &mut Trail) -> Result<(), AllocError> {
     need_roots(plan, trail);
     let ranks = ranks_of(alloc, plan)?;
     for rank in ranks.iter().rev() {
@@ -43,14 +42,12 @@ fn rank_of(curves: &Curves, class: ClassId) -> Option<Rank> {
 }
 
 // The ranks of the classes that no input has, the lowest first.
-fn ranks_of(alloc: Global, plan: &Plan) -> Result<Vec<Rank>, WalkFault> {
+fn ranks_of(alloc: Global, plan: &Plan) -> Result<Vec<Rank>, AllocError> {
     let mut ranks = Vec::new(alloc);
     for class in 0..plan.inputs.len() {
         let number = ClassId(to_u32(class)?);
         if let (None, Some(rank)) = (plan.inputs[class], rank_of(plan.curves, number)) {
-            let Ok(()) = ranks.push(rank) else {
-                return Err(WalkFault::Memory);
-            };
+            ranks.push(rank)?;
         }
     }
     ranks.sort_unstable();
@@ -119,13 +116,13 @@ fn need(needs: &mut Vec<Option<u64>>, class: ClassId, time: u64) {
 }
 
 // Notes by which times the pins of the gate of a point need their classes.
-fn need_pins(plan: &Plan, trail: &mut Trail, class: ClassId, place: u32) -> Result<(), WalkFault> {
+fn need_pins(plan: &Plan, trail: &mut Trail, class: ClassId, place: u32) -> Result<(), AllocError> {
     let node = Node {
         class,
         place,
         exact: false,
     };
-    let demand = demand_of(plan, node).ok_or(WalkFault::Lost)?;
+    let demand = demand_of(plan, node).ok_or(AllocError)?;
     for (pin, delay) in demand.pins.iter().zip(demand.delays) {
         need(&mut trail.needs, *pin, demand.time.saturating_sub(delay.0));
     }
@@ -143,28 +140,21 @@ fn need_roots(plan: &Plan, trail: &mut Trail) {
 
 // The place of the point that is shared of a class needed by a time: the latest with an exact gate,
 // or else the latest that fits. Then the pins of its gate need their classes.
-fn place_by(plan: &Plan, trail: &mut Trail, rank: Rank, time: u64) -> Result<u32, WalkFault> {
-    let last = to_u32(
-        plan.curves
-            .last_by(rank.class, 0, time)
-            .ok_or(WalkFault::Lost)?,
-    )?;
-    let gates = trail
-        .owners
-        .get(rank.class.0 as usize)
-        .ok_or(WalkFault::Lost)?;
+fn place_by(plan: &Plan, trail: &mut Trail, rank: Rank, time: u64) -> Result<u32, AllocError> {
+    let last = to_u32(plan.curves.last_by(rank.class, 0, time).ok_or(AllocError)?)?;
+    let gates = trail.owners.get(rank.class.0 as usize).ok_or(AllocError)?;
     if let Some(place) = owned_place(gates.as_slice(), last) {
         return Ok(place);
     }
-    let place = fitting_place(plan, rank, last).ok_or(WalkFault::Lost)?;
+    let place = fitting_place(plan, rank, last).ok_or(AllocError)?;
     need_pins(plan, trail, rank.class, place)?;
     Ok(place)
 }
 
 // Chooses the place of the point that is shared of a class, if that is needed.
-fn choose(plan: &Plan, trail: &mut Trail, rank: Rank) -> Result<(), WalkFault> {
+fn choose(plan: &Plan, trail: &mut Trail, rank: Rank) -> Result<(), AllocError> {
     let class = rank.class.0 as usize;
-    if let Some(time) = *trail.needs.get(class).ok_or(WalkFault::Lost)? {
+    if let Some(time) = *trail.needs.get(class).ok_or(AllocError)? {
         let place = place_by(plan, trail, rank, time)?;
         if class < trail.places.len() {
             trail.places[class] = place;

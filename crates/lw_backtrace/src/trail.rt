@@ -1,5 +1,4 @@
 // What a walk has found so far.
-use crate::fault::WalkFault;
 use crate::wants::{Plan, to_u32};
 use lw_pool::{CellId, ClassId, Numbers};
 use std::alloc::{AllocError, Global};
@@ -64,7 +63,7 @@ pub(crate) const NO_GATE: u32 = u32::MAX;
 pub(crate) const MOST_GATES: usize = 8_000_000;
 
 /// Nothing is found yet: no class or point has a gate, and no class is needed.
-pub(crate) fn no_trail(alloc: Global, plan: &Plan, sharing: bool) -> Result<Trail, WalkFault> {
+pub(crate) fn no_trail(alloc: Global, plan: &Plan, sharing: bool) -> Result<Trail, AllocError> {
     Ok(Trail {
         nodes: Vec::new(alloc),
         users: Vec::new(alloc),
@@ -79,22 +78,16 @@ pub(crate) fn no_trail(alloc: Global, plan: &Plan, sharing: bool) -> Result<Trai
 
 /// The number of the gate of a node. If it has none yet, it becomes the next gate, and `user` is
 /// the first to use it.
-pub(crate) fn gate_at(trail: &mut Trail, node: Node, user: User) -> Result<u32, WalkFault> {
-    let gate = gate_of_node(trail, node).ok_or(WalkFault::Lost)?;
+pub(crate) fn gate_at(trail: &mut Trail, node: Node, user: User) -> Result<u32, AllocError> {
+    let gate = gate_of_node(trail, node).ok_or(AllocError)?;
     if gate != NO_GATE {
         return Ok(gate);
     }
     let gate = to_u32(trail.nodes.len())?;
-    add_node(trail, node, user)?;
-    note_gate(trail, node, gate);
-    Ok(gate)
-}
-
-// Appends a node with its first user.
-fn add_node(trail: &mut Trail, node: Node, user: User) -> Result<(), AllocError> {
     trail.nodes.push(node)?;
     trail.users.push(user)?;
-    Ok(())
+    note_gate(trail, node, gate);
+    Ok(gate)
 }
 
 // No gates yet.
@@ -107,16 +100,11 @@ fn no_walk(alloc: Global) -> Walk {
 }
 
 // `NO_GATE` for each point of each class.
-fn no_owners(alloc: Global, plan: &Plan) -> Result<Vec<Vec<u32>>, WalkFault> {
+fn no_owners(alloc: Global, plan: &Plan) -> Result<Vec<Vec<u32>>, AllocError> {
     let mut owners = Vec::with_capacity(alloc, plan.inputs.len())?;
     for class in 0..plan.inputs.len() {
-        let points = plan
-            .curves
-            .get(ClassId(to_u32(class)?))
-            .ok_or(WalkFault::Lost)?;
-        let Ok(()) = owners.push(vec![in alloc; NO_GATE; points.len()]?) else {
-            return Err(WalkFault::Memory);
-        };
+        let points = plan.curves.get(ClassId(to_u32(class)?)).ok_or(AllocError)?;
+        owners.push(vec![in alloc; NO_GATE; points.len()]?)?;
     }
     Ok(owners)
 }

@@ -3,7 +3,6 @@ ghost use Rattle.std.specs.Prelude.{◌<◌, IfOk, IsTrue, length};
 ghost use Rattle.lw_backtrace.specs.SecondLook.{IsRightWalk};
 ghost use Rattle.lw_backtrace.specs.Walks.{AreInputsTo, IsWalkBy, IsWalkDown};
 
-use crate::fault::WalkFault;
 use crate::second_look::{is_cut, is_right};
 use crate::shared_points::share;
 use crate::targets::Targets;
@@ -12,7 +11,7 @@ use crate::wants::{Plan, Want, demand_of, pin_want, root_want, to_u32};
 use lw_curves::Curves;
 use lw_genlib::Library;
 use lw_graph::Graph;
-use lw_pool::{CellId, ClassId, Numbers};
+use lw_pool::{ClassId, Numbers};
 use std::alloc::{AllocError, Global};
 
 /// Walks from the roots down. Each root takes the last point of its class by its time. Each pin of
@@ -73,35 +72,30 @@ fn node_for(plan: &Plan, trail: &Trail, want: Want) -> Option<Node> {
 
 // The net that is wanted: that of the input of the class, or of a point's gate, which `user` may be
 // the first to use.
-fn net_for(plan: &Plan, trail: &mut Trail, want: Want, user: User) -> Result<u32, WalkFault> {
-    let input = plan
-        .inputs
-        .get(want.class.0 as usize)
-        .ok_or(WalkFault::Lost)?;
+fn net_for(plan: &Plan, trail: &mut Trail, want: Want, user: User) -> Result<u32, AllocError> {
+    let input = plan.inputs.get(want.class.0 as usize).ok_or(AllocError)?;
     if let Some(input) = *input {
         return Ok(input);
     }
-    let node = node_for(plan, trail, want).ok_or(WalkFault::Lost)?;
+    let node = node_for(plan, trail, want).ok_or(AllocError)?;
     let gate = gate_at(trail, node, user)?;
-    plan.count.checked_add(gate).ok_or(WalkFault::Lost)
+    plan.count.checked_add(gate).ok_or(AllocError)
 }
 
 // Appends the nets of the roots, of which those that are cut may share gates.
-fn push_roots(plan: &Plan, trail: &mut Trail) -> Result<(), WalkFault> {
+fn push_roots(plan: &Plan, trail: &mut Trail) -> Result<(), AllocError> {
     trail.walk.nets.reserve(plan.roots.len())?;
     for (k, (root, time)) in plan.roots.iter().zip(plan.times).enumerate() {
         let exact = !trail.sharing || !is_cut(plan.curves, *root, time.0);
         let (want, place) = (root_want(*root, *time, exact), to_u32(k)?);
         let net = net_for(plan, trail, want, User { gate: None, place })?;
-        let Ok(()) = trail.walk.nets.push(net) else {
-            return Err(WalkFault::Memory);
-        };
+        trail.walk.nets.push(net)?;
     }
     Ok(())
 }
 
 // Finds the exact gates of the roots whose last points by their times are not cut.
-fn start_at_roots(plan: &Plan, trail: &mut Trail) -> Result<(), WalkFault> {
+fn start_at_roots(plan: &Plan, trail: &mut Trail) -> Result<(), AllocError> {
     for (k, (root, time)) in plan.roots.iter().zip(plan.times).enumerate() {
         let place = to_u32(k)?;
         if !is_cut(plan.curves, *root, time.0) {
@@ -114,32 +108,24 @@ fn start_at_roots(plan: &Plan, trail: &mut Trail) -> Result<(), WalkFault> {
 
 // Goes on to the pins of the gate with the number `at`: notes its cell and the nets of its pins,
 // which may be of new gates.
-fn go_through(alloc: Global, plan: &Plan, trail: &mut Trail, at: usize) -> Result<(), WalkFault>
+fn go_through(alloc: Global, plan: &Plan, trail: &mut Trail, at: usize) -> Result<(), AllocError>
     requires { at < length trail.old.nodes.items }
 {
-    let demand = demand_of(plan, trail.nodes[at]).ok_or(WalkFault::Lost)?;
+    let demand = demand_of(plan, trail.nodes[at]).ok_or(AllocError)?;
     let gate = Some(to_u32(at)?);
     let mut row = Vec::with_capacity(alloc, demand.pins.len())?;
     for pin in 0..demand.pins.len().min(demand.delays.len()) {
         let place = to_u32(pin)?;
         let want = pin_want(&demand, pin);
-        let net = net_for(plan, trail, want, User { gate, place })?;
-        let Ok(()) = row.push(net) else {
-            return Err(WalkFault::Memory);
-        };
+        row.push(net_for(plan, trail, want, User { gate, place })?)?;
     }
-    Ok(add_gate(&mut trail.walk, demand.cell, row)?)
-}
-
-// Appends a gate with the nets of its pins.
-fn add_gate(walk: &mut Walk, cell: CellId, nets: Vec<u32>) -> Result<(), AllocError> {
-    walk.cells.push(cell)?;
-    walk.pins.push(Numbers::new(nets))?;
+    trail.walk.cells.push(demand.cell)?;
+    trail.walk.pins.push(Numbers::new(row))?;
     Ok(())
 }
 
 // Goes on to the pins of each gate that was found and not yet gone through.
-fn walk_on(alloc: Global, plan: &Plan, trail: &mut Trail) -> Result<(), WalkFault> {
+fn walk_on(alloc: Global, plan: &Plan, trail: &mut Trail) -> Result<(), AllocError> {
     for at in trail.walk.cells.len()..MOST_GATES {
         if at >= trail.nodes.len() {
             break;
@@ -150,14 +136,14 @@ fn walk_on(alloc: Global, plan: &Plan, trail: &mut Trail) -> Result<(), WalkFaul
 }
 
 // Walks from the roots that are not cut, and then chooses the points that the others share.
-fn walk_first(alloc: Global, plan: &Plan, trail: &mut Trail) -> Result<(), WalkFault> {
+fn walk_first(alloc: Global, plan: &Plan, trail: &mut Trail) -> Result<(), AllocError> {
     start_at_roots(plan, trail)?;
     walk_on(alloc, plan, trail)?;
     share(alloc, plan, trail)
 }
 
 // Walks from the roots down, and says whether what was found is right.
-fn walk_through(alloc: Global, plan: &Plan, trail: &mut Trail) -> Result<bool, WalkFault>
+fn walk_through(alloc: Global, plan: &Plan, trail: &mut Trail) -> Result<bool, AllocError>
     ensures { IfOk result (λ right. IsTrue right → IsRightWalk plan.now trail.new) }
 {
     if trail.sharing {
@@ -170,14 +156,14 @@ fn walk_through(alloc: Global, plan: &Plan, trail: &mut Trail) -> Result<bool, W
 
 // Walks from the roots down, of which those that are cut may share gates. What was found is looked
 // through once more, so that the walk itself need not be known to be right.
-fn walk_by(alloc: Global, plan: &Plan, sharing: bool) -> Result<Walk, WalkFault>
+fn walk_by(alloc: Global, plan: &Plan, sharing: bool) -> Result<Walk, AllocError>
     ensures { IfOk result (IsWalkBy plan.now) }
 {
     let mut trail = no_trail(alloc, plan, sharing)?;
     if walk_through(alloc, plan, &mut trail)? {
         return Ok(trail.walk);
     }
-    Err(WalkFault::Lost)
+    Err(AllocError)
 }
 
 // Whether some root is cut.
@@ -200,9 +186,5 @@ fn walk_either(alloc: Global, plan: &Plan) -> Result<Walk, AllocError>
             return Ok(walk);
         }
     }
-    match walk_by(alloc, plan, false) {
-        Ok(walk) => Ok(walk),
-        Err(WalkFault::Lost) => Err(AllocError),
-        Err(WalkFault::Memory) => Err(AllocError),
-    }
+    walk_by(alloc, plan, false)
 }

@@ -2,13 +2,13 @@
 ghost use Rattle.std.specs.Prelude.{◌≡◌, ◌<◌, IfOk, IfSome, length};
 ghost use Rattle.lw_backtrace.specs.SecondLook.{IsDemand, IsPinWant, root_want};
 
-use crate::fault::WalkFault;
 use crate::trail::Node;
 use lw_choices::Stand;
 use lw_curves::Curves;
 use lw_fixed::Micro;
 use lw_genlib::Library;
 use lw_pool::{CellId, ClassId};
+use std::alloc::AllocError;
 
 /// What a walk goes by.
 #[derive(Drop)]
@@ -97,9 +97,9 @@ pub(crate) fn demand_of<'a>(plan: &Plan<'a>, node: Node) -> Option<Demand<'a>>
     })
 }
 
-/// A number as one of 32 bits. A greater one loses the walk.
-pub(crate) fn to_u32(number: usize) -> Result<u32, WalkFault>
+/// A number as one of 32 bits. For a greater one it says that memory is out.
+pub(crate) fn to_u32(number: usize) -> Result<u32, AllocError>
     ensures { IfOk result (λ n. n ≡ number) }
 {
-    u32::try_from(number).ok().ok_or(WalkFault::Lost)
+    u32::try_from(number).ok().ok_or(AllocError)
 }
