@@ -33,7 +33,8 @@ fn put_node(text: &mut Vec<u8>, names: &[Name], node: &Node) -> Result<(), Alloc
     for row in node.rows.as_slice() {
         text.push(b'\n')?;
         text.extend_from_slice(row.as_slice())?;
-        text.extend_from_slice(if node.on { b" 1" } else { b" 0" })?;
+        text.push(b' ')?;
+        text.push(if node.on { b'1' } else { b'0' })?;
     }
     text.push(b'\n')?;
     Ok(())
@@ -96,6 +97,6 @@ fn a_drawn_network_is_mapped_and_checked(rt: HostRuntime) -> Result<(), Fail> {
     assert_eq!(rt; status, 0);
     let (status, verdict) = answer(alloc, "check LIB IN MAPPED", &network, &mapped)?;
     assert_eq!(rt; status, 0);
-    assert!(rt; verdict.as_slice() == b"yes\n");
+    assert_eq!(rt; verdict.as_slice(), b"yes\n".as_slice());
     Ok(())
 }
