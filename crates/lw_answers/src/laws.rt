@@ -39,7 +39,7 @@ pub fn answers_are_trades()
 {}
 
 /// Where the words ask for a mapping of a network that is within the limits, the answer is that
-/// there is no cover exactly where some root has none: no tree that the laws derive for it has a
+/// there is no cover exactly where some root has none: no tree that the rules derive for it has a
 /// cover by the library's cells.
 pub fn uncovered_roots_are_refused()
     ensures { (words : List (List ℕ)) (files : Files) (options : Options) (certified : Bool)

@@ -22,7 +22,7 @@ use lw_reduce::reduce;
 use std::alloc::Global;
 
 /// The graph of the classes of some listed forms, in which the trees of each form's class are those
-/// that the laws of decomposition derive for the form in a mode. `Limit` comes exactly where there
+/// that the rules of decomposition derive for the form in a mode. `Limit` comes exactly where there
 /// are more than 16,777,216 splits of the mode, before memory is taken for them.
 pub fn build(alloc: Global, forms: &Forms, mode: Mode) -> Result<Graph, GraphFault>
     ensures limit { (result ≡ Err Limit) ↔

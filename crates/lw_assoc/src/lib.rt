@@ -1,6 +1,6 @@
 //! The graph of all decompositions of the forms of a network at once.
 //!
-//! In come the listed forms of a network and a mode, which says what laws of decomposition hold.
+//! In come the listed forms of a network and a mode, which says what rules of decomposition hold.
 //! Out comes the graph of the classes of these forms, or `Limit` where the mode has more than
 //! 16,777,216 splits. The modules in order:
 //!

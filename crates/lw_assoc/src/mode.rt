@@ -1,4 +1,4 @@
-/// Which laws of decomposition hold.
+/// Which rules of decomposition hold.
 #[derive(Clone, Copy, PartialEq, Eq)]
 pub enum Mode {
     /// The splits of each And into two, with inverters and the two forms of each net.

@@ -176,7 +176,9 @@ impl Bounds {
         &self.bare
     }
 
-    /// A view of the table for searches: sides, roots, rows and gaps.
+    /// A view of the table for searches: sides, roots, rows and gaps, all borrowed. A root is the
+    /// side of a whole pattern; the lists `leaf_roots`, `row_roots` and `other_roots` go by where its
+    /// number stands: in list 0, 1 or 2. What cuts by height stays empty till `with_heights`.
     pub fn cuts(&self) -> Cuts
         ensures state { cuts_state result ≡ record {
           sides = self.now.sides;

@@ -95,13 +95,7 @@ fn known_by<C: Cost>(cost: &C, cell: CellId, pins: usize, gaps: &[u64]) -> u64
 }
 
 /// Whether the gaps of all pins of a cell are certified at `top`.
-pub(crate) fn is_certified<C: Cost>(
-    cost: &C,
-    cell: CellId,
-    pins: usize,
-    gaps: &[u64],
-    top: u64,
-) -> bool
+pub fn is_certified<C: Cost>(cost: &C, cell: CellId, pins: usize, gaps: &[u64], top: u64) -> bool
     requires { HasFewPins (C.costs cost.now).pin_counts cell.0 pins }
     ensures { IsTrue result → IsGapCertified (C.costs cost.now) cell.0 pins gaps.now top }
 {

@@ -48,7 +48,7 @@ mod times;
 
 pub use bounds::Bounds;
 pub use cuts::{Cuts, numbers_of, sides_at};
-pub use gaps::{gaps_at, is_certified_by, known_of};
+pub use gaps::{gaps_at, is_certified, is_certified_by, known_of};
 pub use heights::{HeightBounds, with_heights};
 pub use laws::{bounds_of_fewer, settled_bounds_are_bounds};
 pub use numbers::{Numbers, shifted, side_number};

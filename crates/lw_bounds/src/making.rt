@@ -75,7 +75,9 @@ pub(crate) fn lists_by(alloc: Global, roots: &[Side]) -> Result<RootLists, Alloc
     Ok(RootLists { leaf, row, other })
 }
 
-/// A row of zeros for each class that has pairs, with a number for each part.
+/// The rows of a new table: for each class that has pairs one number per part, in units of cost.
+/// All are 0, which is a lower bound anywhere; `Bounds::forget` and `forget_all` put them to
+/// `u64::MAX`, from where they fall.
 pub(crate) fn rows_by(alloc: Global, graph: &Graph, parts: &[Part]) -> Result<Rows, AllocError>
     requires { AreFew graph.now parts.now }
     ensures { IfOk result (AreFreshRows graph.now parts.now) }

@@ -51,7 +51,7 @@ pub record IsOverForms (mode : Mode) (width : ℕ) (k : Claim) : Type 0 where
   pub patterns : ArePatterns (cost_in k).pin_counts k.pats
 
 -- The netlist has the frame, the ports and the values of the network, and each output arrives at the least time of any cover of any
--- tree that the laws derive for it.
+-- tree that the rules derive for it.
 pub record IsFastestMapping (mode : Mode) (width : ℕ) (truth : CellTruth) (k : Claim) : Type 0 where
   pub frame : k.mapped.frame ≡ k.frame
   pub mapping_is : IsMapping mode width (plain_network k.net) (ports_of k.net) k.pats (timing_in k) truth (plain_netlist k.mapped.netlist) (mapped_ports k.mapped.netlist)

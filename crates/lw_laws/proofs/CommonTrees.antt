@@ -56,7 +56,7 @@ module _ (F : Family) where
         joined s.alike (joined (nanded s.is_nand r.is_nand (stands_once t s.left r.left s.left_tree r.left_tree) (stands_once u s.right r.right s.right_tree r.right_tree)) (turned r.alike))
 
     module _ (rank : ℕ → ℕ) (family : IsFamily F rank) where
-      -- what the laws derive for a form stands at its class
+      -- what the rules derive for a form stands at its class
       derived_stands : {f : ℕ} {t : Tree} → Derives F f t → StandsAt t f
       derived_stands (by_input {f = f} {i = i} h) = (f, h, same (family.inputs f i h))
       derived_stands (by_top {f = f} h) = (f, h, same (family.tops f h))

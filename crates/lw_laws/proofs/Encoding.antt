@@ -1,4 +1,4 @@
--- The trees of a form's class are those that the laws derive for the form.
+-- The trees of a form's class are those that the rules derive for the form.
 use Rattle.std.proofs.Common.{◌≡◌, ℕ, suc, zero, ◌<◌, ◌⊎◌, ◌↔◌, inl, inr, refl, ap, sym, ◌∙◌, subst, subst₂, arith}
 use Rattle.lw_laws.specs.Flip.{flip}
 use Rattle.lw_laws.specs.Trees.{Tree, leaf, const_one, const_zero, inv, nand}
@@ -141,7 +141,7 @@ module _ (F : Family) (rank : ℕ → ℕ) (family : IsFamily F rank) where
       e,
     )
 
-    -- what the laws derive for a form unfolds at its class
+    -- what the rules derive for a form unfolds at its class
     pub Derives-unfolds : {f : ℕ} {t : Tree} → Derives F f t → Unfolds g t (class_of g f)
     Derives-unfolds (by_input {f = f} {i = i} h) = (encodes.leaves i (class_of g f)).1 (f, h, refl)
     Derives-unfolds (by_top {f = f} h) = (encodes.one (class_of g f)).1 (f, h, refl)
@@ -170,7 +170,7 @@ module _ (F : Family) (rank : ℕ → ℕ) (family : IsFamily F rank) where
         let c : class_of g (flip h) ≡ class_of g f = class_of-flip g h ∙ (ap flip (e ∙ class_of-flip g f) ∙ flip-flip (class_of g f)) in
         class_trees f (flip h) o (family.flips h (family.tops h is)) c const_zero d
 
-    -- what unfolds at the class of a form, the laws derive for the form
+    -- what unfolds at the class of a form, the rules derive for the form
     pub Unfolds-derives : (t : Tree) (f : ℕ) → F.Occurs f → Unfolds g t (class_of g f) → Derives F f t
     Unfolds-derives (leaf i) f o u =
         let (h, is, e) = (encodes.leaves i (class_of g f)).0 u in
@@ -188,7 +188,7 @@ module _ (F : Family) (rank : ℕ → ℕ) (family : IsFamily F rank) where
         let l = Unfolds-derives v n.right k.2 (subst (λ c. Unfolds g v c) (sym n.right_at) q) in
         class_trees f n.form o k.0 n.form_at (nand t v) (by_split n.is_nand d l)
 
-    -- a tree unfolds at the class of a form exactly where the laws derive it for the form
+    -- a tree unfolds at the class of a form exactly where the rules derive it for the form
     pub Unfolds-Derives : (f : ℕ) (t : Tree) → F.Occurs f → Unfolds g t (class_of g f) ↔ Derives F f t
     Unfolds-Derives f t o = (Unfolds-derives t f o, λ d. Derives-unfolds d)
 

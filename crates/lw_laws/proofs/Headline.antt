@@ -1,4 +1,4 @@
--- The laws over plain forms, from those over numbers.
+-- the rules over plain forms, from those over numbers.
 use Rattle.std.proofs.Common.{ℕ, ◌/◌, Bool, List, Option}
 use Rattle.lw_laws.specs.Graphs.{Graph}
 use Rattle.lw_laws.specs.NumberedForms.{family_of}

@@ -65,7 +65,7 @@ HasSomeTree F f = (t : Tree) × Derives F f t
 abbrev pub HaveCommonTree : Family → ℕ → ℕ → Type 0
 HaveCommonTree F f h = (t : Tree) × Derives F f t × Derives F h t
 
--- the least time of a cover of a tree that the laws derive for the form
+-- the least time of a cover of a tree that the rules derive for the form
 pub record HasLeastNumberedTime (mode : Mode) (forms : NumberedForms) (pats : List Pattern) (timing : Timing) (f d : ℕ) : Type 0 where
   pub attained : (k : Cover) × IsCover (map length timing.delays) pats k × Derives (family_of mode forms) f (tree_of k) × (time_of timing k ≡ d)
   pub least : (k : Cover) → IsCover (map length timing.delays) pats k → Derives (family_of mode forms) f (tree_of k) → d ≤ time_of timing k

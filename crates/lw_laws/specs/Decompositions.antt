@@ -1,4 +1,4 @@
--- The forms that occur, and the trees that the laws of decomposition give a form, over forms as plain trees.
+-- The forms that occur, and the trees that the rules of decomposition give a form, over forms as plain trees.
 use Rattle.std.specs.Prelude.{ℕ, ◌≤◌, ◌≡◌, ◌≢◌, ◌⊎◌, List, [], ◌∷◌, length, Some, slice_get, Contains}
 use Rattle.lw_laws.specs.Trees.{Tree, leaf, const_one, const_zero, inv, nand}
 use Rattle.lw_laws.specs.Modes.Mode.{idempotent}
@@ -38,7 +38,7 @@ IsPairOf f h p q = ((f ≡ p) × (h ≡ q) ⊎ (f ≡ q) × (h ≡ p)) ⊎ ((f �
 abbrev pub AreOfOneSignal : List Signal → Form → Form → Type 0
 AreOfOneSignal signals f h = (s : ℕ) × (x : Signal) × (slice_get signals s ≡ Some x) × IsPairOf f h x.sop x.fac
 
--- the laws derive the tree for the form
+-- the rules derive the tree for the form
 pub data HasTree (mode : Mode) (width : ℕ) (signals : List Signal) : Form → Tree → Type 0 where
   input_law : {i : ℕ} → HasTree mode width signals (var_form i) (leaf i)
   true_law : HasTree mode width signals true_form const_one

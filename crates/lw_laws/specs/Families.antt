@@ -1,9 +1,9 @@
--- Families of occurring forms, the trees that the laws derive for a form, and which forms are equivalent.
+-- Families of occurring forms, the trees that the rules derive for a form, and which forms are equivalent.
 use Rattle.std.specs.Prelude.{ℕ, ◌⊎◌}
 use Rattle.lw_laws.specs.Flip.{flip}
 use Rattle.lw_laws.specs.Trees.{Tree, leaf, const_one, const_zero, inv, nand}
 
--- what the laws know of forms; the complement of form f is form flip f
+-- what the rules know of forms; the complement of form f is form flip f
 pub record Family : Type 1 where
   pub Occurs : ℕ → Type 0
   -- form f is the input i, or true
@@ -22,7 +22,7 @@ abbrev pub AreLinked : Family → ℕ → ℕ → Type 0
 AreLinked F f h =
     (F.IsLink f h ⊎ F.IsLink h f) ⊎ (F.IsLink (flip f) (flip h) ⊎ F.IsLink (flip h) (flip f))
 
--- the laws derive the tree for the form
+-- the rules derive the tree for the form
 pub data Derives (F : Family) : ℕ → Tree → Type 0 where
   by_input : {f i : ℕ} → F.IsInput f i → Derives F f (leaf i)
   by_top : {f : ℕ} → F.IsTop f → Derives F f const_one

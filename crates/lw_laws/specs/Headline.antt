@@ -26,15 +26,15 @@ pub record StandsForCoverOf (mode : Mode) (width : ℕ) (signals : List Signal) 
   pub has_tree : HasTree mode width signals f (tree_of by)
   pub time : time_of timing by ≡ d
 
--- Of all covers by the library of all trees that the laws derive for the net's sum of products, the fastest takes d.
+-- Of all covers by the library of all trees that the rules derive for the net's sum of products, the fastest takes d.
 abbrev pub HasLeastArrival : Mode → ℕ → Network → List Pattern → Timing → ℕ → ℕ → Type 0
 HasLeastArrival mode width net pats timing s d = HasLeastTime mode width (signals_of width net) pats timing (sop_at (signals_of width net) s) d
 
--- No cover by the library is of a tree that the laws derive for the net's sum of products.
+-- No cover by the library is of a tree that the rules derive for the net's sum of products.
 abbrev pub HasNoCover : Mode → ℕ → Network → List Pattern → Timing → ℕ → Type 0
 HasNoCover mode width net pats timing s = HasNoCoverOf mode width (signals_of width net) pats timing (sop_at (signals_of width net) s)
 
--- Net k of the netlist stands for a cover of a tree that the laws derive for the sum of products of net s, whose time is d.
+-- Net k of the netlist stands for a cover of a tree that the rules derive for the sum of products of net s, whose time is d.
 abbrev pub StandsForCover : Mode → ℕ → Network → List Pattern → Timing → Netlist → ℕ → ℕ → ℕ → Type 0
 StandsForCover mode width net pats timing n s k d = StandsForCoverOf mode width (signals_of width net) pats timing n (sop_at (signals_of width net) s) k d
 
@@ -65,7 +65,7 @@ pub record MapsForms (mode : Mode) (width : ℕ) (signals : List Signal) (form :
   pub covering : CoversForms mode width signals form net ports pats timing truth n mapped
   pub arrivals : (ds : List ℕ) → AreArrivals timing n ds → AllZip (λ p q. HasLeastTime mode width signals pats timing (form p.net) (slice_index_or ds q.net 0)) ports.outputs mapped.outputs
 
--- The netlist is such a one for the sums of products of the network's nets, by the trees that the laws derive for them.
+-- The netlist is such a one for the sums of products of the network's nets, by the trees that the rules derive for them.
 abbrev pub IsMapping : Mode → ℕ → Network → Ports → List Pattern → Timing → CellTruth → Netlist → Ports → Type 0
 IsMapping mode width net ports pats timing truth n mapped = MapsForms mode width (signals_of width net) (sop_at (signals_of width net)) net ports pats timing truth n mapped
 

@@ -8,7 +8,7 @@ use Rattle.lw_laws.specs.Covers.{Timing, Pattern}
 use Rattle.lw_laws.specs.Netlists.{Netlist, CellTruth, AreArrivals}
 use Rattle.lw_laws.specs.Headline.{CoversForms, HasLeastArrival, Ports}
 
--- The netlist covers the sums of products of the network's nets, by the trees that the laws derive for them.
+-- The netlist covers the sums of products of the network's nets, by the trees that the rules derive for them.
 abbrev pub CoversNetwork : Mode → ℕ → Network → Ports → List Pattern → Timing → CellTruth → Netlist → Ports → Type 0
 CoversNetwork mode width net ports pats timing truth n mapped = CoversForms mode width (signals_of width net) (sop_at (signals_of width net)) net ports pats timing truth n mapped
 

@@ -21,7 +21,7 @@ use Rattle.lw_laws.specs.Numbering.{number}
 abbrev pub TreesUnfoldOnce : Graph → Type 0
 TreesUnfoldOnce g = (t : Tree) (c d : ℕ) → Unfolds g t c → Unfolds g t d → c ≡ d
 
--- the trees of each form's class are those that the laws derive for the form
+-- the trees of each form's class are those that the rules derive for the form
 abbrev pub HasNumberedTrees : Mode → NumberedForms → Graph → Type 0
 HasNumberedTrees mode forms g =
     (f : ℕ) (t : Tree) → NumberOccurs forms f → Unfolds g t (class_of g f) ↔ Derives (family_of mode forms) f t
@@ -36,7 +36,7 @@ abbrev pub BoundsCovers : Graph → List Pattern → Cost → List (Option ℕ) 
 BoundsCovers g pats cost labels =
     (k : Cover) (c : ℕ) → IsCover cost.pin_counts pats k → Unfolds g (tree_of k) c → HasLabelAtMost (labels_in labels) c (cost_of cost k)
 
--- the trees of each form's class are those that the laws give the form
+-- the trees of each form's class are those that the rules give the form
 abbrev pub HasTheTrees : Mode → Listing → Graph → Type 0
 HasTheTrees mode o g =
     (f : Form) (t : Tree) → IsListed o f → Unfolds g t (class_of g (number o.bases f)) ↔ HasTree mode o.width o.signals f t

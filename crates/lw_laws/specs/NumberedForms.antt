@@ -1,4 +1,4 @@
--- Listed forms, and what the laws know of them. Form 2b is the listed base form b, and form 2b + 1 its complement.
+-- Listed forms, and what the rules know of them. Form 2b is the listed base form b, and form 2b + 1 its complement.
 use Rattle.std.specs.Prelude.{ℕ, ◌+◌, ◌*◌, ◌/◌, ◌<◌, ◌≤◌, ◌≡◌, ◌≢◌, ◌⊎◌, List, [], ◌∷◌, length, Some, slice_get}
 use Rattle.std.specs.List.{AllByRecursion}
 use Rattle.lw_laws.specs.Flip.{flip}

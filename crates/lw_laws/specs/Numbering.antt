@@ -40,7 +40,7 @@ numbered inputs o = record {
   facs = map (fac_number o.bases) o.signals;
 }
 
--- the laws over numbers derive for each occurring form the trees that the laws over plain forms give it
+-- the rules over numbers derive for each occurring form the trees that the rules over plain forms give it
 abbrev pub HasSameTrees : Mode → ℕ → Listing → Type 0
 HasSameTrees mode inputs o =
     (f : Form) (t : Tree) → IsListed o f → HasTree mode o.width o.signals f t ↔ Derives (family_of mode (numbered inputs o)) (number o.bases f) t

@@ -35,13 +35,13 @@ pub fn encodings_hold_pairs_once()
         Encodes (family_of mode forms) g → PairsInOneClass g }
 {}
 
-/// The trees of the classes of an encoding are those that the laws over numbers derive.
+/// The trees of the classes of an encoding are those that the rules over numbers derive.
 pub fn classes_have_the_numbered_trees()
     ensures { (mode : Mode) (forms : NumberedForms) (g : Graph) → AreNumberedForms forms →
         Encodes (family_of mode forms) g → HasNumberedTrees mode forms g }
 {}
 
-/// The trees of the classes of an encoding are those that the laws give the forms.
+/// The trees of the classes of an encoding are those that the rules give the forms.
 pub fn classes_have_the_trees()
     ensures { (mode : Mode) (inputs : ℕ) (o : Listing) (g : Graph) → IsListing o →
         Encodes (family_of mode (numbered inputs o)) g → HasTheTrees mode o g }
@@ -116,7 +116,7 @@ pub fn graphs_hold_pairs_once()
         IsGraphOf mode net.inputs (listing_of width net) g → PairsInOneClass g }
 {}
 
-/// The trees of the classes of the graph of a network's forms are those that the laws give the
+/// The trees of the classes of the graph of a network's forms are those that the rules give the
 /// forms.
 pub fn graphs_have_the_trees()
     ensures { (mode : Mode) (width : ℕ) (net : Network) (g : Graph) → 2 ≤ width →

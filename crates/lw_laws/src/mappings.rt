@@ -180,7 +180,7 @@ pub fn outputs_own_their_names()
 // The headline for any listing whose linked forms have one value
 
 /// The arrival of a net that is rooted at a form is the least time of a library cover of a tree that
-/// the laws derive for the form.
+/// the rules derive for the form.
 pub fn rooted_nets_are_least()
     ensures { (mode : Mode) (inputs : ℕ) (o : Listing) (g : Graph) (pats : List Pattern)
         (timing : Timing) (cap : ℕ) (labels : List (Option ℕ)) (n : Netlist) (class : ℕ → ℕ)
@@ -202,7 +202,7 @@ pub fn nets_at_forms_have_values()
         slice_get mapped k ≡ Some (form_value x f) }
 {}
 
-/// A net at the class of a form stands for a cover of a tree that the laws derive for the form,
+/// A net at the class of a form stands for a cover of a tree that the rules derive for the form,
 /// and arrives at the cover's time.
 pub fn nets_at_forms_stand_for_covers()
     ensures { (mode : Mode) (inputs : ℕ) (o : Listing) (g : Graph) (pats : List Pattern)
@@ -226,7 +226,7 @@ pub fn covered_netlists_cover_forms()
         CoversForms mode o.width o.signals form net ports pats timing truth n mapped }
 {}
 
-/// Where the class of a form has no label, no cover is of a tree that the laws derive for it.
+/// Where the class of a form has no label, no cover is of a tree that the rules derive for it.
 pub fn unlabelled_forms_have_no_cover()
     ensures { (mode : Mode) (inputs : ℕ) (o : Listing) (g : Graph) (pats : List Pattern)
         (timing : Timing) (cap : ℕ) (labels : List (Option ℕ)) →
@@ -294,7 +294,7 @@ pub fn netlists_of_forms_are_one()
 // The headline
 
 /// The arrival of an output of a mapped netlist is the least time of a library cover of a tree that
-/// the laws derive for it.
+/// the rules derive for it.
 pub fn mapped_outputs_are_least()
     ensures { (mode : Mode) (width : ℕ) (net : Network) (g : Graph) (pats : List Pattern)
         (timing : Timing) (cap : ℕ) (labels : List (Option ℕ)) (n : Netlist) (class : ℕ → ℕ)
@@ -317,7 +317,7 @@ pub fn mapped_outputs_have_values()
         slice_get values s ≡ slice_get mapped k }
 {}
 
-/// The net of an output of a netlist of matches stands for a cover of a tree that the laws derive
+/// The net of an output of a netlist of matches stands for a cover of a tree that the rules derive
 /// for the output, and arrives at the cover's time.
 pub fn mapped_outputs_stand_for_covers()
     ensures { (mode : Mode) (width : ℕ) (net : Network) (g : Graph) (pats : List Pattern)
@@ -415,7 +415,7 @@ pub fn mapped_netlists_are_match_netlists()
 {}
 
 /// A netlist of matches over the graph of a network's forms covers the network: it has its ports
-/// and values, and each output stands for a cover of a tree that the laws derive for it, whose time
+/// and values, and each output stands for a cover of a tree that the rules derive for it, whose time
 /// is its arrival.
 pub fn match_netlists_cover_networks()
     ensures { (mode : Mode) (width : ℕ) (net : Network) (ports : Ports) (pats : List Pattern)

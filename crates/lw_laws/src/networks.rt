@@ -120,7 +120,7 @@ pub fn trees_have_the_value()
 
 // Numbers of forms
 
-/// The laws over numbers derive for each occurring form the trees that the laws over plain forms
+/// the rules over numbers derive for each occurring form the trees that the rules over plain forms
 /// give it.
 pub fn numbers_have_the_same_trees()
     ensures { (mode : Mode) (inputs : ℕ) (o : Listing) → IsListing o → HasSameTrees mode inputs o }

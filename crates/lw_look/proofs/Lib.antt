@@ -3,5 +3,5 @@ mod CellMatches
 mod Deciding
 mod Early
 mod NetDepths
-mod Networks
+pub mod Networks
 mod RightLists

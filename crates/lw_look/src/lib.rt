@@ -9,7 +9,7 @@
 //! their order. The area, each gate counted once, is at most that of the other cover.
 //!
 //! `listing` looks at the list, `depths`, `timing` and `areas` at the netlist, and `looking` takes
-//! them together. No command uses it yet.
+//! them together. `lw_area` calls `choose`.
 //!
 //! The words of this crate:
 //!
@@ -35,3 +35,4 @@ mod timing;
 pub use areas::area_of;
 pub use laws::{covers_are_match_netlists, mappings_arrive_by};
 pub use look::{Look, Looked};
+pub use timing::arrivals_of;

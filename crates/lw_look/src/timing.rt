@@ -28,8 +28,8 @@ fn are_early(outputs: &[Port], times: &[Micro], arrivals: &[Micro]) -> bool
     true
 }
 
-// When each net of a netlist arrives, in millionths, by its number.
-fn arrivals_of(
+/// When each net of a netlist arrives, in millionths, by its number.
+pub fn arrivals_of(
     alloc: Global,
     lib: &Library,
     starts: &Micros,

@@ -61,7 +61,7 @@ abbrev mutual
   greatest_depth no_covers = 0
   greatest_depth (cover k ks) = max (depth_of k) (greatest_depth ks)
 
--- Of all covers by tables of at most so many pins of trees that the laws derive for the form, the shallowest has this depth.
+-- Of all covers by tables of at most so many pins of trees that the rules derive for the form, the shallowest has this depth.
 pub record HasLeastDepth (mode : Mode) (width : ℕ) (signals : List Signal) (most : ℕ) (f : Form) (d : ℕ) : Type 0 where
   pub attained : (k : TableCover) × IsTableCover most k × HasTree mode width signals f (tree_of k) × (depth_of k ≡ d)
   pub least : (k : TableCover) → IsTableCover most k → HasTree mode width signals f (tree_of k) → d ≤ depth_of k

@@ -89,7 +89,7 @@ pub record IsTableNetwork (g : Graph) (most : ℕ) (depths : List (Option ℕ)) 
   pub each : (k : ℕ) (root : ClassId) (s : NetId) → slice_get ports.roots k ≡ Some root → slice_get net.outputs k ≡ Some s → IsRootAt g most depths net root.0 s
 
 -- Net s of the network of tables has the value of net r of the network under every assignment, and its depth is the least
--- depth of any cover by tables of any tree that the laws derive for net r.
+-- depth of any cover by tables of any tree that the rules derive for net r.
 pub record HasRoot (mode : Mode) (width : ℕ) (from : laws.Network) (most : ℕ) (net : NetworkParts) (r : ℕ) (s : NetId) : Type 0 where
   pub value : (x : ℕ → Bool) (values mapped : List Bool) → AreValues from x values → AreValues (plain net) x mapped → slice_get values r ≡ slice_get mapped s.0
   pub depth : (ds : List ℕ) → AreTableDepths net ds → (d : ℕ) × (slice_get ds s.0 ≡ Some d) × HasLeastDepth mode width (signals_of width from) most (sop_at (signals_of width from) r) d

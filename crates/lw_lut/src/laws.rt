@@ -31,7 +31,7 @@ ghost use Rattle.lw_pool.specs.Numbers.{numbers};
 use lw_laws::graphs::{graphs_have_the_trees, graphs_have_the_values, input_classes_differ};
 
 /// In the graph of a network's forms the depth of the class of a form is the least of any cover
-/// by tables of any tree that the laws derive for the form, and the class of each form that
+/// by tables of any tree that the rules derive for the form, and the class of each form that
 /// occurs has a depth.
 pub fn class_depths_are_form_depths()
     ensures least { (mode : Mode) (width : ℕ) (net : Network) (g : Graph) → 2 ≤ width →

@@ -27,12 +27,12 @@ label_same : (m : Option Mark) → option_map micros (option_map label_of m) ≡
 label_same None = refl
 label_same (Some m) = refl
 
-labels_same : (marks : List (Option Mark)) (c : ℕ) → option_map micros (slice_index_or (map (option_map label_of) marks) c None) ≡ labels_in (costs_of marks) c
+pub labels_same : (marks : List (Option Mark)) (c : ℕ) → option_map micros (slice_index_or (map (option_map label_of) marks) c None) ≡ labels_in (costs_of marks) c
 labels_same [] c = refl
 labels_same (m ∷ marks) zero = label_same m
 labels_same (m ∷ marks) (suc c) = labels_same marks c
 
-nets_same : (classes : List ClassId) → map (option_map class_number) (map Some classes) ≡ map Some (numbers classes)
+pub nets_same : (classes : List ClassId) → map (option_map class_number) (map Some classes) ≡ map Some (numbers classes)
 nets_same [] = refl
 nets_same (c ∷ classes) = ap (λ (ns : List (Option ℕ)). Some c.0 ∷ ns) (nets_same classes)
 

@@ -107,6 +107,7 @@ module _ (net : NetworkParts) (starts : List Micro) (c : Choices) (ports : Ports
       labels = refl;
       gates = refl;
       one_each = least.one_each;
+      least = own_least;
       steps = subst (λ ps. AreStepsBy labeller c.graph ps (labels_in (costs_of marks)) steps) pats_are read;
     }
 

@@ -13,7 +13,7 @@ pub mod CertificateOnce
 mod Roots
 mod ChoiceLemmas
 mod GateCount
-mod Composed
+pub mod Composed
 pub mod Leaves
 mod Traded
 mod AnyTime

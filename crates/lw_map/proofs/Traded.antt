@@ -79,7 +79,7 @@ module _ (net : NetworkParts) (starts : List Micro) (c : Choices) (cells : List 
     in_nets : (o : ℕ) → o < length net.names → o < net.inputs + length (map network.plain_node net.nodes)
     in_nets o lt = let n = kept.named in let m = length-map net.nodes network.plain_node in omega arith
 
-    -- the trees of an output's class are those that the laws derive for it
+    -- the trees of an output's class are those that the rules derive for it
     pub tree_from : (o : ℕ) (t : Tree) → o < length net.names → Unfolds c.graph t (class_of_net o) → HasTree own.mode own.width (signals_of own.width (network.plain net)) (sop_at (signals_of own.width (network.plain net)) o) t
     tree_from o t lt = (graph_trees own.mode own.width (network.plain net) c.graph are.wide.least are.graph (sop_at (signals_of own.width (network.plain net)) o) t (sop_occurs own.width are.wide.least (network.plain net) o (in_nets o lt))).0
 

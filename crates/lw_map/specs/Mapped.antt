@@ -21,7 +21,7 @@ use Rattle.lw_netlist.specs.Plain.{mapped_ports}
 
 -- Ports.
 
--- The netlist is the one that the network is mapped to: of all covers of all trees that the laws derive for an output, it has one of the
+-- The netlist is the one that the network is mapped to: of all covers of all trees that the rules derive for an output, it has one of the
 -- least time from the starts of the inputs on.
 pub record IsMappedNetlist (options : Options) (cells : List CellParts) (net : NetworkParts) (starts : List Micro) (n : NetlistParts) : Type 0 where
   pub kept : IsNetlist n
@@ -51,7 +51,7 @@ HasTooManySplits options net = (base_count options net ≤ most_bases) × (most_
 
 -- Outputs without a cover.
 
--- no cover by the library's cells is of a tree that the laws derive for the output
+-- no cover by the library's cells is of a tree that the rules derive for the output
 abbrev pub IsUncovered : Options → List CellParts → NetworkParts → List Micro → NetId → Type 0
 IsUncovered options cells net starts output = HasNoCover options.mode options.width (network.plain net) (library_patterns cells) (timing_of cells starts) output.0
 

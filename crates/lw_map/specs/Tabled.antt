@@ -50,7 +50,7 @@ pub record HasReadableNames (net : NetworkParts) (frame : Frame) : Type 0 where
 
 -- The text is read as BLIF, with the limit on the number of signals left out: its lines say this frame, inputs that start at 0, and a network
 -- with the names of the network's model, inputs and outputs, in which no node has more than so many fan-ins, and each output has the network's
--- value under every assignment and is as deep, wires not counted, as the shallowest cover by tables of any tree that the laws derive for it.
+-- value under every assignment and is as deep, wires not counted, as the shallowest cover by tables of any tree that the rules derive for it.
 pub record IsTablesTextOf (options : Options) (most : ℕ) (net : NetworkParts) (frame : Frame) (text : List ℕ) : Type 0 where
   pub draft : Draft
   pub tables : NetworkParts

@@ -36,7 +36,7 @@ use Rattle.lw_map.specs.Mapped.{IsWithinLimits}
 use Rattle.lw_net.specs.Ports.{ports_of}
 use Rattle.lw_netlist.specs.Plain.{mapped_ports}
 
--- the cover is one by the library's cells of a tree that the laws derive for the net's sum of products
+-- the cover is one by the library's cells of a tree that the rules derive for the net's sum of products
 pub record IsCoverOf (options : Options) (cells : List CellParts) (net : NetworkParts) (s : ℕ) (k : Cover) : Type 0 where
   pub is_cover : IsCover (map length (delays_of_cells cells)) (library_patterns cells) k
   pub has_tree : HasTree options.mode options.width (signals_of options.width (plain net)) (sop_at (signals_of options.width (plain net)) s) (tree_of k)
@@ -60,7 +60,7 @@ pub record HasLeastArea (options : Options) (cells : List CellParts) (net : Netw
   pub least : (other : Cover) → IsCoverOf options cells net s other → IsInTime deadline earliest (time_of (timing_of cells starts) other) → area ≤ cost_of (area_cost cells) other
 
 -- A netlist of the library's cells with the network's model, inputs and outputs by name. It computes each output for all values of the inputs,
--- and each output has the least area of all covers of all trees that the laws derive for it, of those that are in time. Its gates stand by
+-- and each output has the least area of all covers of all trees that the rules derive for it, of those that are in time. Its gates stand by
 -- depth. The names of its nets differ, and an output's net owns its name, where the names of the network's nets, inputs and outputs differ, as those
 -- of each network do that is read.
 pub record IsTradedNetlist (options : Options) (cells : List CellParts) (net : NetworkParts) (starts : List Micro) (deadline : Option Micro) (n : NetlistParts) : Type 0 where

@@ -70,7 +70,7 @@ SaysModel name files model = (bytes : List ℕ) × (files name ≡ Some bytes) �
 -- The text is the mapped text of a netlist, with the network's model name, the latches of the model and the starts of its inputs, and with a
 -- certificate where one is asked for. The inputs of the network are the model's and then the outputs of the latches; its outputs
 -- are the roots: those of the model and then what the latches read. The netlist is of the library's cells, computes each root for all
--- values of the inputs, and brings it, counted from the starts, at the least time of any cover of any tree that the laws derive for it.
+-- values of the inputs, and brings it, counted from the starts, at the least time of any cover of any tree that the rules derive for it.
 -- The names of its nets differ.
 pub record IsMappingText (words : List (List ℕ)) (files : Files) (text : List ℕ) : Type 0 where
   pub asks : AsksForMapping words
@@ -88,7 +88,7 @@ pub record IsMappingText (words : List (List ℕ)) (files : Files) (text : List 
   pub mapping_is : IsMapping asks.options.mode asks.options.width (plain_network model.network) (ports_of model.network) (library_patterns cells) (timing_of cells model.starts) (truth_of_cells cells) (plain_netlist netlist) (mapped_ports netlist)
   pub names : AreNetNames (plain_netlist netlist) netlist.names (mapped_ports netlist)
 
--- The first root of the network that no cover of any tree that the laws derive for it has.
+-- The first root of the network that no cover of any tree that the rules derive for it has.
 pub record LacksOutput (words : List (List ℕ)) (files : Files) (name : List ℕ) : Type 0 where
   pub asks : AsksForMapping words
   pub cells : List CellParts
@@ -99,7 +99,7 @@ pub record LacksOutput (words : List (List ℕ)) (files : Files) (name : List �
 
 -- The words ask for a check of a mapped netlist, whoever wrote it, and it is a mapping of the network: it has its frame, its inputs and
 -- its roots, computes each root for all values of the inputs, and brings it, counted from the network's starts, at the least time of any
--- cover of any tree that the laws derive for it.
+-- cover of any tree that the rules derive for it.
 pub record IsCheckedMapping (words : List (List ℕ)) (files : Files) : Type 0 where
   pub options : Options
   pub cells : List CellParts

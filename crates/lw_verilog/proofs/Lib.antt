@@ -3,6 +3,7 @@ pub mod Behind
 pub mod Chains
 pub mod Derived
 pub mod Drafts
+pub mod Faulted
 pub mod Finding
 pub mod HeaderMoves
 pub mod ItemMoves
@@ -22,5 +23,6 @@ pub mod ReadRuns
 pub mod Runs
 pub mod Spellings
 pub mod Stepping
+pub mod Stuck
 pub mod Unbroken
 pub mod Writables

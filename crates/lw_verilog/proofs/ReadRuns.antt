@@ -52,7 +52,7 @@ RunsOn p ts q = (k : ℕ) × Runs p (take k (kinds_of ts)) q
 same-place : (r s : Reading) → ◌≡◌ {A = Result Reading FaultAt} (Ok r) (Ok s) → r.place ≡ s.place
 same-place r s e = let same : r ≡ s = cc in ap (λ (x : Reading). x.place) same
 
-none-moved : (cells : List CellParts) (r : Reading) (k : Kind) (name : List ℕ) (o : Option Move) → move_at r.place k ≡ o → token_fault cells r k name ≡ None → (m : Move) × (o ≡ Some m)
+pub none-moved : (cells : List CellParts) (r : Reading) (k : Kind) (name : List ℕ) (o : Option Move) → move_at r.place k ≡ o → token_fault cells r k name ≡ None → (m : Move) × (o ≡ Some m)
 none-moved cells r k name o e none = by_strange (is_strange k) (ap (λ x. cond (is_strange k) (Some broken.BadByte) (move_fault cells r name x)) (sym e) ∙ none)
   where
     by_strange : (b : Bool) → cond b (Some broken.BadByte) (move_fault cells r name o) ≡ None → (m : Move) × (o ≡ Some m)

@@ -1,4 +1,5 @@
 pub mod Chains
+pub mod Faults
 pub mod Grammar
 pub mod Keeping
 pub mod Named

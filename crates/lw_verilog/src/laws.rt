@@ -5,8 +5,9 @@ ghost use Rattle.lw_netlist.specs.Netlists.{NetlistParts};
 ghost use Rattle.lw_verilog.specs.declared.fault.VerilogFault.{VerilogFault};
 ghost use Rattle.lw_verilog.specs.declared.fault.VerilogFault.TheVariants.{Memory};
 ghost use Rattle.lw_verilog.specs.declared.kind.Kind.{Kind};
+ghost use Rattle.lw_verilog.specs.Faults.{IsFaultAt, ReadsOrBreaks};
 ghost use Rattle.lw_verilog.specs.Phrases.{Accepts, Derives, file, kinds_of};
-ghost use Rattle.lw_verilog.specs.Readings.{Reading, is_done, nothing_read, read};
+ghost use Rattle.lw_verilog.specs.Readings.{FaultAt, Reading, is_done, nothing_read, read};
 ghost use Rattle.lw_verilog.specs.Texts.{verilog_text};
 ghost use Rattle.lw_verilog.specs.Tokens.{tokens};
 ghost use Rattle.lw_verilog.specs.Verdicts.{AreSame, IsRead};
@@ -39,4 +40,20 @@ pub fn read_tokens_are_derived()
     ensures { (cells : List CellParts) (text : List ℕ) (r : Reading) →
         read cells nothing_read (tokens text) ≡ Ok r → is_done r.place ≡ true →
         (k : ℕ) × Derives file (take k (kinds_of (tokens text))) }
+{}
+
+/// What begins with tokens that the grammar derives is read to the end of its module, or one of
+/// these tokens breaks a further rule.
+pub fn derived_tokens_are_read()
+    ensures { (cells : List CellParts) (text : List ℕ) (count : ℕ) →
+        Derives file (take count (kinds_of (tokens text))) →
+        ReadsOrBreaks cells (tokens text) count (read cells nothing_read (tokens text)) }
+{}
+
+/// A fault is that of a token before which some text of the grammar goes on. `Expected` is told
+/// exactly if none goes on with the token, and a further rule only if some text does.
+pub fn faults_have_their_tokens()
+    ensures { (cells : List CellParts) (text : List ℕ) (fault : FaultAt) →
+        read cells nothing_read (tokens text) ≡ Err fault →
+        (n : ℕ) × IsFaultAt cells (tokens text) fault n }
 {}

@@ -37,7 +37,8 @@ pub use contents::Contents;
 pub use fault::{Refusal, VerilogFault, VerilogKind};
 pub use kind::{Kind, Piece};
 pub use laws::{
-    read_tokens_are_derived, table_is_grammar, texts_have_one_meaning, written_texts_read_back,
+    derived_tokens_are_read, faults_have_their_tokens, read_tokens_are_derived, table_is_grammar,
+    texts_have_one_meaning, written_texts_read_back,
 };
 pub use place::{Move, Place, Task};
 pub use reader::read_verilog;
