@@ -1,0 +1,10 @@
+mod Options
+mod Steps
+mod Serving
+mod Endings
+mod Fastest
+mod First
+mod Passed
+mod Looking
+mod Certificates
+mod Cases
