@@ -8,3 +8,6 @@ mod Passed
 mod Looking
 mod Certificates
 mod Cases
+mod Smaller
+mod Made
+mod Complete
