@@ -48,6 +48,7 @@ module _ {O : Type 0} (told : Option (List File)) (before now : ℕ) (taken : O 
   unread_has (Refused (Network fault.Unread)) (inr found, same) e line two quiet =
       let are : found.0 ≡ files = cc in
       refused (Network fault.Unread) (subst (λ fs. IsTaskAnswer task (bytes_of fs) (Err (Network fault.Unread))) are found.2) e line
+  unread_has (Refused (Unmapped map_fault.Memory)) m e line two quiet = absurd (omega (arith, e, two))
   unread_has (Refused other) m e line two quiet = absurd (omega (arith, e, two))
 
   unwritten : (e : Ending) → Met e → status ≡ ending_status e → status ≡ 7 → Rose (faults old) (faults new)
@@ -55,6 +56,7 @@ module _ {O : Type 0} (told : Option (List File)) (before now : ℕ) (taken : O 
   unwritten WriteFault m e seven = m.2.cause
   unwritten (Refused (Library fault.Unread)) m e seven = absurd (omega (arith, e, seven))
   unwritten (Refused (Network fault.Unread)) m e seven = absurd (omega (arith, e, seven))
+  unwritten (Refused (Unmapped map_fault.Memory)) m e seven = absurd (omega (arith, e, seven))
   unwritten (Refused other) m e seven = absurd (omega (arith, e, seven))
 
   memory : (e : Ending) → status ≡ ending_status e → said (ending_line (mapping task) e) → status ≡ 8 → said (refusal_line task (Unmapped map_fault.Memory))
