@@ -8,3 +8,8 @@ mod Passed
 mod Looking
 mod Certificates
 mod Cases
+mod Nodes
+mod Attaining
+mod CertifiedWords
+mod Checkable
+mod Accepted

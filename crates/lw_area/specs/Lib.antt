@@ -8,3 +8,4 @@ pub mod Cases
 pub mod Answers
 pub mod Outcomes
 pub mod Promises
+pub mod Checked
