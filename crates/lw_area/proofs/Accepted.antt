@@ -1,10 +1,12 @@
 -- What was written with its certificate is accepted by a check over the same library and network.
-use Rattle.std.proofs.Common.{ℕ, ◌≤◌, ◌≡◌, inl, true, Bool, List, length, Option, Some, None, Ok, refl, ap, ◌∙◌, subst}
+use Rattle.std.proofs.Common.{ℕ, ◌≤◌, ◌≡◌, inl, inr, true, Bool, List, length, Option, Some, None, Ok, refl, ap, ◌∙◌, subst}
 use Rattle.lw_mapped.specs.declared.certificate.Certificate.{Certificate}
 use Rattle.lw_mapped.specs.Alike.{AreSameMapped}
 use Rattle.lw_mapped.specs.Readable.{read_of}
 use Rattle.lw_mapped.specs.Texts.{mapped_text}
 use Rattle.lw_mapped.proofs.ReadBack.{reads-back}
+use Rattle.lw_blif.specs.declared.parsed.Parsed.{Parsed}
+use Rattle.lw_files.specs.Sources.{ReadsModel, text_of, within_limit}
 use Rattle.lw_files.specs.Steps.{Files}
 use Rattle.lw_files.proofs.Kept.{cells_kept, model_kept}
 use Rattle.lw_top.specs.Answers.{IsAnswer, IsCheckAnswer, asked_for}
@@ -12,7 +14,7 @@ use Rattle.lw_top.specs.Checks.{yes_text}
 use Rattle.lw_top.specs.Words.{checking}
 use Rattle.lw_top.proofs.Asked.{names_read}
 use Rattle.lw_top.proofs.InRange.{command_in_range}
-use Rattle.lw_answers.proofs.Accepted.{library_again, network_again, text_there}
+use Rattle.lw_answers.proofs.Accepted.{library_again, text_there}
 use Rattle.lw_area.specs.Checked.{IsCheckOf}
 use Rattle.lw_area.specs.Promises.{IsRecoveryOf}
 use Rattle.lw_area.specs.Recovered.{IsAskedFor}
@@ -20,6 +22,12 @@ use Rattle.lw_area.specs.Words.{Task}
 use Rattle.lw_area.proofs.CertifiedWords.{certified_each}
 use Rattle.lw_area.proofs.Checkable.{accepted, readable}
 use Rattle.lw_area.proofs.Fastest.{fastest_mapping}
+
+-- the network is read again where its text stands
+network_again : (name other : List ℕ) (files others : Files) (model : Parsed) → others other ≡ files name → ReadsModel name files (Ok model) → ReadsModel other others (Ok model)
+unfolding text_of
+network_again name other files others model same (inl (bytes, text, has)) = inl (bytes, ap within_limit same ∙ text, has)
+network_again name other files others model same (inr (e, refused, is)) = cc
 
 pub written_accepted : (words checks : List (List ℕ)) (task : Task) (files others : Files) (text : List ℕ) → IsCheckOf words task files text checks others → IsRecoveryOf task files text → IsAnswer checks others (Ok yes_text)
 written_accepted words checks task files others text c r =

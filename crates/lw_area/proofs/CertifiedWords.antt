@@ -42,12 +42,12 @@ module _ (task : Task) (certified : task.settings.certified ≡ true) where
       by_count zero e = task_each s [] e
       by_count (suc n) e = task_each s [] e
   options_each zero s (word ∷ words) e = task_each s (word ∷ words) e
-  options_each (suc n) s (word ∷ words) e = by_word (is_file_word word) (option_of s word words) e
+  options_each (suc n) s (word ∷ words) e = by_word (is_file_word word) (option_of s word words) (λ begun f. options_each n begun.settings begun.rest f) e
     where
-      by_word : (t : Bool) (next : Result Begun WrongWord) → ◌≡◌ {A = Result Task WrongWord} (if t then task_of s (word ∷ words) else then_options (options_of n) next) (Ok task) → task.settings.deadline ≡ Each
-      by_word true next e = task_each s (word ∷ words) e
-      by_word false (Ok begun) e = options_each n begun.settings begun.rest e
-      by_word false (Err wrong) e = cc
+      by_word : (t : Bool) (next : Result Begun WrongWord) → ((begun : Begun) → options_of n begun.settings begun.rest ≡ Ok task → task.settings.deadline ≡ Each) → ◌≡◌ {A = Result Task WrongWord} (if t then task_of s (word ∷ words) else then_options (options_of n) next) (Ok task) → task.settings.deadline ≡ Each
+      by_word true next rest e = task_each s (word ∷ words) e
+      by_word false (Ok begun) rest e = rest begun e
+      by_word false (Err wrong) rest e = cc
 
   asked_each : (r : Result Task WrongWord) → ◌≡◌ {A = Result Asked WrongWord} (mapping_of r) (Ok (mapping task)) → r ≡ Ok task
   asked_each (Ok other) e = let same : other ≡ task = cc in ap Ok same
