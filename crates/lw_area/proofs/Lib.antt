@@ -11,3 +11,9 @@ mod Cases
 mod Smaller
 mod Made
 mod Complete
+mod Uncovered
+mod Nodes
+mod Attaining
+mod CertifiedWords
+mod Checkable
+mod Accepted

@@ -9,3 +9,4 @@ pub mod Answers
 pub mod Outcomes
 pub mod Promises
 pub mod Complete
+pub mod Checked

@@ -1,6 +1,8 @@
 // A smaller cover of a network that is mapped.
 ghost use Rattle.std.specs.Prelude.{◌≡◌, ◌≢◌, ◌<◌, All, IfOk, None, length, map};
+ghost use Rattle.lw_pool.specs.declared.id.NetId.{NetId};
 ghost use Rattle.lw_pattern.specs.Libraries.{library_patterns};
+ghost use Rattle.lw_map.specs.Choices.{root_of};
 ghost use Rattle.lw_area.specs.Cases.{AreFirstTimes, IsCase, IsChosen, IsFirst, time_at};
 
 use crate::deadlines::deadlines_of;
@@ -19,6 +21,7 @@ use lw_map::{Choices, ports};
 use lw_net::Network;
 use lw_netlist::Port;
 use lw_pattern::{Patterns, patterns};
+use lw_pool::{ClassId, NetId};
 use lw_recover::{Effort, Gate, Nodes, Root, recover};
 use std::alloc::{AllocError, Global};
 
@@ -51,20 +54,47 @@ fn chosen_of(gate: &Gate) -> Chosen {
     }
 }
 
+// The class of a net's sum of products.
+fn class_at(forms: &Forms, graph: &Graph, net: NetId) -> ClassId
+    requires known { net.0 < length forms.now.sops }
+    requires bases { length graph.now.forms ≡ length forms.now.bases }
+    ensures { result.0 ≡ root_of forms.now graph.now net }
+{
+    let _ = forms.nets();
+    graph.class_of(forms.sop(net))
+}
+
+// Appends the classes of nets.
+fn put_classes(
+    classes: &mut Vec<ClassId>,
+    forms: &Forms,
+    graph: &Graph,
+    nets: &[NetId],
+) -> Result<(), AllocError>
+    requires known { All (λ (net : NetId). net.0 < length forms.now.sops) nets.now }
+    requires bases { length graph.now.forms ≡ length forms.now.bases }
+{
+    for net in nets {
+        classes.push(class_at(forms, graph, *net))?;
+    }
+    Ok(())
+}
+
 // The classes of a network's nodes, and of their fan-ins.
 fn nodes_of(
     alloc: Global,
     net: &Network,
     forms: &Forms,
     graph: &Graph,
-) -> Result<Nodes, AllocError> {
+) -> Result<Nodes, AllocError>
+    requires sops { length forms.now.sops ≡ length net.now.names }
+    requires bases { length graph.now.forms ≡ length forms.now.bases }
+{
     let (mut classes, mut fanins) = (Vec::new(alloc), Vec::new(alloc));
     let mut ends = Vec::new(alloc);
     for node in net.nodes() {
-        classes.push(graph.class_of(forms.sop(node.out)))?;
-        for fanin in node.fanins.as_slice() {
-            fanins.push(graph.class_of(forms.sop(*fanin)))?;
-        }
+        classes.push(class_at(forms, graph, node.out))?;
+        put_classes(&mut fanins, forms, graph, node.fanins.as_slice())?;
         ends.push(fanins.len())?;
     }
     Ok(Nodes {
@@ -88,7 +118,9 @@ fn times_at(alloc: Global, outputs: &[Port], arrivals: &[Micro]) -> Result<Vec<M
 
 impl Case<'_> {
     // The networks whose own gates may be a cover: none where these are not tried.
-    fn networks(&self, effort: Effort) -> Result<Vec<Nodes>, AllocError> {
+    fn networks(&self, effort: Effort) -> Result<Vec<Nodes>, AllocError>
+        requires { IsCase self.now }
+    {
         let mut networks = Vec::new(self.alloc);
         if effort != Effort::Chance {
             return Ok(networks);
@@ -138,7 +170,9 @@ impl Case<'_> {
         pats: &Patterns,
         attained: &[Option<Match>],
         times: &[Micro],
-    ) -> Result<Vec<Chosen>, AllocError> {
+    ) -> Result<Vec<Chosen>, AllocError>
+        requires { IsCase self.now }
+    {
         let (graph, marks) = (&self.choices.graph, self.labels.marks());
         let roots = self.roots(times)?;
         let networks = self.networks(effort)?;
