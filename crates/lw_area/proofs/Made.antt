@@ -1,5 +1,5 @@
 -- The case of a mapping in hand, and why there is none.
-use Rattle.std.proofs.Common.{◌≡◌, ◌≤◌, ℕ, length, subst, sym, arith}
+use Rattle.std.proofs.Common.{◌≡◌, ◌≤◌, length, subst, sym, arith}
 use Rattle.lw_fixed.specs.declared.micro.Micro.{Micro}
 use Rattle.std.specs.Prelude.{List}
 use Rattle.lw_pool.specs.Numbers.{numbers}
@@ -11,7 +11,6 @@ use Rattle.lw_extract.specs.declared.ports.Cover.{Cover}
 use Rattle.lw_map.specs.declared.choices.Choices.{Choices}
 use Rattle.lw_map.specs.declared.fault.MapFault.{MapFault}
 use Rattle.lw_map.specs.declared.fault.MapFault.TheVariants.{Forms, Splits, NoCover, Points, Memory}
-use Rattle.lw_map.specs.Choices.{AreChoicesOf}
 use Rattle.lw_map.specs.Faults.{IsChoiceFault, IsCoverFault, IsMapFault}
 use Rattle.lw_map.specs.Mapped.{IsMappedNetlist, LacksCover}
 use Rattle.lw_map.specs.Options.{Options, plain_options}

@@ -1,13 +1,13 @@
-use Rattle.std.proofs.Common.{◌≡◌, ◌∙◌, Result, Ok, Err, refl, sym, subst}
+use Rattle.std.proofs.Common.{◌∙◌, refl, sym, subst}
 use Rattle.std.specs.Prelude.{IsErr}
 use Rattle.std.proofs.lemmas.Bool.{false≢true}
 use Rattle.lw_top.specs.Telling.{Told}
 use Rattle.lw_top.proofs.Prefix.{told}
 use Rattle.lw_area.specs.Outcomes.{IsTold, ending_line}
 use Rattle.lw_area.specs.Plain.{plain_asked, plain_wrong}
-use Rattle.lw_area.specs.Words.{Asked, WrongWord, mapping}
+use Rattle.lw_area.specs.Words.{Asked}
 use Rattle.lw_area.proofs.Complete.{complete}
-use Rattle.lw_area.proofs.Endings.{done, no_cover, not_words, same_asked}
+use Rattle.lw_area.proofs.Endings.{done, no_cover, not_asked, not_words, same_asked}
 use Rattle.lw_area.proofs.Fastest.{fastest}
 use Rattle.lw_area.proofs.top.run.Goals as goal
 
@@ -39,9 +39,7 @@ returns-clause-no_cover g c = λ files task known asks six.
     no_cover (g.F.Shelf.files c.args.shelf.now) (g.F.Shelf.faults c.args.shelf.now) (g.F.Shelf.faults c.serve-ending.new.shelf) g.O.Sink.taken g.O.Sink.is_finished g.O.Sink.faults c.args.out.now c.serve-ending.new.out task files known (Told g.E.Sink.taken g.E.Sink.faults c.args.err.now c.tell_ending.new.err) c.serve-ending.result (rw same at c.serve-ending.ensures.meets) (sym six ∙ c.status.ensures) (subst (λ (a : Asked). Told g.E.Sink.taken g.E.Sink.faults c.args.err.now c.tell_ending.new.err (ending_line a c.serve-ending.result)) same line)
 
 pub returns-in-Err-clause-complete : goal.returns-in-Err-clause-complete
-returns-in-Err-clause-complete g c = λ files task known asks.
-    let no : ◌≡◌ {A = Result Asked WrongWord} (Err (plain_wrong c.in-Err.wrong)) (Ok (mapping task)) = c.in-Err.ensures ∙ asks in
-    absurd (cc)
+returns-in-Err-clause-complete g c = λ files task known asks. absurd (not_asked (plain_wrong c.in-Err.wrong) task (c.in-Err.ensures ∙ asks))
 
 pub returns-clause-complete : goal.returns-clause-complete
 returns-clause-complete g c = λ files task known asks.

@@ -1,4 +1,4 @@
-use Rattle.std.proofs.Common.{[], ◌≡◌, ◌∙◌, refl, ap, sym}
+use Rattle.std.proofs.Common.{[], ◌∙◌, refl, ap, sym}
 use Rattle.lw_label.proofs.CellLaws.{patterns_of_cells}
 use Rattle.lw_map.specs.Options.{plain_options}
 use Rattle.lw_map.proofs.Composed.{ports_fit}
@@ -33,7 +33,7 @@ returns c =
     let case = c.requires.case in
     let f = c.requires.first in
     let given = look_gives (plain_settings k.settings) k.model.now.network _ (case_wide k case) case.network (case_early k case) case.library (case_within k case).forms c.args.first f.mapped f.graph f.gates f.over c.in_ok-least.field-0.items c.in_ok-least.ensures
-        (of_network (plain_options k.settings.options) k.model.now.network _ k.choices.now case.network case.chosen c.in_ok-ports.ensures case.options refl)
-        c.in_ok-pats.ensures.list c.in_ok-ports.ensures.model (c.deref-3.ensures.value ∙ (c.in_ok-times.ensures ∙ ap (deadlines_of k.settings.deadline) c.deref.ensures.value)) c.requires.tried
-        _ c.in_ok-cover.field-0.refused c.in_ok-cover.field-0.cover c.gates.ensures.kept c.in_ok-cover.ensures in
+    (of_network (plain_options k.settings.options) k.model.now.network _ k.choices.now case.network case.chosen c.in_ok-ports.ensures case.options refl)
+    c.in_ok-pats.ensures.list c.in_ok-ports.ensures.model (c.deref-3.ensures.value ∙ (c.in_ok-times.ensures ∙ ap (deadlines_of k.settings.deadline) c.deref.ensures.value)) c.requires.tried
+    _ c.in_ok-cover.field-0.refused c.in_ok-cover.field-0.cover c.gates.ensures.kept c.in_ok-cover.ensures in
     record { recovered = given.0; graph = given.1; gates = given.2; over = given.3 }
