@@ -1,5 +1,5 @@
 -- What is asked for, without where its words lie in memory.
-use Rattle.std.specs.Prelude.{ℕ, List, map, string_bytes, Option, Result, Ok, Err}
+use Rattle.std.specs.Prelude.{map, string_bytes, Result, Ok, Err}
 use Rattle.lw_map.specs.Options.{plain_options}
 use Rattle.lw_area.specs.declared.words.Settings as code_settings
 use Rattle.lw_area.specs.declared.words.Task as code_task

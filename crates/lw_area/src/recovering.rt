@@ -81,12 +81,7 @@ fn put_classes(
 }
 
 // The classes of a network's nodes, and of their fan-ins.
-fn nodes_of(
-    alloc: Global,
-    net: &Network,
-    forms: &Forms,
-    graph: &Graph,
-) -> Result<Nodes, AllocError>
+fn nodes_of(alloc: Global, net: &Network, forms: &Forms, graph: &Graph) -> Result<Nodes, AllocError>
     requires sops { length forms.now.sops ≡ length net.now.names }
     requires bases { length graph.now.forms ≡ length forms.now.bases }
 {

@@ -1,4 +1,4 @@
-use Rattle.std.proofs.Common.{◌<◌, length, arith}
+use Rattle.std.proofs.Common.{arith}
 use Rattle.lw_area.proofs.Nodes.{root_at, sop_listed_at}
 use Rattle.lw_area.proofs.recovering.class_at.Goals as goal
 
