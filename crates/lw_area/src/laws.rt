@@ -1,4 +1,4 @@
-//! Theorems: functions with empty bodies, whose clauses are the theorems.
+//! A theorem: a function with an empty body, whose clause is the theorem.
 ghost use Rattle.std.specs.Prelude.{ℕ, List, Ok};
 ghost use Rattle.lw_files.specs.Steps.{Files};
 ghost use Rattle.lw_top.specs.Answers.{IsAnswer};
