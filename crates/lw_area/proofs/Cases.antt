@@ -1,20 +1,17 @@
 -- The netlist of a case, with its certificate.
-use Rattle.std.proofs.Common.{◌≡◌, ◌≤◌, ◌∙◌, ℕ, Bool, true, false, All, List, [], ◌∷◌, map, Option, Some, None, length, slice_index_or, refl, ap, sym, subst}
+use Rattle.std.proofs.Common.{◌≡◌, ◌∙◌, ℕ, Bool, true, false, All, List, [], ◌∷◌, map, Option, Some, None, length, slice_index_or, refl, ap, subst}
 use Rattle.lw_fixed.specs.declared.micro.Micro.{Micro}
-use Rattle.lw_pool.specs.declared.id.ClassId.{ClassId}
-use Rattle.lw_laws.specs.Graphs.{Graph}
 use Rattle.lw_laws.specs.Headline.{Port as PlainPort}
 use Rattle.lw_laws.proofs.NetlistValues.{some_arrivals}
 use Rattle.lw_net.specs.Networks.{NetworkParts}
 use Rattle.lw_genlib.specs.Cells.{IsSmall}
 use Rattle.lw_genlib.specs.Tables.{millionths, timing_of}
-use Rattle.lw_form.specs.Limits.{most_bases}
 use Rattle.lw_netlist.specs.Plain as netlist
 use Rattle.lw_netlist.specs.Plain.{mapped_ports}
 use Rattle.lw_mapped.specs.declared.certificate.Certificate.{Certificate}
 use Rattle.lw_mapped.specs.Texts.{HasGateClasses}
 use Rattle.lw_extract.specs.declared.ports.Cover.{Cover}
-use Rattle.lw_map.specs.Mapped.{IsWithinLimits, base_count}
+use Rattle.lw_map.specs.Mapped.{IsWithinLimits}
 use Rattle.lw_map.specs.Options.{IsWide, Options, plain_options}
 use Rattle.lw_area.specs.declared.recovering.Case.{Case}
 use Rattle.lw_area.specs.Cases.{IsCase, IsCertificateFor, IsChosen, IsFirst}

@@ -1,17 +1,16 @@
 -- The certificate of a cover.
-use Rattle.std.proofs.Common.{◌≡◌, ◌∙◌, ℕ, Bool, true, false, List, length, map, Option, Some, None, option_map, slice_index_or, ap, sym, subst}
+use Rattle.std.proofs.Common.{◌≡◌, ◌∙◌, ℕ, true, List, length, map, Option, Some, None, option_map, slice_index_or, ap, sym, subst}
 use Rattle.std.proofs.lemmas.List.{length-map}
 use Rattle.lw_fixed.specs.declared.micro.Micro.{Micro}
 use Rattle.lw_pool.specs.declared.id.ClassId.{ClassId}
 use Rattle.lw_pool.specs.Numbers.{numbers}
 use Rattle.lw_laws.specs.Graphs.{Graph}
 use Rattle.lw_laws.specs.Matches.{IsLeastCover}
-use Rattle.lw_laws.specs.Rounds.{labels_in}
 use Rattle.lw_genlib.specs.Cells.{CellParts}
 use Rattle.lw_genlib.specs.Tables.{millionths}
 use Rattle.lw_pattern.specs.Libraries.{library_patterns}
 use Rattle.lw_cost.specs.declared.mark.Mark.{Mark}
-use Rattle.lw_cost.specs.Labels.{AreLeastMarks, costs_of}
+use Rattle.lw_cost.specs.Labels.{AreLeastMarks}
 use Rattle.lw_label.specs.Delays.{time_cost}
 use Rattle.lw_netlist.specs.Netlists.{NetlistParts}
 use Rattle.lw_netlist.specs.Plain.{plain_gate}

@@ -1,5 +1,5 @@
 -- What the ending of a run says of its status.
-use Rattle.std.proofs.Common.{◌≡◌, ℕ, Bool, List, Option, Some, Result, Ok, Err, refl, arith}
+use Rattle.std.proofs.Common.{◌≡◌, ℕ, Bool, List, Option, Some, Result, Ok, Err, arith}
 use Rattle.lw_io.specs.declared.file.File.{File}
 use Rattle.lw_io.specs.Files.{bytes_of}
 use Rattle.lw_files.specs.declared.fault.FileFault.{FileFault}
@@ -23,6 +23,10 @@ use Rattle.lw_area.specs.Words.{Asked, Task, WrongWord, mapping}
 -- words ask for one thing
 pub same_asked : (asked : Asked) (task : Task) → ◌≡◌ {A = Result Asked WrongWord} (Ok asked) (Ok (mapping task)) → asked ≡ mapping task
 same_asked asked task e = cc
+
+-- wrong words ask for nothing
+pub not_asked : (wrong : WrongWord) (task : Task) → ◌≡◌ {A = Result Asked WrongWord} (Err wrong) (Ok (mapping task)) → ⊥
+not_asked wrong task e = cc
 
 -- an answer that is a text
 pub recovery : (task : Task) (files : Files) (text : List ℕ) → IsTaskAnswer task files (Ok text) → IsRecoveryOf task files text

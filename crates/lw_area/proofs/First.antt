@@ -1,5 +1,5 @@
 -- The netlist that `map` writes, by the least times of its outputs.
-use Rattle.std.proofs.Common.{◌≡◌, ◌≤◌, ℕ, max, All, List, [], ◌∷◌, map, length, slice_index_or, refl, sym, subst, arith}
+use Rattle.std.proofs.Common.{◌≡◌, ◌≤◌, ℕ, All, List, [], ◌∷◌, map, slice_index_or, sym, subst, arith}
 use Rattle.std.specs.List.{AllZip}
 use Rattle.lw_fixed.specs.declared.micro.Micro.{Micro}
 use Rattle.lw_laws.specs.Covers.{Timing}

@@ -8,6 +8,10 @@ mod Passed
 mod Looking
 mod Certificates
 mod Cases
+mod Smaller
+mod Made
+mod Complete
+mod Uncovered
 mod Nodes
 mod Attaining
 mod CertifiedWords

@@ -1,5 +1,5 @@
 -- What the look gives for the settings of a case.
-use Rattle.std.proofs.Common.{◌≡◌, ◌≢◌, ◌≤◌, ◌∙◌, ℕ, Bool, true, false, All, List, map, length, None, slice_index_or, ap, sym, subst, arith}
+use Rattle.std.proofs.Common.{◌≡◌, ◌≢◌, ◌≤◌, ◌∙◌, ℕ, Bool, true, false, All, List, map, None, slice_index_or, ap, sym, subst, arith}
 use Rattle.std.proofs.lemmas.List.{length-take-le}
 use Rattle.lw_fixed.specs.declared.micro.Micro.{Micro}
 use Rattle.lw_pool.specs.Numbers.{numbers}
@@ -16,7 +16,7 @@ use Rattle.lw_genlib.specs.Cells.{IsLibrary, IsSmall}
 use Rattle.lw_genlib.specs.Tables.{millionths, timing_of}
 use Rattle.lw_form.specs.Limits.{most_bases}
 use Rattle.lw_pattern.specs.Libraries.{library_patterns}
-use Rattle.lw_netlist.specs.Netlists.{NetlistParts, IsNetlist}
+use Rattle.lw_netlist.specs.Netlists.{IsNetlist}
 use Rattle.lw_netlist.specs.Plain as netlist
 use Rattle.lw_netlist.specs.Plain.{IsOver, mapped_ports}
 use Rattle.lw_extract.specs.declared.choosing.Chosen.{Chosen}

@@ -1,5 +1,5 @@
 -- Options, one after another.
-use Rattle.std.proofs.Common.{◌≡◌, ◌<◌, ◌≤◌, ◌+◌, ◌-◌, ◌∙◌, ℕ, zero, suc, true, false, Bool, cond, List, [], ◌∷◌, length, get_or, take, drop, map, refl, ap, sym, subst, arith}
+use Rattle.std.proofs.Common.{◌≡◌, ◌<◌, ◌≤◌, ◌+◌, ◌-◌, ◌∙◌, ℕ, zero, suc, true, false, cond, List, [], ◌∷◌, length, get_or, take, drop, map, refl, ap, sym, subst, arith}
 use Rattle.std.proofs.lemmas.List.{take_all}
 use Rattle.lw_top.specs.Words.{is_file_word}
 use Rattle.lw_area.specs.Words.{Settings, option_of, options_of, task_of, then_options}

@@ -1,5 +1,5 @@
 -- What was written, and what it is a text of.
-use Rattle.std.proofs.Common.{◌≡◌, ℕ, Bool, List, length, map, Option, Result, Ok, Err, IfOk, refl, arith}
+use Rattle.std.proofs.Common.{ℕ, Bool, List, map, Option, Result, Ok, Err, IfOk, refl, arith}
 use Rattle.std.proofs.lemmas.List.{length-map, length-take-le}
 use Rattle.std.proofs.lemmas.Slice.Zip.{AllZip-long}
 use Rattle.lw_io.specs.declared.file.File.{File}

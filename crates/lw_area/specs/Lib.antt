@@ -8,4 +8,5 @@ pub mod Cases
 pub mod Answers
 pub mod Outcomes
 pub mod Promises
+pub mod Complete
 pub mod Checked

@@ -5,7 +5,7 @@
 //! netlist on the first stream, or a line on the second one. `words` says what is asked for,
 //! `deadlines` by when outputs have to arrive, `recovering` looks for a smaller cover, `mapping`
 //! makes the netlist, `refusal` lists why there is none, `telling` has the lines and the pages, and
-//! `top` takes them together. `laws` has a theorem. The definition to read is `IsRecovered` in
+//! `top` takes them together. `laws` has theorems. The definition to read is `IsRecovered` in
 //! `specs/Recovered.antt`. The program crate `lwarea` calls `run`.
 #![tactic(auto)]
 
@@ -19,5 +19,5 @@ mod telling;
 mod top;
 mod words;
 
-pub use laws::written_netlists_are_accepted;
+pub use laws::{uncovered_roots_are_refused, written_netlists_are_accepted};
 pub use top::run;

@@ -1,6 +1,7 @@
 // The top call.
 ghost use Rattle.std.specs.Prelude.{◌≡◌, ◌≤◌, ◌↔◌, ℕ, List, map, string_bytes, IsErr};
 ghost use Rattle.lw_io.specs.declared.file.File.{File};
+ghost use Rattle.lw_io.specs.Causes.{Rose};
 ghost use Rattle.lw_io.specs.Files.{bytes_of};
 ghost use Rattle.lw_files.specs.Reading.{Known};
 ghost use Rattle.lw_map.specs.declared.fault.MapFault.{MapFault};
@@ -8,6 +9,7 @@ ghost use Rattle.lw_top.specs.Outcome.{IsDone};
 ghost use Rattle.lw_top.specs.Telling.{Told};
 ghost use Rattle.lw_area.specs.declared.refusal.Refusal.{Refusal};
 ghost use Rattle.lw_area.specs.declared.words.Deadline.{Deadline};
+ghost use Rattle.lw_area.specs.Complete.{IsComplete};
 ghost use Rattle.lw_area.specs.Outcomes.{IsTold};
 ghost use Rattle.lw_area.specs.Promises.{AsksFor, IsFastestOf, IsRecoveryOf, LacksOutput};
 ghost use Rattle.lw_area.specs.Refusals.{refusal_line};
@@ -52,6 +54,13 @@ pub fn run<F: Shelf, O: Sink, E: Sink>(
         AsksFor (map string_bytes words.now) task → result ≡ 6 → ((name : List ℕ) ×
         LacksOutput task (bytes_of files) name × Told E.taken E.faults err.old err.new
         (refusal_line task (Refusal.Unmapped (MapFault.NoCover name)))) }
+
+    // Over known files, whatever failed, a status other than 2, 7 and 8 is that of an answer, and so
+    // is the line on `err`. Where nothing failed each status is, unless memory runs out.
+    ensures complete { (files : List File) (task : Task) → F.files shelf.old ≡ Some files →
+        AsksFor (map string_bytes words.now) task → IsComplete task (bytes_of files)
+        (Told E.taken E.faults err.old err.new) (Rose (F.faults shelf.old) (F.faults shelf.new))
+        (Rose (O.faults out.old) (O.faults out.new)) result }
 
     // Words of no form are reported as such, whatever the files.
     ensures words { (result ≡ 1) ↔ IsErr (asked_of (map string_bytes words.now)) }
