@@ -25,7 +25,7 @@ pub fn written_netlists_are_accepted()
 
 /// Where the network is within the limits and memory does not run out, the answer to a task is that
 /// there is no cover exactly where some root has none: no tree that the rules derive for it has a
-/// cover by the library's cells. So it is where a mapping is asked for.
+/// cover by the library's cells. The answer to `lwmap map` follows the same rule.
 pub fn uncovered_roots_are_refused()
     ensures { (task : Task) (files : Files) (cells : List CellParts) (model : Parsed)
         (a : Result (List ℕ) Refusal) → ReadsLibrary task.library files (Ok cells) →
