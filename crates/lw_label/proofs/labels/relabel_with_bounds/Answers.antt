@@ -10,7 +10,7 @@ pub mark_all-requires : goal.mark_all-requires
 mark_all-requires g c = record {
   cells = c.requires;
   unmarked = c.in_ok-room.ensures;
-  known = c.new-tops.ensures;
+  known = c.in_ok-tops.ensures;
 }
 
 pub returns-clause-least : goal.returns-clause-least
