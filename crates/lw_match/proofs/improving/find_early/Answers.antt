@@ -1,7 +1,7 @@
 use Rattle.std.proofs.Common.{Bool, Some, None, ap, sym, subst, ◌∙◌, rules}
 use Rattle.lw_match.specs.Cutting.{bound_past}
 use Rattle.lw_match.specs.Queries.{FindsLeast}
-use Rattle.lw_match.specs.Queries.{AreKnownFor, IsSureQuery}
+use Rattle.lw_match.specs.Queries.{IsSureQuery}
 use Rattle.lw_match.proofs.improving.find_early.Goals as goal
 
 pub is_known_least-is_least-requires-clause-asked : goal.is_known_least-is_least-requires-clause-asked
