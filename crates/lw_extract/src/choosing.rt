@@ -63,7 +63,7 @@ fn choose_down<C: Cost>(
 {
     let roots = job.ports.roots.as_slice();
     let mut needed = needed_by(alloc, roots, job.graph.classes() as usize)?;
-    let mut tops = Tops::new(job.pats, job.cost, bounds);
+    let mut tops = Tops::new(alloc, job.pats, job.cost, bounds)?;
     let mut chosen = Vec::new(alloc);
     for place in places.iter().rev() {
         let class = place.class;

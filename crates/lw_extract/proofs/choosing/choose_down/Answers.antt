@@ -15,7 +15,7 @@ pub loop-place-init : goal.loop-place-init
 loop-place-init g c = record {
   can_next = tt;
   is_finite = tt;
-  known = c.new-tops.ensures;
+  known = c.in_ok-tops.ensures;
   down =
       let needed = subst (λ (rs : List ClassId). AreRoots rs c.classes.result c.in_ok-needed.needed.items) c.as_slice-roots.ensures c.in_ok-needed.ensures in
       let roots = subst (λ n. AreRoots c.args.job.now.ports.now.roots n c.in_ok-needed.needed.items) c.classes.ensures.classes needed in
