@@ -40,4 +40,5 @@ pub record AreChains (classes : List ℕ) (befores heads : List (Option ℕ)) : 
   pub one_each : length befores ≡ length classes
   pub within : (i c : ℕ) → slice_get classes i ≡ Some c → c < length heads
   pub heads_are : (c : ℕ) (o : Option ℕ) → slice_get heads c ≡ Some o → IsLast classes c (length classes) o
-  pub before_is : (i c : ℕ) (o : Option ℕ) → slice_get classes i ≡ Some c → slice_get befores i ≡ Some o → IsLast classes c i o
+  pub before_is : (i c : ℕ) (o : Option ℕ) → slice_get classes i ≡ Some c → slice_get befores i ≡ Some o
+      → IsLast classes c i o

@@ -1,5 +1,6 @@
 // The pins of a match.
-ghost use Rattle.std.specs.Prelude.{◌≡◌, ◌<◌, ◌≤◌, ◌+◌, ◌++◌, [], ◌∷◌, ◌↔◌, List, length, take, IsTrue, Some, slice_get};
+ghost use Rattle.std.specs.Prelude.{◌≡◌, ◌<◌, ◌≤◌, ◌+◌, ◌++◌, [], ◌∷◌, ◌↔◌, List, length, take};
+ghost use Rattle.std.specs.Prelude.{IsTrue, Some, slice_get};
 
 use lw_pool::ClassId;
 use std::marker::Model;

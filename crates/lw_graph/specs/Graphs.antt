@@ -24,8 +24,8 @@ flat_graph one leaves forms ends pairs = plain_graph one leaves forms (rows_from
 abbrev pub IsBelow : ℕ → PlainPair → Type 0
 IsBelow n p = (p.x < n) × (p.y < n)
 
--- What each graph keeps: classes in pairs, with a rising row of pairs for each class and no pair in two of them, and all
--- numbers in range.
+-- What each graph keeps: classes in pairs, with a rising row of pairs for each class and no pair in two of them, and
+-- all numbers in range.
 pub record IsGraph (g : PlainGraph) : Type 0 where
   pub even : length g.pairs % 2 ≡ 0
   pub few : length g.pairs < 2 ^ 32

@@ -1,5 +1,6 @@
 -- Which classes hold pairs with a class, between two numbers.
-use Rattle.std.specs.Prelude.{ℕ, ◌*◌, ◌/◌, ◌<◌, ◌≤◌, ◌≡◌, List, All, Contains, Option, length, slice_index, slice_index_or}
+use Rattle.std.specs.Prelude.{ℕ, ◌*◌, ◌/◌, ◌<◌, ◌≤◌, ◌≡◌, List, All, Contains, Option, length, slice_index}
+use Rattle.std.specs.Prelude.{slice_index_or}
 use Rattle.lw_graph.specs.declared.pair.Pair.{Pair}
 use Rattle.lw_laws.specs.Graphs.{Graph, HoldsPair}
 use Rattle.lw_lut.specs.Searches.{IsBoundedAt, IsKnown, count_at}
@@ -59,7 +60,8 @@ IsOutside span place = (c : ℕ) → c / 2 ≡ place → IsIn span c → ⊥
 
 -- each class that has few enough leaves, and whose place is outside the span, is known
 abbrev pub AreKnownBut : ℕ → List ℕ → List (Option ℕ) → Span → Type 0
-AreKnownBut most counts depths span = (c : ℕ) → c / 2 < length counts → IsOutside span (c / 2) → count_at counts c ≤ most → IsKnown depths c
+AreKnownBut most counts depths span =
+    (c : ℕ) → c / 2 < length counts → IsOutside span (c / 2) → count_at counts c ≤ most → IsKnown depths c
 
 -- Counts have fallen at one place at most, and where they have, its span is within another.
 pub record FallsAt (reach : List Span) (old new : List ℕ) (place : ℕ) (span : Span) : Type 0 where

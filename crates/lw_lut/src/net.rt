@@ -27,9 +27,21 @@ impl Model for TableNet {
 
     ghost Value = { PlainTableNet };
 
-    ghost view = { λ n. record { ports = n.ports; inputs = n.inputs; tables = n.tables; names = n.names } };
+    ghost view = { λ n. record {
+      ports = n.ports;
+      inputs = n.inputs;
+      tables = n.tables;
+      names = n.names;
+    } };
 
-    ghost invariant = { λ n. IsPlaced (record { ports = n.ports; inputs = n.inputs; tables = n.tables; names = n.names }) n.places.items };
+    ghost invariant = { λ n. IsPlaced
+        (record {
+          ports = n.ports;
+          inputs = n.inputs;
+          tables = n.tables;
+          names = n.names;
+        })
+        n.places.items };
 }
 
 impl TableNet {

@@ -45,7 +45,8 @@ IsCoverFault cells net starts c other = ⊥
 -- The first output without a cover, or else too many points. Running out of memory needs no reason.
 abbrev pub IsTradeFault : List CellParts → NetworkParts → List Micro → Choices → Option Micro → MapFault → Type 0
 IsTradeFault cells net starts c deadline (NoCover name) = LacksCover (plain_options c.options) cells net starts name
-IsTradeFault cells net starts c (Some deadline) Points = HasTooManyPoints (plain_options c.options) cells net starts deadline
+IsTradeFault cells net starts c (Some deadline) Points =
+    HasTooManyPoints (plain_options c.options) cells net starts deadline
 IsTradeFault cells net starts c deadline Memory = ⊤
 IsTradeFault cells net starts c deadline other = ⊥
 

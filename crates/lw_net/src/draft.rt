@@ -1,4 +1,5 @@
-ghost use Rattle.std.specs.Prelude.{◌≡◌, ◌<◌, ◌++◌, [], ◌∷◌, ◌↔◌, length, map, IsTrue, MatchResult, Some, slice_get, All};
+ghost use Rattle.std.specs.Prelude.{◌≡◌, ◌<◌, ◌++◌, [], ◌∷◌, ◌↔◌, length, map, IsTrue, MatchResult};
+ghost use Rattle.std.specs.Prelude.{Some, slice_get, All};
 
 use crate::Cubes;
 use crate::naming::{differ, number, numbers, signals};

@@ -1,4 +1,5 @@
-ghost use Rattle.std.specs.Prelude.{◌≡◌, ◌+◌, ◌<◌, ◌++◌, [], ◌∷◌, ◌↔◌, List, ℕ, length, IsTrue, IfOk, MatchResult, Some, slice_get, All};
+ghost use Rattle.std.specs.Prelude.{◌≡◌, ◌+◌, ◌<◌, ◌++◌, [], ◌∷◌, ◌↔◌, List, ℕ, length, IsTrue};
+ghost use Rattle.std.specs.Prelude.{IfOk, MatchResult, Some, slice_get, All};
 ghost use Rattle.lw_net.specs.Signs.{IsSign};
 
 use lw_pool::{NetId, Nets};

@@ -32,7 +32,8 @@ impl Model for Signals {
 }
 
 impl Signals {
-    ghost use Rattle.std.specs.Prelude.{◌≡◌, ◌<◌, ◌++◌, [], ◌∷◌, length, not, is_some, IfOk, IfSome, OnErr, if◌then◌else◌};
+    ghost use Rattle.std.specs.Prelude.{◌≡◌, ◌<◌, ◌++◌, [], ◌∷◌, length, not, is_some, IfOk};
+    ghost use Rattle.std.specs.Prelude.{IfSome, OnErr, if◌then◌else◌};
     ghost use Rattle.std.specs.List.{IsDistinct};
     ghost use Rattle.std.specs.Str.{bytes_eq};
     ghost use Rattle.lw_dag.specs.Names.{is_among, number_in};

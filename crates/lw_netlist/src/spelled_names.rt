@@ -24,7 +24,8 @@ impl Model for SpelledNames {
 }
 
 impl SpelledNames {
-    ghost use Rattle.std.specs.Prelude.{◌≡◌, ◌<◌, ◌++◌, [], ◌∷◌, length, slice_get, OnOk, OnErr, Some};
+    ghost use Rattle.std.specs.Prelude.{◌≡◌, ◌<◌, ◌++◌, [], ◌∷◌, length, slice_get, OnOk, OnErr};
+    ghost use Rattle.std.specs.Prelude.{Some};
 
     /// No names. Growth takes memory from `alloc`.
     pub fn new(alloc: Global) -> Self
