@@ -14,7 +14,7 @@ use Rattle.lw_bounds.specs.Shapes.{HaveRootShapes, SideFits}
 abbrev pub AreCollected : Parts → Type 0
 AreCollected parts = AreParts parts.room parts.all.keys
 
--- the same parts, and others behind them, with room for as many
+-- no part is lost: others may stand behind them, and there is room for as many as before
 pub record AreMore (before after : Parts) : Type 0 where
   pub room : after.room ≡ before.room
   pub parts : AreCollected after

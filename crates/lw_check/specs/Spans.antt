@@ -24,6 +24,6 @@ pub record AreSpansOf (cells count : ℕ) (pats : List Pattern) (spans : List Sp
       → slice_get spans p.cell ≡ Some span → IsIn span j
   pub ends : (cell : ℕ) (span : Span) → slice_get spans cell ≡ Some span → span.end ≤ count
 
--- the same of all patterns
+-- a span for each cell, with the places of all patterns of the cell
 abbrev pub AreSpans : ℕ → List Pattern → List Span → Type 0
 AreSpans cells pats spans = AreSpansOf cells (length pats) pats spans

@@ -20,7 +20,7 @@ pub record CountsPlaces (links : ChainState) (n : ℕ) : Type 0 where
   pub len : n ≡ length links.classes
   pub within : (i c : ℕ) → slice_get links.classes i ≡ Some c → c < links.count
 
--- the same places, and one class more
+-- the places are as before, and there is one class more
 pub record HasOneClassMore (old new : ChainState) : Type 0 where
   pub classes : new.classes ≡ old.classes
   pub count : new.count ≡ old.count + 1

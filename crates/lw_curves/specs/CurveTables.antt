@@ -29,7 +29,7 @@ pub record IsRow (spots : List Spot) (c : ℕ) (row : List Point) : Type 0 where
   pub rising : (i j : ℕ) (p q : Point) → i < j → slice_get row i ≡ Some p → slice_get row j ≡ Some q
       → p.time.0 < q.time.0
 
--- the same with their choices
+-- the points of the class with their choices, by rising time
 pub record IsHeldRow (held : List Held) (c : ℕ) (row : List Held) : Type 0 where
   pub each : (h : Held) → IsHeld row h → IsHeld held h × (h.spot.class ≡ c)
   pub all : (h : Held) → IsHeld held h → h.spot.class ≡ c → IsHeld row h

@@ -19,7 +19,8 @@ AreSeen u seen spots coming =
     (k : Spot) (g delay : ℕ) → Has spots k → IsGroup u.links.classes u.delays.items k.class delay g
     → k.time + delay ≤ coming.horizon → HasSeen seen g k.area ⊎ Waits coming (k.time + delay) g
 
--- the same, where a class has gained a point at a time for which no group comes yet
+-- Each group has seen the points of its class, but for those that it comes for, and for a point that a class has gained
+-- at a time for which no group comes yet.
 abbrev pub AreSeenAfter : PinGroups → List ℕ → List Spot → Queued → ℕ → Option ClassId → Type 0
 AreSeenAfter u seen spots coming time None = AreSeen u seen spots coming
 AreSeenAfter u seen spots coming time (Some class) =

@@ -123,7 +123,8 @@ pub record IsSettling (s : Task) (choices : List Choice) (now horizon : ℕ) (sp
   pub given : (n t a : ℕ) (x : Choice) → slice_get choices n ≡ Some x → Gives s spots x.part t a → t ≤ horizon
       → HasAtMost had x.class t a ⊎ comes t n
 
--- the same where nothing is between the points that are had and those that are used
+-- All points are covers' and none is later than now. A use of a point from now on comes, and what a choice gives with
+-- these points is one of them or comes.
 abbrev pub IsStill : Task → List Choice → ℕ → ℕ → List Spot → (ℕ → ℕ → Type 0) → Type 0
 IsStill s choices now horizon spots comes = IsSettling s choices now horizon spots spots comes
 
@@ -154,7 +155,7 @@ abbrev pub GivesNoMore : Task → List Choice → List Spot → ℕ → ℕ → 
 GivesNoMore s choices spots time n =
     (x : Choice) (a : ℕ) → slice_get choices n ≡ Some x → Gives s spots x.part time a → HasAtMost spots x.class time a
 
--- the same, but for choices with a point that was not seen
+-- the choice gives no more at this time than what is had, or it has a point that was not seen
 abbrev pub GivesNoMoreSeen : Task → List Choice → List Spot → (ℕ → Type 0) → ℕ → ℕ → Type 0
 GivesNoMoreSeen s choices spots unseen time n =
     (x : Choice) (a : ℕ) → slice_get choices n ≡ Some x → Gives s spots x.part time a

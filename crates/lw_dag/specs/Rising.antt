@@ -39,7 +39,7 @@ pub record IsLevelling (inputs : ℕ) (graph : List (List ℕ)) (levels : Search
   pub rising : IsRising inputs graph levels.heights.items levels.waiting.items levels.ready.items later
   pub ordered : IsOrdered inputs graph levels.heights.items levels.order.items
 
--- the same of the search in a graph
+-- the search in a graph, while some nodes are still to be looked at
 abbrev pub IsLevellingIn : SmallGraph → Search → List ℕ → Type 0
 IsLevellingIn graph levels later = IsLevelling graph.inputs graph.nodes.now levels later
 

@@ -62,7 +62,8 @@ pub record EndsAs {O E : Type 0} (told : Option (List File)) (before now : ℕ) 
   pub meets : Meets told before now taken is_finished faults old new request ending
   pub line : LineTold err_taken err_faults err_old err_new (ending_line request ending)
 
--- The same of words, which may be wrong: then their line went to err, and nothing else happened.
+-- Words have this status: a request has what it asks for, and of words that are wrong a line went to err, and nothing
+-- else happened.
 abbrev pub IsTold : {O E : Type 0} → Option (List File) → ℕ → ℕ → (O → Option (List ℕ)) → (O → Bool) → (O → ℕ) → O → O
     → (E → Option (List ℕ)) → (E → ℕ) → E → E → Result Request WordFault → ℕ → Type 0
 IsTold told before now taken is_finished faults old new err_taken err_faults err_old err_new (Ok request) status =

@@ -100,7 +100,8 @@ pub(crate) fn have_shared(rows: &[Row], columns: usize) -> bool
 // Puts a row on its side of the cut.
 fn put(cut: &mut Cut, row: Row, literal: Literal) -> Result<(), AllocError>
     ensures having { OnOk result (cut.new.having.items ≡ cut.old.having.items
-        ++ map (cleared (plain_literal literal)) (filter (has (plain_literal literal)) (row ∷ []))) }
+        ++ map (cleared (plain_literal literal))
+        (filter (has (plain_literal literal)) (row ∷ []))) }
     ensures others { OnOk result (cut.new.others.items ≡ cut.old.others.items
         ++ filter (λ r. not (has (plain_literal literal) r)) (row ∷ [])) }
 {

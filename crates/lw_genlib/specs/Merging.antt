@@ -79,7 +79,7 @@ is_same_pin pin other = bytes_eq pin.0 other.0 && pin.1.0 == other.1.0
 abbrev pub is_pin_among : List (List ℕ × Micro) → List ℕ × Micro → Bool
 is_pin_among pins pin = list_any (is_same_pin pin) pins
 
--- the same pins with the same delays, in any order
+-- both have the pins of the other with their delays, in any order
 abbrev pub have_same_pins : List (List ℕ × Micro) → List (List ℕ × Micro) → Bool
 have_same_pins pins others = list_all (is_pin_among others) pins && list_all (is_pin_among pins) others
 
@@ -87,7 +87,7 @@ abbrev pub is_same : Bool → Bool → Bool
 is_same true b = b
 is_same false b = not b
 
--- the same value under each assignment of so many pins
+-- both functions have one value under each assignment of so many pins
 unfoldable pub have_same_table : ℕ → Expr → Expr → Bool
 have_same_table pins e f =
     list_all (λ n. is_same (expr_value (assigned n) e) (expr_value (assigned n) f)) (range_with_len 0 (2 ^ pins))

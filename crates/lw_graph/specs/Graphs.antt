@@ -17,7 +17,7 @@ abbrev pub plain_graph : ClassId → List ClassId → List ClassId → List (Lis
 plain_graph one leaves forms rows =
     record { one = one.0; leaves = numbers leaves; forms = numbers forms; pairs = map plain_row rows }
 
--- the same, where the pairs stand one class after the other and each class's end where it is said
+-- the plain graph of pairs that stand one class after the other, with the place at which each class ends
 abbrev pub flat_graph : ClassId → List ClassId → List ClassId → List ℕ → List Pair → PlainGraph
 flat_graph one leaves forms ends pairs = plain_graph one leaves forms (rows_from pairs 0 ends)
 

@@ -81,7 +81,7 @@ pub record IsMatchNetlistOfForms (mode : Mode) (inputs : ℕ) (o : Listing) (for
   pub names_are : names ≡ net_names ports.inputs (map (λ p. p.name) ports.outputs)
       (form_classes o form graph ports.outputs) gates
 
--- the same for the sums of products of a network's nets
+-- a netlist of matches for the sums of products of a network's nets
 abbrev pub IsMatchNetlistOf : Mode → ℕ → Network → Ports → List Pattern → List ℕ → Netlist → List (List ℕ) → Ports
     → Type 0
 IsMatchNetlistOf mode width net ports pats pin_counts n names mapped =

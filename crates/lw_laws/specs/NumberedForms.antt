@@ -46,7 +46,8 @@ IsCutOf forms f x y =
     (b : ℕ) × (fs : List ℕ) × (ls : List ℕ) × (rs : List ℕ) × (slice_get forms.bases b ≡ Some (base_and fs))
     × (f ≡ 2 * b + 1) × IsCut fs ls rs × IsPart forms ls x × IsPart forms rs y
 
--- the same for two different lists that together hold every operand
+-- form f is the complement of a listed And, and x and y are the Ands of two different lists of its operands that
+-- together hold each
 abbrev pub IsCoveringOf : NumberedForms → ℕ → ℕ → ℕ → Type 0
 IsCoveringOf forms f x y =
     (b : ℕ) × (fs : List ℕ) × (ls : List ℕ) × (rs : List ℕ) × (slice_get forms.bases b ≡ Some (base_and fs))

@@ -33,7 +33,7 @@ pub record AreGrown (old new : List Span) : Type 0 where
 abbrev pub IsSeen : List Span → ℕ → ℕ → ℕ → Type 0
 IsSeen reach c x y = IsIn (span_at reach (x / 2)) c × IsIn (span_at reach (y / 2)) c
 
--- the same for each pair of a row
+-- class c is in the spans of the places of both classes of each pair of a row
 abbrev pub AreSeen : List Span → ℕ → List Pair → Type 0
 AreSeen reach c row = (p : Pair) → Contains row p → IsSeen reach c p.x.0 p.y.0
 

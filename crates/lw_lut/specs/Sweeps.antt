@@ -23,7 +23,8 @@ pub record LowersCount (t : Task) (old new : Search) (c : ℕ) (changed : Bool) 
   pub fewer : (k : ℕ) → slice_index new.counts.items k ≤ slice_index old.counts.items k
   pub elsewhere : (k : ℕ) → (k ≡ c / 2 → ⊥) → slice_index new.counts.items k ≡ slice_index old.counts.items k
 
--- the same, where the classes that are then to be looked at again are in a span
+-- the count of the place of a class has fallen or is settled, and the classes that are then to be looked at again are
+-- in a span
 pub record LowersIn (t : Task) (old new : Search) (c : ℕ) (next span : Span) : Type 0 where
   pub counts : (d : ℕ) → AreCounts t.graph.now t.leaves d old → AreCounts t.graph.now t.leaves d new
   pub depths : new.depths ≡ old.depths
@@ -33,8 +34,8 @@ pub record LowersIn (t : Task) (old new : Search) (c : ℕ) (next span : Span) :
   pub bounded : (d : ℕ) → (IsIn span d → ⊥) → (d ≡ c) ⊎ IsBoundedAt t.graph.now old.counts.items d
       → IsBoundedAt t.graph.now new.counts.items d
 
--- the same for each class of a span: counts have fallen in it alone, and all have where a class is to be looked at
--- again
+-- The classes of a span were gone through: counts have fallen in it alone, and none could fall more but at the classes
+-- that are to be looked at again.
 pub record LowersRound (t : Task) (old new : Search) (span next : Span) : Type 0 where
   pub counts : (d : ℕ) → AreCounts t.graph.now t.leaves d old → AreCounts t.graph.now t.leaves d new
   pub depths : new.depths ≡ old.depths

@@ -27,7 +27,7 @@ abbrev pub AreRisingClasses : List ClassId → Type 0
 AreRisingClasses classes =
     (i j : ℕ) (x y : ClassId) → slice_get classes i ≡ Some x → slice_get classes j ≡ Some y → i < j → x.0 < y.0
 
--- the same classes, each once
+-- the classes of a list, each once and in rising order
 pub record AreRisingOf (classes rising : List ClassId) : Type 0 where
   pub are_rising : AreRisingClasses rising
   pub same : (c : ClassId) → Contains rising c ↔ Contains classes c

@@ -90,7 +90,7 @@ pub record IsSettling (cost : Cost) (lists : List (List Stored)) (s : Stage) (in
   pub covered : IsCovered s.graph cost (placed lists) inputs seen unread (marks_in marks) (marks_in wait) left
   pub counted : IsCounted (placed lists) seen s.start done left
 
--- the same once all inputs and all matches without pins have given their classes their marks
+-- the marks, and how many pins are left, once all inputs and all matches without pins have given their classes marks
 abbrev pub IsReading : Cost → List (List Stored) → Stage → List ℕ → ℕ → List (Option Mark) → List (Option Mark) → List ℕ
     → Type 0
 IsReading cost lists s unread done marks wait left =

@@ -59,7 +59,7 @@ Gives step (Err Words) = ⊥
 Gives step (Err (Faulty w fault)) = ⊥
 Gives step (Err other) = (files : Files) → step files (Err other)
 
--- the same of an answer that is made of what was computed
+-- what a step that reads no file answers, where the answer is made of what the step computed
 abbrev pub GivesBy : {X : Type 0} → (X → Answer) → Step (List ℕ) → Result X Refusal → Type 0
 GivesBy wrap step (Ok x) = Gives step (Ok (wrap x))
 GivesBy wrap step (Err e) = Gives step (Err e)
