@@ -49,6 +49,7 @@ impl Parts {
     ghost use Rattle.lw_blif.specs.Keeping.{ReadsNamesLine};
     ghost use Rattle.lw_blif.specs.LineFaults.{command, defined_for, line_fault};
 
+    /// Nothing was said yet.
     pub fn new(alloc: Global) -> Self
         ensures { Keeps result [] }
     {

@@ -49,6 +49,7 @@ impl Pins {
         self.as_slice().is_empty()
     }
 
+    /// The classes, in order.
     pub fn as_slice(&self) -> &[ClassId]
         ensures classes { result.now ≡ self.now }
         ensures few { length result.now ≤ 16 }

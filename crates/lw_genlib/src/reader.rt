@@ -45,6 +45,7 @@ impl LibReader {
     ghost use Rattle.lw_genlib.specs.Standing.{StandsFor, Tells, HasNoHash, resume, stop_of};
     ghost use Rattle.lw_genlib.specs.Standing.{BreaksAt};
 
+    /// A reader of a library, before its first line.
     pub fn new(alloc: Global) -> Self
         ensures { StandsFor result [] }
     {

@@ -47,6 +47,7 @@ impl Model for TableNet {
 impl TableNet {
     ghost use Rattle.lw_lut.specs.Nets.{IsTableNet};
 
+    /// The names of inputs and outputs, with the classes of the outputs.
     pub fn ports(&self) -> &TablePorts
         ensures { result.now ≡ self.now.ports }
     {
@@ -60,6 +61,7 @@ impl TableNet {
         &self.inputs
     }
 
+    /// The tables, those of fewer levels first.
     pub fn tables(&self) -> &Tables
         ensures { result.now ≡ self.now.tables }
     {

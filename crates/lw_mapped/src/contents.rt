@@ -36,6 +36,7 @@ impl Contents {
     ghost use Rattle.lw_mapped.specs.Keeping.{Keeps, Takes};
     ghost use Rattle.lw_mapped.specs.declared.fault.MappedKind.{MappedKind};
 
+    /// Nothing was read yet.
     pub fn new(alloc: Global) -> Self
         ensures { Keeps result [] }
     {

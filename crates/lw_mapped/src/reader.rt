@@ -73,6 +73,7 @@ impl MappedReader {
     ghost use Rattle.lw_mapped.specs.Standing.{fault_of};
     ghost use Rattle.lw_mapped.specs.Closings.{IsReadOver, HasFewGates};
 
+    /// A reader of a mapped netlist, before its first line.
     pub fn new(alloc: Global) -> Self
         ensures { (cells : List CellParts) → StandsFor result cells [] }
     {

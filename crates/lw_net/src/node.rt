@@ -113,18 +113,21 @@ impl Cubes {
         self.items
     }
 
+    /// How many rows there are.
     pub fn len(&self) -> usize
         ensures { result ≡ length self.now }
     {
         self.items.len()
     }
 
+    /// Whether there are no rows.
     pub fn is_empty(&self) -> bool
         ensures { IsTrue result ↔ (self.now ≡ []) }
     {
         self.items.is_empty()
     }
 
+    /// The rows, in order.
     pub fn as_slice(&self) -> &[Cube]
         ensures { result.now ≡ self.now }
     {
@@ -202,18 +205,21 @@ impl Nodes {
         self.items
     }
 
+    /// How many nodes there are.
     pub fn len(&self) -> usize
         ensures { result ≡ length self.now }
     {
         self.items.len()
     }
 
+    /// Whether there are no nodes.
     pub fn is_empty(&self) -> bool
         ensures { IsTrue result ↔ (self.now ≡ []) }
     {
         self.items.is_empty()
     }
 
+    /// The nodes, in order.
     pub fn as_slice(&self) -> &[Node]
         ensures { result.now ≡ self.now }
     {

@@ -54,6 +54,7 @@ impl Signals {
         Signals { names, heads, next }
     }
 
+    /// How many signals there are.
     pub fn len(&self) -> usize
         ensures len { result ≡ length self.now }
         ensures distinct { IsDistinct bytes_eq self.now }

@@ -73,6 +73,7 @@ impl SpelledGate {
         Ok(())
     }
 
+    /// The cell, by its number in the library.
     pub fn cell(&self) -> CellId
         ensures { result ≡ self.now.cell }
     {

@@ -37,6 +37,7 @@ impl SpelledNames {
         }
     }
 
+    /// How many names there are.
     pub fn len(&self) -> usize
         ensures { result ≡ length self.now }
     {
