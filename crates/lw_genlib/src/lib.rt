@@ -7,7 +7,8 @@
 //! (`cells_so_far`, `merge_entry`), where truth tables are compared (`truth`, `eval`).
 //!
 //! The definitions to read are `CellParts` in `specs/Cells.antt` for what a library is, and
-//! `library_of` in `specs/Libraries.antt` for what lines say. `lw_files` gives lines to `LibReader`.
+//! `library_of` in `specs/Libraries.antt` for what lines say. `lw_files` gives lines to
+//! `LibReader`.
 #![tactic(auto)]
 
 mod cell;

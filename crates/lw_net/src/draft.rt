@@ -131,8 +131,8 @@ impl Draft {
     ghost use Rattle.lw_net.specs.Closing.{IsDraft};
 
     /// Whether it may be closed: inputs and node outputs differ, outputs differ, each row has one
-    /// byte per fan-in, and there are at most 262,144 signals. It is for callers of the library, who
-    /// have a draft from elsewhere: the draft of a text that was read may be closed.
+    /// byte per fan-in, and there are at most 262,144 signals. It is for callers of the library,
+    /// who have a draft from elsewhere: the draft of a text that was read may be closed.
     pub fn may_close(&self, alloc: Global) -> Result<bool, AllocError>
         ensures { IfOk result (λ may. IsTrue may ↔ IsDraft self.now) }
     {
