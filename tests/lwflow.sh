@@ -7,25 +7,13 @@
 # It needs Python, Yosys and ABC, and says 'skipped' where they are not there; so it does for what needs Icarus Verilog or
 # Debian's qflow-tech-osu035. The program is the one that release/program.sh finds. The last line is 'N passed, N failed'.
 set -u
-export LC_ALL=C
-root=$(dirname -- "$(dirname -- "$(readlink -f -- "$0")")")
-cd -- "$root" || exit 1
+# shellcheck source=tests/verdicts.sh
+. "$(dirname -- "$(readlink -f -- "$0")")/verdicts.sh"
 for tool in python3 yosys berkeley-abc; do
     command -v "$tool" >/dev/null || { echo "skipped: $tool is not on this machine, so lwflow was not tried" && exit 0; }
 done
 LWMAP_PROGRAM=$(sh release/program.sh) || exit 1
 export LWMAP_PROGRAM
-room=$(mktemp -d) || exit 1
-trap 'rm -rf "$room"' EXIT
-trap 'exit 1' HUP INT TERM
-passed=0 && failed=0
-library=bench/libs/mcnc.genlib
-
-verdict() { # WHAT STATUS
-    if [ "$2" -eq 0 ]; then passed=$((passed + 1)); else
-        failed=$((failed + 1)) && echo "FAILED: $1" && sed 's/^/    /' "$room/out" "$room/err"
-    fi
-}
 
 # A run whose status and words have to be these: a text that its output or its errors hold.
 run() { # WHAT STATUS TEXT WORD..
@@ -233,5 +221,4 @@ verdict "in Yosys with a tilde in the library" $?
 yosys_calls $library "$room/large.blif" 'more than 262144 signals'
 verdict "in Yosys with a module that is too large" $?
 
-echo "$passed passed, $failed failed"
-[ "$failed" -eq 0 ] && [ "$passed" -gt 0 ]
+told

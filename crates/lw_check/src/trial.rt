@@ -1,7 +1,8 @@
 // Labels on trial: searches, cut by a table, for what costs less than they say.
 ghost use Rattle.std.specs.Prelude.{◌↔◌, IsTrue, option_map};
 ghost use Rattle.lw_check.specs.Claims.{class_number};
-ghost use Rattle.lw_check.specs.Labelling.{CanSearch, FailsIn, FindsUnboundedIn, HasTable, IsLeastIn, IsLowIn, IsMatchCostIn};
+ghost use Rattle.lw_check.specs.Labelling.{CanSearch, FailsIn, FindsUnboundedIn, HasTable};
+ghost use Rattle.lw_check.specs.Labelling.{IsLeastIn, IsLowIn, IsMatchCostIn};
 ghost use Rattle.lw_check.specs.Least.{IsLeastOf};
 
 use crate::bounding::earlier;

@@ -1,7 +1,8 @@
 // The classes that are needed, each with its chosen match.
 ghost use Rattle.std.specs.Prelude.{IfOk, reverse};
 ghost use Rattle.lw_match.specs.Cutting.{AreKnown};
-ghost use Rattle.lw_extract.specs.Jobs.{AreJobBounds, AreJobChoices, AreJobLabels, CanCover, FindsChoice, IsInnerClass};
+ghost use Rattle.lw_extract.specs.Jobs.{AreJobBounds, AreJobChoices, AreJobLabels, CanCover};
+ghost use Rattle.lw_extract.specs.Jobs.{FindsChoice, IsInnerClass};
 ghost use Rattle.lw_extract.specs.Orders.{AreByHeight};
 ghost use Rattle.lw_extract.specs.Nets.{AreInputNets};
 

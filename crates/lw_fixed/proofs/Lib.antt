@@ -3,6 +3,6 @@ mod Points
 mod Verdicts
 mod Zeros
 pub mod Shapes
-mod Six
+pub mod Six
 mod Written
 pub mod Texts

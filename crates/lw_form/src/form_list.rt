@@ -32,9 +32,27 @@ impl Model for Forms {
     ghost use Rattle.lw_form.specs.Bases.{plain_base};
     ghost use Rattle.lw_form.specs.Kept.{AreForms, AreSamples};
 
-    ghost view = { λ f. record { inputs = f.inputs; bases = map plain_base f.bases.keys; sops = f.sops.items; facs = f.facs.items } };
+    ghost view = { λ f. record {
+      inputs = f.inputs;
+      bases = map plain_base f.bases.keys;
+      sops = f.sops.items;
+      facs = f.facs.items;
+    } };
 
-    ghost invariant = { λ f. AreForms (record { inputs = f.inputs; bases = map plain_base f.bases.keys; sops = f.sops.items; facs = f.facs.items }) × AreSamples (record { inputs = f.inputs; bases = map plain_base f.bases.keys; sops = f.sops.items; facs = f.facs.items }) f.samples.items };
+    ghost invariant = { λ f. AreForms
+        (record {
+          inputs = f.inputs;
+          bases = map plain_base f.bases.keys;
+          sops = f.sops.items;
+          facs = f.facs.items;
+        })
+        × AreSamples
+        (record {
+          inputs = f.inputs;
+          bases = map plain_base f.bases.keys;
+          sops = f.sops.items;
+          facs = f.facs.items;
+        }) f.samples.items };
 }
 
 impl Forms {

@@ -23,9 +23,22 @@ impl Model for Network {
 
     ghost Value = { NetworkParts };
 
-    ghost view = { λ n. record { model = n.model; names = n.names; inputs = n.inputs; nodes = n.nodes; outputs = n.outputs } };
+    ghost view = { λ n. record {
+      model = n.model;
+      names = n.names;
+      inputs = n.inputs;
+      nodes = n.nodes;
+      outputs = n.outputs;
+    } };
 
-    ghost invariant = { λ n. IsNetwork (record { model = n.model; names = n.names; inputs = n.inputs; nodes = n.nodes; outputs = n.outputs }) };
+    ghost invariant = { λ n. IsNetwork
+        (record {
+          model = n.model;
+          names = n.names;
+          inputs = n.inputs;
+          nodes = n.nodes;
+          outputs = n.outputs;
+        }) };
 }
 
 impl Network {

@@ -1,12 +1,16 @@
 // The rules that names break.
-ghost use Rattle.std.specs.Prelude.{◌≡◌, ◌<◌, true, false, None, Some, [], length, replicate, drop, option_map, ◌&&◌, Contains, IfOk, MatchOption, slice_get, slice_index_or};
+ghost use Rattle.std.specs.Prelude.{◌≡◌, ◌<◌, true, false, None, Some, [], length, replicate, drop};
+ghost use Rattle.std.specs.Prelude.{option_map, ◌&&◌, Contains, IfOk, MatchOption, slice_get};
+ghost use Rattle.std.specs.Prelude.{slice_index_or};
 ghost use Rattle.std.specs.List.{list_all, list_any};
 ghost use Rattle.std.specs.Option.{option_or};
 ghost use Rattle.std.specs.Str.{bytes_eq};
 ghost use Rattle.lw_genlib.specs.Cells.{names_of};
 ghost use Rattle.lw_netlist.specs.Closing.{is_among};
 ghost use Rattle.lw_verilog.specs.Raising.{RaisesPorts};
-ghost use Rattle.lw_verilog.specs.Readings.{has_hash, name_fault, declared_fault, cell_fault, formal_fault, cell_in, gives_all, missing_fault, ports_fault};
+ghost use Rattle.lw_verilog.specs.Readings.{has_hash, name_fault, declared_fault, cell_fault};
+ghost use Rattle.lw_verilog.specs.Readings.{formal_fault, cell_in, gives_all, missing_fault};
+ghost use Rattle.lw_verilog.specs.Readings.{ports_fault};
 ghost use Rattle.lw_verilog.specs.Statements.{IsNetPlace, first_name, is_for, number_of, ties_in};
 ghost use Rattle.lw_words.specs.Words.{is_name};
 
