@@ -24,7 +24,7 @@ CLAUSES = {
     "checked": ("lw_top.specs.Mappings.IsCheckedMapping", 60, 2050, 600),
     "tables": ("lw_top.specs.Tabled.AreTables", 40, 1050, 400),
     "trading": ("lw_top.specs.Traded.IsTrade", 60, 1900, 650),
-    "complete": ("lw_top.specs.Answers.IsAnswer", 125, 3750, 2400),
+    "complete": ("lw_top.specs.Answers.IsAnswer", 125, 4000, 2550),
 }
 
 # The definitions that say the formats of texts, of words and of names in texts.
