@@ -2,6 +2,7 @@ mod Values
 mod Points
 mod Verdicts
 mod Zeros
+pub mod Numerals
 pub mod Shapes
 pub mod Six
 mod Written

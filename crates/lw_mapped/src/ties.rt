@@ -8,11 +8,10 @@ ghost use Rattle.lw_mapped.specs.GateLines.{gate_of};
 ghost use Rattle.lw_words.specs.Words.{is_among};
 
 use crate::MappedKind;
-use crate::naming::is_name;
 use lw_genlib::Cell;
 use lw_netlist::SpelledGate;
 use lw_pool::{CellId, Name};
-use lw_words::Words;
+use lw_words::{Words, is_name};
 use std::alloc::{AllocError, Global};
 
 // The place of the first of these words.
