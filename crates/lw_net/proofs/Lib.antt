@@ -8,4 +8,5 @@ pub mod Nets
 pub mod Paths
 pub mod Placing
 pub mod Rise
+pub mod Unions
 pub mod Writing
