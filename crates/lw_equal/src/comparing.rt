@@ -1,5 +1,5 @@
 // The comparison of two sides.
-ghost use Rattle.std.specs.Prelude.{◌≡◌, ◌<◌, None, All, IfOk, IfErr, OnOk, length};
+ghost use Rattle.std.specs.Prelude.{◌≡◌, ◌<◌, ◌^◌, None, All, IfOk, IfErr, OnOk, length};
 ghost use Rattle.lw_sweep.specs.Sweeps.{IsExtended};
 ghost use Rattle.lw_equal.specs.Answers.{HasFault, IsAnswer};
 ghost use Rattle.lw_equal.specs.Cases.{Settles};
@@ -23,6 +23,13 @@ const MOST_INPUTS: usize = 2147483647;
 
 // How many times the conflicts of other comparisons those of a point may have.
 const EFFORT: u32 = 10;
+
+// No comparison is searched.
+const NO_SEARCH: Limits = Limits {
+    tries: 0,
+    conflicts: 0,
+    steps: 0,
+};
 
 // No work on so many points.
 fn no_work(points: usize) -> Counts {
@@ -106,7 +113,35 @@ fn solve_in(
     decide_all(sweep, alloc, &case, pairs, effort)
 }
 
-// Decides each pair in a graph of its own.
+// Decides each pair in a graph of its own, within these limits.
+fn solve_within(
+    alloc: Global,
+    one: &Known,
+    other: &Side,
+    more: &[Side],
+    pairs: &[Pair],
+    limits: Limits,
+) -> Result<Outcome, AllocError>
+    requires known { IsKnown one.now }
+    requires other { IsSide other.now }
+    requires more { All IsSide more.now }
+    requires pairs { All (IsPair one.now.side.now other.now) pairs.now }
+    requires some { 0 < length pairs.now }
+    requires few { length one.now.inputs.keys < 2 ^ 31 }
+    ensures { IfOk result (λ outcome.
+        Settles one.now.side.now other.now pairs.now outcome.answer) }
+{
+    let inputs = one.inputs.len();
+    let mut sweep = Sweep::new(alloc, inputs as u32, limits)?;
+    let effort = effort_of(&limits);
+    let answer = solve_in(&mut sweep, alloc, one, other, more, pairs, effort)?;
+    Ok(Outcome {
+        answer,
+        counts: work_of(&sweep, pairs.len()),
+    })
+}
+
+// Decides each pair: by patterns alone, where they tell a pair apart, and else with searches.
 fn solve(
     alloc: Global,
     one: &Known,
@@ -135,13 +170,12 @@ fn solve(
             counts: no_work(pairs.len()),
         });
     }
-    let mut sweep = Sweep::new(alloc, inputs as u32, limits)?;
-    let effort = effort_of(&limits);
-    let answer = solve_in(&mut sweep, alloc, one, other, more, pairs, effort)?;
-    Ok(Outcome {
-        answer,
-        counts: work_of(&sweep, pairs.len()),
-    })
+    let seen = solve_within(alloc, one, other, &[], pairs, NO_SEARCH)?;
+    if let Answer::Differ(_) = &seen.answer {
+        return Ok(seen);
+    }
+    drop(seen);
+    solve_within(alloc, one, other, more, pairs, limits)
 }
 
 /// Compares two sides at each output, and at what each latch reads, within these limits; `more` may

@@ -111,6 +111,10 @@ impl Search {
         ensures kept { self.new ≡ self.old }
         ensures told { IfOk result (Tells self.old left right) }
     {
+        let spent = self.steps == 0;
+        if spent {
+            return Ok(Found::Open);
+        }
         self.enter(alloc, left, right)?;
         let there = self.run(&[left, right.flip()], tries)?;
         let Found::Equal = there else {
