@@ -23,7 +23,7 @@ with as little area as is found. The netlist goes to standard output as mapped B
   -e E   how much is tried: 0 as lwmap map, 1 passes, 2 curves and rounds
          (the default), 3 passes by chance, too
   -w K   the most operands of an AND in a decomposition, 2 to 8; 6 if left out
-  -i     two laws of idempotence more
+  -i     two rules of idempotence more
   -c     with the netlist's certificate, for lwmap check; wants -t each
 lwarea -h writes this, lwarea -v the version.
 ";
