@@ -1,4 +1,5 @@
-//! Tests of classes, of matches and of labels, by the public calls of their crates.
+//! Tests of classes, of matches, of labels and of the look at lists of matches, by the public calls
+//! of their crates.
 #![tactic(auto)]
 
 #[cfg(test)]
@@ -13,6 +14,8 @@ mod finding;
 mod labels;
 #[cfg(test)]
 mod libraries;
+#[cfg(test)]
+mod looking;
 #[cfg(test)]
 mod plain;
 #[cfg(test)]
