@@ -5,11 +5,6 @@
 # What a case takes as long as it fails. It is tried where it is named; the change that mends it takes its line from here.
 failing() { # CASE
     case $1 in
-    pins_that_repeat) echo "of 'map' and 'check' with -i no answer in 27 s" ;;
-    pins_that_repeat_with_latches) echo 'no answer in 100 s' ;;
-    pins_that_tie) echo 'no answer in 12 s' ;;
-    wide_nodes) echo '4.2 s' ;;
-    many_wide_nodes) echo 'no answer in 24 s, 263 MB' ;;
     trade_of_wide_nodes) echo '23 s and 2.5 GB at -w 6; 35 s and 3.1 GB, then status 8, at -w 8' ;;
     trade_of_one_wide_node) echo '7.2 s, 1.3 GB' ;;
     names_that_collide) echo '12 s' ;;
