@@ -23,15 +23,22 @@ use std::test::Fail;
 
 /// Small cells, and two for the And of three inputs: `fast`, whose gate is the first cover, and
 /// `large`, which takes more.
-const LIBRARY: &str = "GATE inv 1 O=!a;PIN * INV 1 999 1 0 1 0\nGATE nand2 2 O=!(a*b);PIN * INV 1 999 1.5 0 1.5 0\nGATE nand3 3 O=!(a*b*c);PIN * INV 1 999 2 0 2 0\nGATE fast 20 O=a*b*c;PIN * NONINV 1 999 1 0 1 0\nGATE large 21 O=a*b*c;PIN * NONINV 1 999 1.5 0 1.5 0\nGATE but 2 O=a*!b;PIN * UNKNOWN 1 999 1 0 1 0\n";
+const LIBRARY: &str =
+    "GATE inv 1 O=!a;PIN * INV 1 999 1 0 1 0\nGATE nand2 2 O=!(a*b);PIN * INV 1 999 1.5 0 1.5 0\nGATE nand3 3 O=!(a*b*c);PIN * INV 1 999 2 0 2 0\nGATE fast 20 O=a*b*c;PIN * NONINV 1 999 1 0 1 0\nGATE large 21 O=a*b*c;PIN * NONINV 1 999 1.5 0 1.5 0\nGATE but 2 O=a*!b;PIN * UNKNOWN 1 999 1 0 1 0\n";
 
 // The cells by their numbers in the library, and the number of none.
 const INV: u32 = 0;
+
 const NAND2: u32 = 1;
+
 const NAND3: u32 = 2;
+
 const FAST: u32 = 3;
+
 const LARGE: u32 = 4;
+
 const BUT: u32 = 5;
+
 const NO_CELL: u32 = 6;
 
 /// A gate: its class, its cell, and the classes of its pins.
@@ -142,11 +149,7 @@ const ROWS: [Row; 20] = [
     },
     Row {
         name: "a gate at a class that is not there",
-        gates: &[
-            (16, INV, &[2]),
-            (15, NAND3, &[2, 4, 6]),
-            (14, INV, &[15]),
-        ],
+        gates: &[(16, INV, &[2]), (15, NAND3, &[2, 4, 6]), (14, INV, &[15])],
         time: 9_000_000,
         refused: true,
     },
