@@ -1,0 +1,37 @@
+// The pair of two base forms whose literals are of one node.
+ghost use Rattle.std.specs.Prelude.{IfSome};
+ghost use Rattle.lw_form.specs.Links.{HaveOneValue};
+ghost use Rattle.lw_links.specs.Linked.{TellPairs};
+
+use lw_aig::Literal;
+use lw_form::Forms;
+use lw_pool::FormId;
+
+/// Two listed forms.
+#[derive(Clone, Copy)]
+pub(crate) struct FormPair {
+    pub(crate) left: FormId,
+    pub(crate) right: FormId,
+}
+
+// The form of a base form that has the value of the literal's node.
+fn form_at(b: u32, literal: Literal) -> FormId {
+    FormId(b.wrapping_mul(2).wrapping_add(literal.0 % 2))
+}
+
+/// The forms of two base forms that have the value of one node, if their literals are of one.
+pub(crate) fn pair_of(forms: &Forms, literals: &[Literal], a: u32, b: u32) -> Option<FormPair>
+    requires { TellPairs forms.now literals.now }
+    ensures { IfSome result (λ pair. HaveOneValue forms.now pair.left.0 pair.right.0) }
+{
+    let _ = forms.inputs();
+    let one = *literals.get(a as usize)?;
+    let other = *literals.get(b as usize)?;
+    if one.node() != other.node() {
+        return None;
+    }
+    Some(FormPair {
+        left: form_at(a, one),
+        right: form_at(b, other),
+    })
+}
