@@ -10,26 +10,24 @@ use lw_bounds::Bounds;
 use lw_cost::{Match, Pins};
 use lw_extract::{Chosen, Cover, attaining_matches};
 use lw_fixed::Micro;
-use lw_form::{FormFault, Forms, forms};
 use lw_genlib::Library;
-use lw_graph::Graph;
+use lw_joined::Joined;
 use lw_label::{DelayCost, Labels};
 use lw_look::{Look, arrivals_of};
-use lw_map::{Choices, ports};
-use lw_net::Network;
+use lw_map::ports;
 use lw_netlist::Port;
 use lw_pattern::{Patterns, patterns};
 use lw_recover::{Effort, Gate, Nodes, Root, recover};
 use std::alloc::{AllocError, Global};
 
-/// What a smaller cover is looked for in: a library, the model of a network, its choices, the
-/// labels of these, and what was asked for.
+/// What a smaller cover is looked for in: a library, the model of a network, its choices and those
+/// of networks that were joined to it, the labels of these, and what was asked for.
 #[derive(Drop)]
 pub(crate) struct Case<'a> {
     pub alloc: Global,
     pub library: &'a Library,
     pub model: &'a Parsed,
-    pub choices: &'a Choices,
+    pub joined: &'a Joined,
     pub labels: &'a Labels,
     pub settings: Settings,
 }
@@ -51,21 +49,19 @@ fn chosen_of(gate: &Gate) -> Chosen {
     }
 }
 
-// The classes of a network's nodes, and of their fan-ins.
-fn nodes_of(
-    alloc: Global,
-    net: &Network,
-    forms: &Forms,
-    graph: &Graph,
-) -> Result<Nodes, AllocError> {
+// The classes of some nodes of a union, and of their fan-ins.
+fn nodes_of(alloc: Global, joined: &Joined, from: u32, end: u32) -> Result<Nodes, AllocError> {
     let (mut classes, mut fanins) = (Vec::new(alloc), Vec::new(alloc));
     let mut ends = Vec::new(alloc);
-    for node in net.nodes() {
-        classes.push(graph.class_of(forms.sop(node.out)))?;
-        for fanin in node.fanins.as_slice() {
-            fanins.push(graph.class_of(forms.sop(*fanin)))?;
+    let nets = joined.nets.as_slice();
+    for node in joined.union.nodes() {
+        if from <= node.out.0 && node.out.0 < end {
+            classes.push(nets[node.out.0 as usize])?;
+            for fanin in node.fanins.as_slice() {
+                fanins.push(nets[fanin.0 as usize])?;
+            }
+            ends.push(fanins.len())?;
         }
-        ends.push(fanins.len())?;
     }
     Ok(Nodes {
         classes,
@@ -93,17 +89,12 @@ impl Case<'_> {
         if effort != Effort::Chance {
             return Ok(networks);
         }
-        let net = &self.model.network;
-        match forms(self.alloc, net, self.choices.options.width) {
-            Ok(listed) => {
-                let nodes = nodes_of(self.alloc, net, &listed, &self.choices.graph);
-                drop(listed);
-                networks.push(nodes?)?;
-                Ok(networks)
-            }
-            Err(FormFault::Memory) => Err(AllocError),
-            Err(FormFault::Limit) => Ok(networks),
+        let mut from = self.joined.union.inputs();
+        for end in &self.joined.ends {
+            networks.push(nodes_of(self.alloc, self.joined, from, *end)?)?;
+            from = *end;
         }
+        Ok(networks)
     }
 
     // The least times of the outputs, which are those of the first cover.
@@ -122,7 +113,7 @@ impl Case<'_> {
     // The outputs' classes with their deadlines.
     fn roots(&self, times: &[Micro]) -> Result<Vec<Root>, AllocError> {
         let mut roots = Vec::new(self.alloc);
-        for (class, time) in self.choices.roots.as_slice().iter().zip(times) {
+        for (class, time) in self.joined.choices.roots.as_slice().iter().zip(times) {
             roots.push(Root {
                 class: *class,
                 time: time.0,
@@ -139,7 +130,7 @@ impl Case<'_> {
         attained: &[Option<Match>],
         times: &[Micro],
     ) -> Result<Vec<Chosen>, AllocError> {
-        let (graph, marks) = (&self.choices.graph, self.labels.marks());
+        let (graph, marks) = (&self.joined.choices.graph, self.labels.marks());
         let roots = self.roots(times)?;
         let networks = self.networks(effort)?;
         let found = recover(
@@ -172,10 +163,10 @@ impl Case<'_> {
         requires case { IsCase self.now }
         requires patterns { pats.now ≡ library_patterns self.now.library.now }
     {
-        let (alloc, lib, graph) = (self.alloc, self.library, &self.choices.graph);
+        let (alloc, lib, graph) = (self.alloc, self.library, &self.joined.choices.graph);
         let cost = DelayCost::new(lib, &self.model.starts);
         let bounds = Bounds::settled(alloc, graph, pats, self.labels.marks(), &cost)?;
-        let ports = ports(alloc, &self.model.network, self.choices)?;
+        let ports = ports(alloc, &self.model.network, &self.joined.choices)?;
         let all = attaining_matches(alloc, graph, pats, lib, self.labels, &bounds, &ports, &cost)?;
         drop(bounds);
         self.list(effort, pats, &all, times)
@@ -193,9 +184,9 @@ impl Case<'_> {
         let pats = patterns(alloc, self.library)?;
         let times = deadlines_of(alloc, self.settings.deadline, &self.least(&first)?)?;
         let list = self.found(effort, &pats, &times)?;
-        let ports = ports(alloc, &self.model.network, self.choices)?;
+        let ports = ports(alloc, &self.model.network, &self.joined.choices)?;
         let look = Look {
-            graph: &self.choices.graph,
+            graph: &self.joined.choices.graph,
             pats: &pats,
             lib: self.library,
             starts: &self.model.starts,

@@ -1,5 +1,5 @@
 // Which networks are within the limits.
-ghost use Rattle.std.specs.Prelude.{◌≡◌, Bool, List, length, All, IfOk, IfErr};
+ghost use Rattle.std.specs.Prelude.{◌≡◌, ◌++◌, [], ◌∷◌, Bool, List, length, All, IfOk, IfErr, OnOk};
 ghost use Rattle.lw_map.specs.Faults.{IsChoiceFault};
 ghost use Rattle.lw_map.specs.Options.{plain_options};
 ghost use Rattle.lw_joined.specs.Unions.{AreTaken, FitsOther, ListsUnion};
@@ -86,6 +86,16 @@ fn forms_of(alloc: Global, union: Union, options: Options) -> Result<Listing, Al
     Ok(Listing::Within(Listed { union, forms }))
 }
 
+// Notes a network that is left out.
+fn leave(left: &mut Vec<Left>, place: usize, limit: Limit) -> Result<(), AllocError>
+    ensures { OnOk result (left.new.items
+        ≡ left.old.items ++ record { place = place; limit = limit } ∷ []) }
+{
+    let place = place as u32;
+    left.push(Left { place, limit })?;
+    Ok(())
+}
+
 // The networks that may be joined to one.
 #[derive(Clone, Copy)]
 pub(crate) struct Offer<'a> {
@@ -126,10 +136,7 @@ impl Offer<'_> {
                 Listing::Within(more) => listed = more,
                 Listing::Past(limit) => {
                     taken[place] = false;
-                    left.push(Left {
-                        place: place as u32,
-                        limit,
-                    })?;
+                    leave(&mut left, place, limit)?;
                 }
             }
         }
