@@ -18,32 +18,30 @@ use Rattle.lw_netlist.specs.Netlists.{most_gates}
 use Rattle.lw_netlist.specs.Plain.{IsOver, mapped_ports, plain}
 use Rattle.lw_mapped.specs.declared.certificate.Certificate.{Certificate}
 use Rattle.lw_extract.specs.declared.ports.Cover.{Cover}
-use Rattle.lw_map.specs.Choices.{AreChoicesOf}
-use Rattle.lw_map.specs.Mapped.{IsMappedNetlist}
 use Rattle.lw_map.specs.Mappings.{AreCertified}
 use Rattle.lw_map.specs.Options.{plain_options}
+use Rattle.lw_joined.specs.Choices.{IsJoined}
 use Rattle.lw_area.specs.declared.recovering.Case.{Case}
 use Rattle.lw_area.specs.Plain.{plain_settings}
-use Rattle.lw_area.specs.Recovered.{IsRecovered}
+use Rattle.lw_area.specs.Recovered.{IsFastestIn, IsRecovered}
+use Rattle.lw_area.specs.Outcomes.{space_of}
 
 -- when an output arrives, given when each net does
 abbrev pub time_at : List Micro → Port → Micro
 time_at arrivals port = slice_index_or arrivals port.net.0 (record { 0 = 0 })
 
--- the model of a network with the choices of the settings, and least labels of their classes
+-- the model of a network that was joined to others, with the choices of the settings, and least labels of their classes
 pub record IsCase (k : Case) : Type 0 where
   pub library : IsLibrary k.library.now
   pub network : IsNetwork k.model.now.network
   pub model : IsModel k.model.now
-  pub chosen : AreChoicesOf k.model.now.network k.choices.now
-  pub options : plain_options k.choices.now.options ≡ plain_options k.settings.options
-  pub labels : AreLeastMarks k.choices.now.graph (time_cost k.library.now k.model.now.starts) (library_patterns k.library.now) k.labels.now
+  pub joined : IsJoined k.model.now.network k.joined.now
+  pub options : plain_options k.joined.now.choices.options ≡ plain_options k.settings.options
+  pub labels : AreLeastMarks k.joined.now.choices.graph (time_cost k.library.now k.model.now.starts) (library_patterns k.library.now) k.labels.now
 
--- the cover of the netlist that `map` writes
+-- the cover that least labels choose, by whatever links the graph is of
 pub record IsFirst (k : Case) (cover : Cover) : Type 0 where
-  pub mapped : IsMappedNetlist (plain_options k.settings.options) k.library.now k.model.now.network k.model.now.starts cover.netlist
-  pub graph : mapped.is.graph ≡ k.choices.now.graph
-  pub gates : mapped.is.gates ≡ numbers cover.classes
+  pub mapped : (is : IsJoined k.model.now.network k.joined.now) → (fastest : IsFastestIn (plain_settings k.settings) k.library.now (space_of k.model.now.network k.joined.now is) k.model.now.starts cover.netlist) × (fastest.graph ≡ k.joined.now.choices.graph) × (fastest.gates ≡ numbers cover.classes)
   pub over : IsOver k.library.now cover.netlist
   pub few : length cover.netlist.gates ≤ most_gates
 
@@ -53,8 +51,9 @@ AreFirstTimes k cover times = (arrivals : List ℕ) → AreArrivals (timing_of k
 
 -- a cover whose netlist has little area
 pub record IsChosen (k : Case) (cover : Cover) : Type 0 where
-  pub recovered : IsRecovered (plain_settings k.settings) k.library.now k.model.now.network k.model.now.starts cover.netlist
-  pub graph : recovered.matches.graph ≡ k.choices.now.graph
+  pub is : IsJoined k.model.now.network k.joined.now
+  pub recovered : IsRecovered (plain_settings k.settings) k.library.now (space_of k.model.now.network k.joined.now is) k.model.now.starts cover.netlist
+  pub graph : recovered.matches.graph ≡ k.joined.now.choices.graph
   pub gates : recovered.matches.gates ≡ numbers cover.classes
   pub over : IsOver k.library.now cover.netlist
 

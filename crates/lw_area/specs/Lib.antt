@@ -3,8 +3,10 @@ pub mod Plain
 pub mod Deadlines
 pub mod Pages
 pub mod Refusals
+pub mod Sources
 pub mod Recovered
 pub mod Cases
 pub mod Answers
+pub mod Checks
 pub mod Outcomes
 pub mod Promises

@@ -1,13 +1,8 @@
 // A network mapped to the cells of a library with little area.
-ghost use Rattle.std.specs.Prelude.{◌≡◌, ◌≤◌, IfErr, IfOk, length};
-ghost use Rattle.lw_laws.specs.Graphs.{most_classes};
-ghost use Rattle.lw_blif.specs.BlifNetworks.{IsModel};
-ghost use Rattle.lw_netlist.specs.Plain.{IsOver};
-ghost use Rattle.lw_map.specs.Options.{plain_options};
-ghost use Rattle.lw_joined.specs.Choices.{IsJoinedBy};
+ghost use Rattle.std.specs.Prelude.{◌≡◌, IfErr, IfOk};
 ghost use Rattle.lw_joined.specs.Covering.{IsCoveredBy};
 ghost use Rattle.lw_area.specs.Cases.{IsCase, IsCertificateFor, IsChosen, IsFirst};
-ghost use Rattle.lw_area.specs.Outcomes.{IsMade, IsMapFaultOf};
+ghost use Rattle.lw_area.specs.Outcomes.{IsMade, IsMadeOf, IsMapFaultOf};
 ghost use Rattle.lw_area.specs.Plain.{plain_settings};
 ghost use Rattle.lw_area.specs.Sources.{AreSources};
 
@@ -130,7 +125,8 @@ pub(crate) fn map_smaller(
     settings: Settings,
 ) -> Result<Made, MapFault>
     requires { AreSources sources.now }
-    ensures fault { IfErr result (IsMapFaultOf (plain_options settings.options) sources.now) }
+    ensures made { IfOk result (IsMadeOf (plain_settings settings) sources.now) }
+    ensures fault { IfErr result (IsMapFaultOf (plain_settings settings) sources.now) }
 {
     let (library, model) = (&sources.library, &sources.model);
     let joined = joined_of(alloc, sources, settings)?;

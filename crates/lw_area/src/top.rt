@@ -1,5 +1,5 @@
 // The top call.
-ghost use Rattle.std.specs.Prelude.{◌≡◌, ◌≤◌, ◌↔◌, ℕ, List, map, string_bytes, IsErr};
+ghost use Rattle.std.specs.Prelude.{◌≡◌, ◌≤◌, ◌↔◌, [], ℕ, List, map, string_bytes, IsErr};
 ghost use Rattle.lw_io.specs.declared.file.File.{File};
 ghost use Rattle.lw_io.specs.Files.{bytes_of};
 ghost use Rattle.lw_files.specs.Reading.{Known};
@@ -51,7 +51,7 @@ pub fn run<F: Shelf, O: Sink, E: Sink>(
     ensures no_cover { (files : List File) (task : Task) → F.files shelf.old ≡ Some files →
         AsksFor (map string_bytes words.now) task → result ≡ 6 → ((name : List ℕ) ×
         LacksOutput task (bytes_of files) name × Told E.taken E.faults err.old err.new
-        (refusal_line task (Refusal.Unmapped (MapFault.NoCover name)))) }
+        (refusal_line task [] (Refusal.Unmapped (MapFault.NoCover name)))) }
 
     // Words of no form are reported as such, whatever the files.
     ensures words { (result ≡ 1) ↔ IsErr (asked_of (map string_bytes words.now)) }
