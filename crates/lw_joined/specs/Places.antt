@@ -17,5 +17,5 @@ pub record IsFirstStrange (names inputs : List (List ℕ)) (name : List ℕ) : T
   pub before : (other : List ℕ) → Contains (take place inputs) other → Contains names other
 
 abbrev pub IsPlacing : List (List ℕ) → NetworkParts → Places → Type 0
-IsPlacing names other (At places) = ArePlacesOf names (input_names other) places
+IsPlacing names other (At places) = ArePlacesOf names (input_names other) places.items
 IsPlacing names other (Strange name) = IsFirstStrange names (input_names other) name
