@@ -94,7 +94,7 @@ left_lines task (l ∷ left) = (codes "lwarea: " ++ (shown (word_at task l.place
 
 abbrev pub counts_line : Notes → List ℕ
 counts_line notes =
-    codes "lwarea: networks " ++ (decimal notes.networks ++ (codes ", forms " ++ (decimal notes.forms ++ (codes ", pairs equal " ++ (decimal notes.counts.equal ++ (codes ", apart " ++ (decimal notes.counts.apart ++ (codes ", left " ++ (decimal notes.counts.open ++ (codes ", links " ++ (decimal notes.counts.links ++ (codes ", conflicts " ++ (decimal notes.counts.conflicts ++ codes "\n")))))))))))))
+    codes "lwarea: networks " ++ (decimal notes.networks ++ (codes ", forms " ++ (decimal notes.forms ++ (codes ", pairs equal " ++ (decimal notes.counts.equal ++ (codes ", apart " ++ (decimal notes.counts.apart ++ (codes ", left " ++ (decimal notes.counts.open ++ (codes ", links " ++ (decimal notes.counts.links ++ (codes ", conflicts " ++ (decimal notes.counts.conflicts ++ (codes ", ms to read " ++ (decimal notes.times.read ++ (codes ", to join " ++ (decimal notes.times.joined ++ (codes ", to map " ++ (decimal notes.times.mapped ++ codes "\n")))))))))))))))))))
 
 abbrev pub notes_lines : Task → Notes → List ℕ
 notes_lines task notes = if task.settings.counted then left_lines task notes.left.items ++ counts_line notes else left_lines task notes.left.items

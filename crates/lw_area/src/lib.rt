@@ -5,7 +5,8 @@
 //! netlist on the first stream, or a line on the second one. `words` says what is asked for,
 //! `sources` reads the files, `deadlines` says by when outputs have to arrive, `recovering` looks for
 //! a smaller cover, `mapping` makes the netlist, `checking` has the verdict on one, `refusal` lists
-//! why there is none, `telling` has the lines and the pages, and `top` takes them together. The definition to read is `IsRecovered` in `specs/Recovered.antt`.
+//! why there is none, `timing` says how long parts took, `telling` has the lines and the pages, and
+//! `top` takes them together. The definition to read is `IsRecovered` in `specs/Recovered.antt`.
 //! The program crate `lwarea` calls `run`.
 #![tactic(auto)]
 
@@ -17,6 +18,7 @@ mod recovering;
 mod refusal;
 mod sources;
 mod telling;
+mod timing;
 mod top;
 mod words;
 

@@ -8,6 +8,7 @@ ghost use Rattle.lw_area.specs.Sources.{AreSources};
 
 use crate::recovering::Case;
 use crate::sources::{Sources, others_of};
+use crate::timing::{Began, Times};
 use crate::words::Settings;
 use lw_extract::Cover;
 use lw_joined::{Counts, Covered, Joined, Left, cover, join};
@@ -15,6 +16,7 @@ use lw_map::{CertifiedNetlist, MapFault, certificate};
 use lw_mapped::Certificate;
 use lw_pool::Classes;
 use std::alloc::{AllocError, Global};
+use std::time::Clock;
 
 /// What is said of a run beside its answer: the networks that were left out, and what was done to
 /// find links among how many forms of how many networks.
@@ -24,6 +26,7 @@ pub struct Notes {
     pub counts: Counts,
     pub networks: usize,
     pub forms: u32,
+    pub times: Times,
 }
 
 /// A netlist with its certificate where it is asked for, and what is said of the run.
@@ -118,9 +121,12 @@ pub(crate) fn joined_of(
 }
 
 /// What a library, a network and further ones come to: a netlist in which each output of the network
-/// arrives by its deadline, with its certificate where it is asked for.
-pub(crate) fn map_smaller(
+/// arrives by its deadline, with its certificate where it is asked for. Reading the files took so
+/// many milliseconds.
+pub(crate) fn map_smaller<C: Clock>(
     alloc: Global,
+    clock: &C,
+    read: u128,
     sources: &Sources,
     settings: Settings,
 ) -> Result<Made, MapFault>
@@ -129,7 +135,10 @@ pub(crate) fn map_smaller(
     ensures fault { IfErr result (IsMapFaultOf (plain_settings settings) sources.now) }
 {
     let (library, model) = (&sources.library, &sources.model);
+    let began = Began::now(clock);
     let joined = joined_of(alloc, sources, settings)?;
+    let linked = began.millis(clock);
+    let began = Began::now(clock);
     let covered = cover(alloc, library, &model.network, &model.starts, &joined)?;
     let mapped = made_smaller(alloc, sources, settings, &joined, covered)?;
     Ok(Made {
@@ -139,6 +148,11 @@ pub(crate) fn map_smaller(
             forms: joined.choices.forms,
             counts: joined.counts,
             left: joined.left,
+            times: Times {
+                read,
+                joined: linked,
+                mapped: began.millis(clock),
+            },
         },
     })
 }

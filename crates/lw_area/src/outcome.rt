@@ -10,11 +10,13 @@ use crate::mapping::{Made, Notes, map_smaller};
 use crate::refusal::Refusal;
 use crate::sources::{Sources, read_sources};
 use crate::telling::{USAGE, VERSION};
+use crate::timing::Began;
 use crate::words::{Asked, Settings, Task};
 use lw_io::{Failed, Shelf, Sink, write_all};
 use lw_map::Verdict;
 use lw_mapped::write;
 use std::alloc::Global;
+use std::time::Clock;
 
 /// What was read, and the netlist that it is mapped to.
 #[derive(Drop)]
@@ -35,11 +37,17 @@ pub enum Ending {
 }
 
 // What the files come to.
-fn map_read(alloc: Global, sources: Sources, settings: Settings) -> Result<Answer, Refusal>
+fn map_read<C: Clock>(
+    alloc: Global,
+    clock: &C,
+    read: u128,
+    sources: Sources,
+    settings: Settings,
+) -> Result<Answer, Refusal>
     requires { AreSources sources }
     ensures { Gives (plain_settings settings) sources result }
 {
-    match map_smaller(alloc, &sources, settings) {
+    match map_smaller(alloc, clock, read, &sources, settings) {
         Ok(made) => Ok(Answer { sources, made }),
         Err(fault) => {
             drop(sources);
@@ -49,11 +57,17 @@ fn map_read(alloc: Global, sources: Sources, settings: Settings) -> Result<Answe
 }
 
 // Reads the files and maps the network.
-fn respond<F: Shelf>(alloc: Global, task: Task<'_>, shelf: &mut F) -> Result<Answer, Refusal>
+fn respond<F: Shelf, C: Clock>(
+    alloc: Global,
+    clock: &C,
+    task: Task<'_>,
+    shelf: &mut F,
+) -> Result<Answer, Refusal>
     ensures { Responds F.files F.faults shelf.old shelf.new (plain_task task.entry) result }
 {
+    let began = Began::now(clock);
     let sources = read_sources(alloc, task, shelf)?;
-    map_read(alloc, sources, task.settings)
+    map_read(alloc, clock, began.millis(clock), sources, task.settings)
 }
 
 // Writes the text of an answer.
@@ -130,8 +144,9 @@ fn judge<F: Shelf, O: Sink>(
 }
 
 /// Does what is asked for. The whole answer stands before its first byte is written.
-pub(crate) fn serve<F: Shelf, O: Sink>(
+pub(crate) fn serve<F: Shelf, O: Sink, C: Clock>(
     alloc: Global,
+    clock: &C,
     asked: Asked<'_>,
     shelf: &mut F,
     out: &mut O,
@@ -143,7 +158,7 @@ pub(crate) fn serve<F: Shelf, O: Sink>(
     match asked {
         Asked::Usage => write_page(USAGE, out),
         Asked::Version => write_page(VERSION, out),
-        Asked::Mapping(task) => match respond(alloc, task, shelf) {
+        Asked::Mapping(task) => match respond(alloc, clock, task, shelf) {
             Ok(answer) => write_answer(answer, out),
             Err(refusal) => Ending::Refused(refusal),
         },

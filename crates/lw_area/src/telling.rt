@@ -179,7 +179,10 @@ fn put_counts<E: Sink>(out: &mut Writer<'_, E>, notes: &Notes)
     put_count(out, b", apart ", u128::from(counts.apart), b"");
     put_count(out, b", left ", u128::from(counts.open), b"");
     put_count(out, b", links ", u128::from(counts.links), b"");
-    put_count(out, b", conflicts ", u128::from(counts.conflicts), b"\n");
+    put_count(out, b", conflicts ", u128::from(counts.conflicts), b"");
+    put_count(out, b", ms to read ", notes.times.read, b"");
+    put_count(out, b", to join ", notes.times.joined, b"");
+    put_count(out, b", to map ", notes.times.mapped, b"\n");
 }
 
 // What is said of a run beside its answer.

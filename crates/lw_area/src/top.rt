@@ -18,14 +18,16 @@ use crate::telling::{tell_ending, tell_word};
 use crate::words::asked_of;
 use lw_io::{Shelf, Sink};
 use std::alloc::Global;
+use std::time::Clock;
 
 /// Does what the words ask for, and answers the exit status.
 ///
 /// It reads the files that the words name, one after another and each once. The whole answer stands
 /// before the first byte goes to `out`. At a status other than 0 it writes one line to `err`, whose
 /// faults change no status.
-pub fn run<F: Shelf, O: Sink, E: Sink>(
+pub fn run<F: Shelf, O: Sink, E: Sink, C: Clock>(
     alloc: Global,
+    clock: &C,
     words: &[String],
     shelf: &mut F,
     out: &mut O,
@@ -77,7 +79,7 @@ pub fn run<F: Shelf, O: Sink, E: Sink>(
             return 1;
         }
     };
-    let ending = serve(alloc, asked, shelf, out);
+    let ending = serve(alloc, clock, asked, shelf, out);
     let _ = tell_ending(&asked, &ending, err);
     ending.status()
 }
