@@ -7,4 +7,5 @@ pub mod Names
 pub mod Paths
 pub mod Placing
 pub mod Rise
+pub mod Unions
 pub mod Writing
