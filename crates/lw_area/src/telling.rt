@@ -108,12 +108,7 @@ fn word_at<'a>(task: &Task<'a>, place: usize) -> &'a [u8] {
 }
 
 // Why there is no answer, where a netlist that is checked has this word.
-fn put_refusal<E: Sink>(
-    out: &mut Writer<'_, E>,
-    task: &Task<'_>,
-    mapped: &[u8],
-    refusal: &Refusal,
-)
+fn put_refusal<E: Sink>(out: &mut Writer<'_, E>, task: &Task<'_>, mapped: &[u8], refusal: &Refusal)
     ensures { Writes E.taken E.faults out.old out.new
         (refusal_text (plain_task task.now) mapped.now refusal.now) }
 {

@@ -87,12 +87,14 @@ module _ (forms : NumberedForms) (f h : ℕ) where
 
     values_stay : (x : ℕ → Bool) → (value : ℕ → Bool) × AreNumberedValues more x value
     values_stay x =
-        let (value, are) = kept.values x in
-        (value, record {
-          flips = are.flips;
-          bases = are.bases;
-          signals = λ a b is. by value are a b (cases a b is);
-        })
+        let (value, are) = kept.values x in (
+          value,
+          record {
+            flips = are.flips;
+            bases = are.bases;
+            signals = λ a b is. by value are a b (cases a b is);
+          },
+        )
       where
         by : (value : ℕ → Bool) → AreNumberedValues forms x value → (a b : ℕ) → IsSignal forms a b ⊎ ((a ≡ f) × (b ≡ h)) → value a ≡ value b
         by value are a b (inl before) = are.signals a b before

@@ -51,7 +51,16 @@ pub fn cover(
     let ports = ports(alloc, net, &joined.choices)?;
     let found = relabel_with_bounds(alloc, graph, &pats, &cost)?;
     let (labels, bounds) = (found.labels, found.bounds);
-    match extract_with(alloc, graph, &pats, lib, &labels, Some(&bounds), &ports, &cost) {
+    match extract_with(
+        alloc,
+        graph,
+        &pats,
+        lib,
+        &labels,
+        Some(&bounds),
+        &ports,
+        &cost,
+    ) {
         Ok(cover) => Ok(Covered { cover, labels }),
         Err(ExtractFault::NoCover(place)) => Err(uncovered(alloc, net, place)),
         Err(ExtractFault::Memory) => Err(MapFault::Memory),

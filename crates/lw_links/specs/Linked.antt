@@ -1,5 +1,5 @@
 -- Literals of listed forms, and lists of forms with further pairs.
-use Rattle.std.specs.Prelude.{ℕ, ◌+◌, ◌*◌, ◌/◌, ◌%◌, ◌<◌, ◌≡◌, ◌==◌, Bool, Some, List, ◌++◌, length, slice_get, slice_index_or, All, if◌then◌else◌}
+use Rattle.std.specs.Prelude.{ℕ, ◌+◌, ◌*◌, ◌/◌, ◌%◌, ◌<◌, ◌≤◌, ◌≡◌, ◌==◌, Bool, Some, List, ◌++◌, length, slice_get, slice_index_or, All, if◌then◌else◌}
 use Rattle.lw_aig.specs.declared.gate.Gate.{Gate}
 use Rattle.lw_aig.specs.declared.literal.Literal.{Literal}
 use Rattle.lw_aig.specs.Aigs.{AreNodeValues, IsBelow}
@@ -21,6 +21,7 @@ pub record HasBaseValue (gates : List Gate) (forms : NumberedForms) (b : ℕ) (l
 -- By base form, from the first on, a literal that has its value; the graph has the inputs first.
 pub record StandFor (gates : List Gate) (forms : NumberedForms) (literals : List Literal) : Type 0 where
   pub inputs : IsExtended (inputs_alone forms.inputs) gates
+  pub few : length literals ≤ length forms.bases
   pub each : (b : ℕ) (d : Literal) → b < length literals → HasBaseValue gates forms b (slice_index_or literals b d)
 
 -- the literal of a form, by those of the base forms

@@ -1,5 +1,7 @@
 // Pairs of all forms that have one node.
-ghost use Rattle.std.specs.Prelude.{OnOk};
+ghost use Rattle.std.specs.Prelude.{◌≤◌, length, OnOk};
+ghost use Rattle.lw_form.specs.Limits.{most_bases};
+ghost use Rattle.lw_laws.specs.NumberedForms.{NumberedForms};
 ghost use Rattle.lw_links.specs.Linked.{IsLinked, TellPairs};
 
 use crate::literals::form_literals;
@@ -32,26 +34,33 @@ fn link_base(
     first: &mut [u32],
     b: u32,
 ) -> Result<(), AllocError>
-    requires { TellPairs forms.old literals.now }
-    ensures { OnOk result (IsLinked forms.old forms.new) }
+    requires tell { TellPairs forms.old literals.now }
+    requires few { length literals.now ≤ most_bases }
+    ensures { (before : NumberedForms) → IsLinked before forms.old → TellPairs before literals.now →
+        OnOk result (IsLinked before forms.new) }
 {
-    let Some(literal) = literals.get(b as usize) else {
-        return Ok(());
-    };
-    let Some(place) = first.get_mut(literal.node() as usize) else {
-        return Ok(());
-    };
-    if *place == NONE {
-        *place = b;
-        return Ok(());
-    }
     if forms.is_full() {
         return Ok(());
     }
-    match pair_of(forms, literals, *place, b) {
+    match pair_of(literals, noted(literals, first, b), b) {
         Some(pair) => forms.link(pair.left, pair.right),
         None => Ok(()),
     }
+}
+
+// The base form that was noted for the node of another one, which is noted where none was.
+fn noted(literals: &[Literal], first: &mut [u32], b: u32) -> u32 {
+    let Some(literal) = literals.get(b as usize) else {
+        return NONE;
+    };
+    let Some(place) = first.get_mut(literal.node() as usize) else {
+        return NONE;
+    };
+    let before = *place;
+    if before == NONE {
+        *place = b;
+    }
+    before
 }
 
 // Links each base form to the first one whose literal is of its node.
@@ -61,7 +70,8 @@ fn link_all(
     literals: &[Literal],
     nodes: usize,
 ) -> Result<(), AllocError>
-    requires { TellPairs forms.old literals.now }
+    requires tell { TellPairs forms.old literals.now }
+    requires few { length literals.now ≤ most_bases }
     ensures { OnOk result (IsLinked forms.old forms.new) }
 {
     let mut first = vec![in alloc; NONE; nodes]?;
