@@ -29,8 +29,11 @@ pub(crate) fn pair_of(literals: &[Literal], a: u32, b: u32) -> Option<FormPair>
     ensures { (forms : NumberedForms) → TellPairs forms literals.now →
         IfSome result (λ pair. HaveOneValue forms pair.left.0 pair.right.0) }
 {
-    let one = *literals.get(a as usize)?;
-    let other = *literals.get(b as usize)?;
+    if a as usize >= literals.len() || b as usize >= literals.len() {
+        return None;
+    }
+    let one = literals[a as usize];
+    let other = literals[b as usize];
     if one.node() != other.node() {
         return None;
     }
