@@ -15,9 +15,10 @@ use Rattle.lw_map.specs.declared.fault.MapFault.TheVariants.{NoCover, Memory}
 use Rattle.lw_area.specs.declared.refusal.Refusal.TheVariants.{Unmapped}
 use Rattle.lw_area.specs.declared.sources.Further.{Further}
 use Rattle.lw_area.specs.Recovered.{IsRecoveredText, IsSpace, Space, form_in, listing_in}
-use Rattle.lw_area.specs.Sources.{IsUnionOf, ReadsAll, Step}
+use Rattle.lw_area.specs.Sources.{IsUnionOf, ReadsAll}
+pub use Rattle.lw_area.specs.Sources.{Step}
 use Rattle.lw_area.specs.Words.{Settings, Task}
-pub use Rattle.lw_area.specs.Sources.{HasReason}
+pub use Rattle.lw_area.specs.Sources.{HasReason, in_library, in_network}
 
 -- no cover by the library is of a tree that the rules and the links derive for the output
 abbrev pub IsUncoveredIn : Settings → List CellParts → Space → List Micro → NetId → Type 0

@@ -6,6 +6,8 @@ use Rattle.lw_net.specs.Networks.{NetworkParts, plain}
 use Rattle.lw_net.specs.Unions.{ArePlacesIn, bare, joined_to}
 use Rattle.lw_map.specs.Options.{Options, plain_options}
 use Rattle.lw_map.specs.Mapped.{HasTooManyForms, HasTooManySplits}
+use Rattle.lw_map.specs.declared.fault.MapFault.{MapFault}
+use Rattle.lw_map.specs.declared.fault.MapFault.TheVariants as fault
 use Rattle.lw_joined.specs.declared.uniting.Other.{Other}
 use Rattle.lw_joined.specs.declared.uniting.Union.{Union}
 use Rattle.lw_joined.specs.declared.taking.Left.{Left}
@@ -56,6 +58,12 @@ abbrev pub IsPast : Options → NetworkParts → Limit → Type 0
 IsPast options union Signals = most_signals < length union.names
 IsPast options union Forms = HasTooManyForms options union
 IsPast options union Splits = HasTooManySplits options union
+
+-- why a network is refused that passes a limit alone; it never has too many signals
+abbrev pub limit_fault : Limit → MapFault
+limit_fault Forms = fault.Forms
+limit_fault Splits = fault.Splits
+limit_fault Signals = fault.Memory
 
 abbrev pub union_in : Offer → List Bool → NetworkParts
 union_in o taken = united o.net.now o.others.now taken

@@ -1,8 +1,9 @@
 // Which networks are within the limits.
-ghost use Rattle.std.specs.Prelude.{◌≡◌, ◌++◌, [], ◌∷◌, Bool, List, length, All, IfOk, IfErr, OnOk};
+ghost use Rattle.std.specs.Prelude.{◌≡◌, ◌≢◌, ◌++◌, [], ◌∷◌, Bool, List, length, All, IfOk, IfErr, OnOk};
 ghost use Rattle.lw_map.specs.Faults.{IsChoiceFault};
 ghost use Rattle.lw_map.specs.Options.{plain_options};
-ghost use Rattle.lw_joined.specs.Unions.{AreTaken, FitsOther, ListsUnion};
+ghost use Rattle.lw_joined.specs.Unions.{AreTaken, FitsOther, ListsUnion, limit_fault};
+ghost use Rattle.lw_joined.specs.declared.taking.Limit.TheVariants.{Signals};
 
 use crate::Other;
 use crate::uniting::{Union, union_of};
@@ -57,11 +58,14 @@ const MOST_SPLITS: u64 = 16_777_216;
 
 impl Limit {
     // Why the first network is refused, where it passes the limit alone.
-    fn fault(self) -> MapFault {
+    fn fault(self) -> MapFault
+        requires { self ≢ Signals }
+        ensures { result ≡ limit_fault self }
+    {
         match self {
             Limit::Forms => MapFault::Forms,
             Limit::Splits => MapFault::Splits,
-            Limit::Signals => MapFault::Memory,
+            Limit::Signals => unreachable!(),
         }
     }
 }

@@ -1,5 +1,5 @@
 -- Lists of forms with further pairs.
-use Rattle.std.proofs.Common.{ℕ, zero, suc, ◌+◌, ◌*◌, ◌/◌, ◌%◌, ◌<◌, ◌≤◌, ◌≡◌, ◌⊎◌, inl, inr, Bool, List, [], ◌∷◌, ◌++◌, length, Some, slice_get, refl, ap, ap₂, sym, ◌∙◌, subst, arith, append_assoc}
+use Rattle.std.proofs.Common.{ℕ, zero, suc, ◌+◌, ◌*◌, ◌/◌, ◌%◌, ◌<◌, ◌≤◌, ◌≡◌, ◌⊎◌, inl, inr, Bool, List, [], ◌∷◌, ◌++◌, length, Some, slice_get, Result, Ok, Err, MatchResult, OnOk, refl, ap, ap₂, sym, ◌∙◌, subst, arith, append_assoc}
 use Rattle.std.proofs.lemmas.List.{append-nil, length-append}
 use Rattle.lw_aig.specs.declared.literal.Literal.{Literal}
 use Rattle.lw_laws.specs.NumberedForms.{NumberedForms, IsSignal}
@@ -33,6 +33,12 @@ they_still_tell old new literals linked tell = record {
   each = λ a b l m at at' same. one_value_stays old new (2 * a + l.0 % 2) (2 * b + m.0 % 2) linked (tell.each a b l m at at' same);
 }
 
+nothing : List ℕ
+nothing = []
+
+none_at : (k f : ℕ) → slice_get nothing k ≡ Some f → ⊥
+none_at k f e = cc
+
 pub linked_same : (forms : NumberedForms) → IsLinked forms forms
 linked_same forms = record {
   inputs = refl;
@@ -42,11 +48,8 @@ linked_same forms = record {
   one_each = refl;
   sops = sym (append-nil forms.sops);
   facs = sym (append-nil forms.facs);
-  each = λ k f h e d. absurd (none-at k f e);
+  each = λ k f h e d. absurd (none_at k f e);
 }
-  where
-    none-at : (k f : ℕ) → slice_get {ℕ} [] k ≡ Some f → ⊥
-    none-at k f e = cc
 
 -- a list with more pairs and one more
 pub linked_more : (old now : NumberedForms) (f h : ℕ) → IsLinked old now → HaveOneValue old f h → IsLinked old (with_pair now f h)
@@ -72,3 +75,8 @@ linked_more old now f h linked one = record {
     by : (k a b : ℕ) → ((slice_get linked.lefts k ≡ Some a) × (slice_get linked.rights k ≡ Some b)) ⊎ ((a ≡ f) × (b ≡ h)) → HaveOneValue old a b
     by k a b (inl (p, q)) = linked.each k a b p q
     by k a b (inr (p, q)) = subst (λ n. HaveOneValue old n b) (sym p) (subst (HaveOneValue old f) (sym q) one)
+
+-- the same where a pair may have been added
+pub linked_result : {A E : Type 0} (before old new : NumberedForms) (f h : ℕ) (result : Result A E) → MatchResult result (λ _. new ≡ with_pair old f h) (λ _. new ≡ old) → IsLinked before (with_pair old f h) → OnOk result (IsLinked before new)
+linked_result before old new f h (Ok x) is linked = subst (IsLinked before) (sym is) linked
+linked_result before old new f h (Err e) is linked = tt
