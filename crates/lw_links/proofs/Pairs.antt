@@ -1,6 +1,7 @@
 -- Lists of forms with further pairs.
 use Rattle.std.proofs.Common.{ℕ, zero, suc, ◌+◌, ◌*◌, ◌/◌, ◌%◌, ◌<◌, ◌≤◌, ◌≡◌, ◌⊎◌, inl, inr, Bool, List, [], ◌∷◌, ◌++◌, length, Some, slice_get, Result, Ok, Err, MatchResult, OnOk, refl, ap, ap₂, sym, ◌∙◌, subst, arith, append_assoc}
 use Rattle.std.proofs.lemmas.List.{append-nil, length-append}
+use Rattle.std.proofs.lemmas.Option.{none-some}
 use Rattle.lw_aig.specs.declared.literal.Literal.{Literal}
 use Rattle.lw_laws.specs.NumberedForms.{NumberedForms, IsSignal}
 use Rattle.lw_laws.specs.NumberedValues.{AreNumberedValues}
@@ -33,12 +34,6 @@ they_still_tell old new literals linked tell = record {
   each = λ a b l m at at' same. one_value_stays old new (2 * a + l.0 % 2) (2 * b + m.0 % 2) linked (tell.each a b l m at at' same);
 }
 
-nothing : List ℕ
-nothing = []
-
-none_at : (k f : ℕ) → slice_get nothing k ≡ Some f → ⊥
-none_at k f e = cc
-
 pub linked_same : (forms : NumberedForms) → IsLinked forms forms
 linked_same forms = record {
   inputs = refl;
@@ -48,7 +43,7 @@ linked_same forms = record {
   one_each = refl;
   sops = sym (append-nil forms.sops);
   facs = sym (append-nil forms.facs);
-  each = λ k f h e d. absurd (none_at k f e);
+  each = λ k f h e d. absurd (none-some f e);
 }
 
 -- a list with more pairs and one more
