@@ -7,11 +7,17 @@
 #![tactic(auto)]
 
 mod classes;
+mod cone;
+mod forms;
 mod limits;
+mod parity;
 mod patterns;
+mod plain;
 mod random;
+mod rows;
 mod simplifying;
 mod starting;
+mod summing;
 mod sweep;
 
 pub use limits::{Counts, Limits};
