@@ -9,15 +9,19 @@ import subprocess
 import tempfile
 import time
 
+import area
+import equal
 import maps
 import parts
 import record
 from lib import program, script
-from measure import ABC, LIMIT, RUNS, Kept, Library, Room, head, mean, row, said
+from measure import ABC, LIMIT, RUNS, Kept, Library, Room, hash_of, head, mean, row, said
 
 HERE = os.path.dirname(os.path.realpath(__file__))
+NAMES = "lwmap", "lwarea", "lwequal"
+EFFORTS = os.environ.get("EFFORTS", "123")
 LIBRARIES = os.environ.get("LIBS", "tiny mcnc rich").split()
-PARTS = "machine maps sizes others loads trade luts widths idempotence certificates texts goals record"
+PARTS = "machine maps sizes others loads areas equal trade luts widths idempotence certificates texts goals record"
 # The part of the processor time of ABC's map that 'map' is to take, starts included.
 GOALS = {"tiny": 0.10, "mcnc": 0.12, "rich": 0.20}
 
@@ -44,7 +48,9 @@ def machine(room):
 
     def row(*cells):
         rows.append(cells)
-    row("program", f"SHA-256 {first_line('sha256sum', room.program).split()[0][:16]}, {os.path.getsize(room.program)} bytes")
+    for name in filter(program.has, NAMES):
+        path = program.path(name)
+        row(name, f"SHA-256 {hash_of(path)[:16]}, {os.path.getsize(path)} bytes")
     row("date", time.strftime("%Y-%m-%d %H:%M"))
     row("processor", f"{value_of('/proc/cpuinfo', 'model name')}, {os.cpu_count()} processors, one used")
     row("memory", f"{int(value_of('/proc/meminfo', 'MemTotal').split()[0]) / 1048576:.1f} GB")
@@ -114,6 +120,7 @@ def measure(room, kept, wanted, sets, own):
     """Each part that is wanted, in order; own are those that need the repository's circuits."""
     libraries = [Library(room, name, os.path.join(HERE, "libs", name + ".genlib")) for name in LIBRARIES]
     first = next(iter(sets.values()))
+    mcnc = next((library for library in libraries if library.name == "mcnc"), libraries[0])
     every = {circuit: path for circuits in sets.values() for circuit, path in circuits.items()}
     found, trades, printed = {}, {}, {}
     if "machine" in wanted:
@@ -125,11 +132,15 @@ def measure(room, kept, wanted, sets, own):
         found, verdicts = maps.measure(room, kept, libraries, sets)
         maps.report(found, verdicts)
     if "sizes" in wanted and ABC:
-        parts.sizes(room, kept, next((library for library in libraries if library.name == "mcnc"), libraries[0]))
+        parts.sizes(room, kept, mcnc)
     if "others" in wanted and ABC:
         parts.others(room, kept, every)
     if "loads" in wanted and ABC:
         parts.loads(room, kept, every)
+    if "areas" in wanted and ABC and program.has("lwarea"):
+        area.part(room, kept, libraries, every, EFFORTS)
+    if "equal" in wanted and ABC and program.has("lwequal"):
+        equal.part(room, kept, mcnc, every)
     if "trade" in wanted:
         trades = parts.trade(room, kept, libraries, first)
     if "luts" in wanted and ABC:
@@ -157,7 +168,7 @@ def main(words):
     if not all(sets.values()):
         raise script.Fault(f"there is no .blif in {folders[0]}")
     with tempfile.TemporaryDirectory() as folder:
-        kept = Kept(program.path())
+        kept = Kept([program.path(name) for name in NAMES if program.has(name)])
         measure(Room(folder, program.path()), kept, os.environ.get("PARTS", PARTS).split(), sets, not words)
     print(f"All of this took {kept.seconds() / 60:.0f} processor minutes; load average at the end {os.getloadavg()[0]:.1f}.")
 

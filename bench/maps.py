@@ -2,7 +2,7 @@
 import os
 import statistics
 
-from lib import fronts
+from lib import fronts, program
 from measure import ABC, UNMAP, common, counted, head, mean, plain, ratio, row, said
 
 ROUNDS = fronts.rounds(3)
@@ -25,8 +25,16 @@ class Circuit:
         if size:
             self.figures[key], self.figures[key + " area"] = size
             self.figures[key + " MB"] = run.memory
+            if key.removeprefix("after ") in ("given", *MAPPED) and program.has("lwarea"):
+                self.recovered(key, path)
             if ABC and os.environ.get("CEC") and key in ("given", "after three rounds"):
                 self.figures["verdicts"].append(self.room.equivalent(self.network, self.library.plain(self.room, run.out)))
+
+    def recovered(self, key, path):
+        """lwarea at its default deadline and effort, by which the greatest arrival is that of 'map'."""
+        run = self.room.once([program.path("lwarea"), self.library.path, path], "recovered.blif")
+        if run.ok():
+            self.figures[key + " recovered"], self.figures[key + " recovered area"] = self.library.size(run.out)
 
     def theirs(self, key, script, then=""):
         run, size = self.room.mapped_by_abc(self.library, self.network, script, then)
@@ -117,6 +125,17 @@ def front_ends(found):
     print()
 
 
+def recovery(found):
+    print("### Front ends with `lwarea`\n")
+    columns = ["given recovered", *(f"after {name} recovered" for name in MAPPED)]
+    head("set, library", "circuits in common", *(column.removesuffix(" recovered") for column in columns))
+    for (folder, library), figures in found.items():
+        among = common(figures, ["map", *columns])
+        row(f"{folder}, {library}", len(among), *[ratio(figures, name, "map", 3, among)[0] + ", " +
+                                                  ratio(figures, name + " area", "map area", 2, among)[0] for name in columns])
+    print()
+
+
 def times(found):
     print("### Run time and memory of `map` and of ABC's `strash; map`\n")
     head("set, library", "circuits", "time, mean ratio", "starts left out", "slower than ABC", "total s of `lwmap`", "of ABC",
@@ -170,5 +189,7 @@ def report(found, verdicts):
     joined = with_all(found)
     summary(joined, verdicts)
     front_ends(joined)
+    if any("given recovered" in f for figures in found.values() for f in figures.values()):
+        recovery(joined)
     times(joined)
     circuits(found)

@@ -106,16 +106,15 @@ class Room:
 
 class Kept:
     """What was measured, by the words that name it. KEEP names a file that keeps it, so that a run that was ended can go on; it is for
-    one program alone."""
+    the same programs alone."""
 
-    def __init__(self, program):
-        with open(program, "rb") as file:
-            self.found = {"program": hashlib.sha256(file.read()).hexdigest()}
+    def __init__(self, programs):
+        self.found = {"program": " ".join(hash_of(path) for path in programs)}
         if KEEP and os.path.exists(KEEP):
             with open(KEEP, encoding="ascii") as file:
                 known = json.load(file)
             if known["program"] != self.found["program"]:
-                raise script.Fault(f"{KEEP} keeps figures of another program")
+                raise script.Fault(f"{KEEP} keeps figures of other programs")
             self.found = known
 
     def of(self, *words, make):
@@ -137,6 +136,11 @@ class Kept:
 
     def seconds(self):
         return sum(part["seconds"] for name, part in self.found.items() if name != "program")
+
+
+def hash_of(path):
+    with open(path, "rb") as file:
+        return hashlib.sha256(file.read()).hexdigest()
 
 
 def spent():

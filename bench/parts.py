@@ -5,6 +5,7 @@ import re
 import subprocess
 import sys
 
+from lib import program
 from lib.liberty import without
 from maps import ROUNDS, SCRIPTS
 from measure import ABC, LIMIT, UNMAP, Library, common, counted, head, mean, ratio, row, said, table_size
@@ -217,15 +218,17 @@ KINDS = {"as given": "map", "after three rounds": "three rounds"}
 
 
 def both_mapped(room, library, network, script):
-    """Delay and area of ABC's netlist after a script that ends in 'map', and of ours, of the network as given or of ABC's netlist; our run."""
+    """Delay and area of ABC's netlist after a script that ends in 'map', and of ours, of the network as given or of ABC's netlist; our run
+    and its network."""
     front = room.path("front.blif")
     _, theirs = room.mapped_by_abc(library, network, script, f"{UNMAP}; write_blif {front}")
-    run, ours = room.mapped(library, network if script == SCRIPTS["map"] else front, "map")
-    return theirs, ours, run
+    path = network if script == SCRIPTS["map"] else front
+    run, ours = room.mapped(library, path, "map")
+    return theirs, ours, run, path
 
 
 def other_circuit(room, library, network, script):
-    theirs, ours, _ = both_mapped(room, library, network, script)
+    theirs, ours, *_ = both_mapped(room, library, network, script)
     return {**(dict(zip(("abc", "abc area"), theirs)) if theirs else {}), **(dict(zip(("lwmap", "lwmap area"), ours)) if ours else {})}
 
 
@@ -269,10 +272,14 @@ def script_to(path, *words):
 def loads_circuit(room, library, liberty, network, script):
     """The figures of both mappers, as given or after the commands of a script that ends in 'map'."""
     f = {}
-    theirs, ours, run = both_mapped(room, library, network, script)
+    theirs, ours, run, given = both_mapped(room, library, network, script)
     if not theirs or not ours:
         return f
-    for who, size, path, cells in (("lwmap", ours, run.out, library.path), ("abc", theirs, room.path("abc.blif"), library.peers)):
+    netlists = [("lwmap", ours, run.out, library.path), ("abc", theirs, room.path("abc.blif"), library.peers)]
+    if program.has("lwarea"):
+        run = room.once([program.path("lwarea"), library.path, given], "recovered.blif")
+        netlists += [("lwarea", library.size(run.out), run.out, library.path)] if run.ok() else []
+    for who, size, path, cells in netlists:
         f[who + " own"], f[who + " own area"] = size
         script_to(room.path("nowires"), sys.executable, os.path.join(ROOT, "tools", "nowires.py"), cells, path)
         for step, (area, delay) in zip(STEPS, stime(room, liberty, room.path("nowires"))):
@@ -291,17 +298,20 @@ def loads(room, kept, circuits):
         out.write(without([], text.read())[0])
     script_to(room.path("liberty.genlib"), "sh", os.path.join(ROOT, "tools", "liberty.sh"), liberty)
     library = Library(room, "liberty", room.path("liberty.genlib"))
-    head(f"{os.path.basename(liberty)}, {len(circuits)} circuits", "figure", "circuits", "`lwmap` to ABC's `map`", "lower/equal/higher",
-         "area")
+    ours = ["lwmap"] + ["lwarea"] * program.has("lwarea")
+    head(f"{os.path.basename(liberty)}, {len(circuits)} circuits", "figure", "circuits",
+         *[cell for who in ours for cell in (f"`{who}` to ABC's `map`", "lower/equal/higher", "area")])
     for kind, name in KINDS.items():
         figures = {}
         for circuit, network in circuits.items():
             figures[circuit] = kept.of("loads", kind, circuit, make=lambda: loads_circuit(room, library, room.path("given.lib"), network,
                                                                                           SCRIPTS[name]))
         for step in ["own", *STEPS]:
-            delay, number, order = ratio(figures, "lwmap " + step, "abc " + step)
-            row(kind, {"own": "block delays"}.get(step, f"`stime`, {step}"), number, delay, order,
-                ratio(figures, f"lwmap {step} area", f"abc {step} area", 2)[0])
+            cells, number = [], ratio(figures, "lwmap " + step, "abc " + step)[1]
+            for who in ours:
+                delay, _, order = ratio(figures, f"{who} {step}", "abc " + step)
+                cells += [delay, order, ratio(figures, f"{who} {step} area", f"abc {step} area", 2)[0]]
+            row(kind, {"own": "block delays"}.get(step, f"`stime`, {step}"), number, *cells)
     print()
 
 

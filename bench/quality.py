@@ -20,7 +20,6 @@ means can be compared if both have all circuits. One step at a time is run.
 import csv
 import getopt
 import glob
-import hashlib
 import json
 import os
 import re
@@ -31,12 +30,13 @@ import tempfile
 
 from lib import abc, blif, fronts, genlib, library, program, runs, script, search
 from lib.script import Fault
-from measure import counts, head, mean, said
+from measure import counts, hash_of, head, mean, said
 from measure import row as print_row
 
 OSU = "/usr/share/qflow/tech/osu035/osu035_stdcells.lib"
 THEIRS = ["map", "dch; map", *(f"{k} round{'s' * (k > 1)}" for k in range(1, 5))]
 BEST = "ABC, best"
+NAMES = "lwmap", "lwarea", "lwequal"
 LIMIT = 120
 FIELDS = "library circuit flow delay area seconds status program".split()
 
@@ -51,17 +51,11 @@ def library_of(name):
     return (own if os.path.exists(own) else name), False
 
 
-def hash_of(path):
-    """The first digits of the SHA-256 of a file."""
-    with open(path, "rb") as file:
-        return hashlib.sha256(file.read()).hexdigest()[:16]
-
-
 class Raw:
-    """The file of raw results. What lwflow found with another program than the present one does not count."""
+    """The file of raw results. What lwflow found with other programs than the present ones does not count."""
 
     def __init__(self, path):
-        self.path, self.rows, self.program = path, {}, hash_of(program.path())
+        self.path, self.rows, self.program = path, {}, " ".join(hash_of(program.path(name))[:16] for name in NAMES if program.has(name))
         if os.path.exists(path):
             with open(path, encoding="utf-8", newline="") as file:
                 for row in csv.DictReader(file):
@@ -217,7 +211,7 @@ def main(words):
                 for effort in efforts:
                     ours(raw, name, circuit, circuits[circuit], effort)
             print(f"quality: {circuit}", file=sys.stderr, flush=True)
-    print(f"lwmap of SHA-256 {raw.program}\n")
+    print(f"Programs of SHA-256 {raw.program}\n")
     kept(raw, names, efforts)
     for name in names:
         table(raw, name, efforts)

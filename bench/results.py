@@ -3,8 +3,8 @@
 
   results.py PRINTED..
 
-Each table of the page is exchanged for the printed one whose first row begins with its own, or, if there are several, for that of them with
-the same heading too. A printed table that the page lacks goes to the end of the section with its heading, if that has no table; else it is told,
+Each table of the page is exchanged for the printed one whose first row has all cells of its own, in this order, or, if there are several, for
+that of them with the same heading too. A printed table that the page lacks goes to the end of the section with its heading, if that has no table; else it is told,
 as is a table of the page that was not printed. What the page says in words is not changed: read it against the new tables.
 """
 import os
@@ -44,9 +44,15 @@ def lines_of(path):
         return file.read().split("\n")
 
 
+def has_all(found, wanted):
+    """Whether the cells of a row are among those of another one, in order."""
+    cells = iter(found.split("|"))
+    return all(cell in cells for cell in wanted.strip("|").split("|"))
+
+
 def fitting(table, printed):
     """The printed table that a table of the page is exchanged for, or None. It may have further columns."""
-    same = [one for one in printed if one.head().startswith(table.head())]
+    same = [one for one in printed if has_all(one.head(), table.head())]
     named = [one for one in same if one.heading == table.heading]
     return (named or (same if len(same) == 1 else [None]))[0]
 

@@ -37,7 +37,18 @@ _lwequal() {
     *) mapfile -t COMPREPLY < <(compgen -f -- "$word") ;;
     esac
 }
+_lwarea() {
+    local word=${COMP_WORDS[COMP_CWORD]} before=${COMP_WORDS[COMP_CWORD - 1]}
+    case $before,$word in
+    -w,*) mapfile -t COMPREPLY < <(compgen -W "2 3 4 5 6 7 8" -- "$word") ;;
+    -e,*) mapfile -t COMPREPLY < <(compgen -W "0 1 2 3" -- "$word") ;;
+    -t,*) mapfile -t COMPREPLY < <(compgen -W "max each 105% 110%" -- "$word") ;;
+    *,-*) mapfile -t COMPREPLY < <(compgen -W "-w -i -c -e -t -h -v" -- "$word") ;;
+    *) mapfile -t COMPREPLY < <(compgen -f -- "$word") ;;
+    esac
+}
 # A program that has a line here gets this file where it is installed.
 complete -o filenames -F _lwmap lwmap
+complete -o filenames -F _lwarea lwarea
 complete -o filenames -F _lwequal lwequal
 complete -o filenames -F _lwflow lwflow

@@ -19,6 +19,12 @@ run() {
     timeout "$limit" "$program" "$@" </dev/null >out 2>err
 }
 
+# The same with so many seconds of the processor at most.
+soon() { # SECONDS WORD..
+    # shellcheck disable=SC3045
+    (ulimit -t "$1" && shift && run "$@")
+}
+
 # So many times a text, on one line.
 repeat() { # COUNT TEXT
     yes -- "$2" | head -n "$1" | tr -d '\n'
@@ -147,6 +153,37 @@ deep_pattern() {
     refused 4 'less line 3: cell differs from its first entry' map less IN || return
     head -n 2 less >LIB
     refused 6 'no cover for output f' map LIB IN
+}
+
+# Cells with more bindings than a search can go through
+
+# The library with a cell of the function, and a node that is the And of so many inputs.
+big_cell_and_wide_node() { # FUNCTION INPUTS
+    all_files
+    { cat MORE && printf '%s\n' "GATE big 1 O=$1;" 'PIN * INV 1 999 1 0 1 0'; } >LIB
+    names=$(awk -v n="$2" 'BEGIN { for (i = 0; i < n; i++) printf " x%d", i }')
+    printf '%s\n' '.model m' ".inputs$names" '.outputs f' ".names$names f" "$(repeat "$2" 1) 1" '.end' >IN
+}
+
+# Maps with isomorphisms at a width, and checks the netlist.
+maps_soon() { # WIDTH
+    soon 5 map -w "$1" -i -c LIB IN
+    status $? 0 && mv out NET || return
+    soon 5 check -w "$1" -i LIB IN NET
+    status $? 0 && holds out yes
+}
+
+pins_that_are_repeated() {
+    for times in 3 7 15; do
+        big_cell_and_wide_node "!(a*b*c*d$(repeat "$times" '*a*b*c*d'))" 3 && maps_soon 3 || return
+        big_cell_and_wide_node "!(a*b*c*d$(repeat "$times" '*a*b*c*d'))" 4 && maps_soon 4 || return
+    done
+}
+
+more_pins_than_inputs() {
+    for inputs in 4 6; do
+        big_cell_and_wide_node '!(a*b*c*d*e*g*h*i*j*k*l*m*n*o*p*q)' "$inputs" && maps_soon "$inputs" || return
+    done
 }
 
 # Chains and circles
@@ -584,6 +621,7 @@ unwritten() { # WORD..
 
 # shellcheck disable=SC2086
 for it in deep_functions deep_functions_that_are_none deep_pattern deep_factoring deep_factoring_to_one_input \
+    pins_that_are_repeated more_pins_than_inputs \
     chain_of_latches chain_of_latches_and_inverters wires_in_a_circle nodes_that_hang_from_a_circle latches_in_a_circle \
     line_of_blanks line_of_words line_of_continued_lines line_of_one_word lines_without_words \
     most_bytes_of_a_library most_forms most_splits most_nodes_of_big most_rows_over_the_most_columns words_beyond_all_use \

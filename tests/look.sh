@@ -7,18 +7,8 @@
 # PART is one of report, manuals, install, package, sweep, slurm, tutorial; without words all are taken. What a tool is missing for is
 # skipped, with a line that says so. The program is the one that release/program.sh finds. The last line is 'N passed, N failed'.
 set -u
-export LC_ALL=C
-root=$(dirname -- "$(dirname -- "$(readlink -f -- "$0")")")
-cd -- "$root" || exit 1
-room=$(mktemp -d) || exit 1
-trap 'rm -rf "$room"' EXIT
-trap 'exit 1' HUP INT TERM
-passed=0 && failed=0
-library=bench/libs/mcnc.genlib
-
-verdict() { # WHAT STATUS
-    if [ "$2" -eq 0 ]; then passed=$((passed + 1)); else failed=$((failed + 1)) && echo "FAILED: $1" && sed 's/^/    /' "$room/out"; fi
-}
+# shellcheck source=tests/verdicts.sh
+. "$(dirname -- "$(readlink -f -- "$0")")/verdicts.sh"
 
 lacks() { # WHAT TOOL..
     what=$1 && shift
@@ -243,5 +233,4 @@ tutorial() {
 
 [ $# -gt 0 ] || set -- report manuals install package sweep slurm tutorial
 for part; do "$part"; done
-echo "$passed passed, $failed failed"
-[ "$failed" -eq 0 ] && [ "$passed" -gt 0 ]
+told

@@ -7,25 +7,13 @@
 # It needs Python, Yosys and ABC, and says 'skipped' where they are not there; so it does for what needs Icarus Verilog or
 # Debian's qflow-tech-osu035. The program is the one that release/program.sh finds. The last line is 'N passed, N failed'.
 set -u
-export LC_ALL=C
-root=$(dirname -- "$(dirname -- "$(readlink -f -- "$0")")")
-cd -- "$root" || exit 1
+# shellcheck source=tests/verdicts.sh
+. "$(dirname -- "$(readlink -f -- "$0")")/verdicts.sh"
 for tool in python3 yosys berkeley-abc; do
     command -v "$tool" >/dev/null || { echo "skipped: $tool is not on this machine, so lwflow was not tried" && exit 0; }
 done
 LWMAP_PROGRAM=$(sh release/program.sh) || exit 1
 export LWMAP_PROGRAM
-room=$(mktemp -d) || exit 1
-trap 'rm -rf "$room"' EXIT
-trap 'exit 1' HUP INT TERM
-passed=0 && failed=0
-library=bench/libs/mcnc.genlib
-
-verdict() { # WHAT STATUS
-    if [ "$2" -eq 0 ]; then passed=$((passed + 1)); else
-        failed=$((failed + 1)) && echo "FAILED: $1" && sed 's/^/    /' "$room/out" "$room/err"
-    fi
-}
 
 # A run whose status and words have to be these: a text that its output or its errors hold.
 run() { # WHAT STATUS TEXT WORD..
@@ -133,6 +121,20 @@ awk 'BEGIN { print ".model large\n.inputs a b\n.outputs n263000\n.names a b n0\n
     for (i = 1; i <= 263000; i++) print ".names n" i - 1 " " (i % 2 ? "a" : "b") " n" i "\n11 1"; print ".end" }' >"$room/large.blif"
 run "more signals than lwmap takes" 1 'large.blif: the network has more than 262144 signals, .*tools/yosys-lwmap' -q -l $library "$room/large.blif"
 run "an area within 110% of the least delay" 0 'every step was shown' -q --area 110% -l $library bench/circuits/rca8_y.blif
+# What lwarea makes is kept, and smaller; without it all goes on with lwmap.
+if sh release/program.sh lwarea >/dev/null 2>&1; then
+    run "a smaller netlist of the least delay" 0 '^  kept .* lwarea -w 6 -t max' -q -l $library bench/circuits/rca8_y.blif
+    run "a smaller netlist under a certificate" 0 '^  kept .* lwarea -w 6 -t each' -q --area each -l $library bench/circuits/rca8_y.blif
+    grep -q '^#@ label' "$room/made/mapped.blif" && grep -q 'shown: front to netlist, by theorem and lwmap check' "$room/out"
+    verdict "a smaller netlist under a certificate: checked" $?
+    run "a smaller netlist within a time" 0 '^  kept .* lwarea -w 6 -t 9,' -q --area 9 -l $library bench/circuits/rca8_y.blif
+else
+    echo "skipped: there is no program lwarea, so no netlist got a smaller area"
+fi
+printf '#!/bin/sh\necho lwarea: out of memory >&2; exit 8\n' >"$room/lwarea" && chmod +x "$room/lwarea"
+LWAREA_PROGRAM=$room/lwarea python3 lwflow -q -o "$room/made" -l $library bench/circuits/rca8_y.blif >"$room/out" 2>"$room/err" &&
+    grep -q '^  kept .* lwmap -w 6' "$room/out" && grep -q '^left out: lwarea -w 6 -t max, after 3 rounds: lwarea: out of memory' "$room/out"
+verdict "an lwarea that fails is left out" $?
 for status in 0 1; do
     printf '#!/bin/sh\nexit %s\n' $status >"$room/lwequal" && chmod +x "$room/lwequal"
     LWEQUAL_PROGRAM=$room/lwequal python3 lwflow -q -o "$room/made" --effort fast -l $library bench/circuits/rca8_y.blif >"$room/out" 2>"$room/err" &&
@@ -219,5 +221,4 @@ verdict "in Yosys with a tilde in the library" $?
 yosys_calls $library "$room/large.blif" 'more than 262144 signals'
 verdict "in Yosys with a module that is too large" $?
 
-echo "$passed passed, $failed failed"
-[ "$failed" -eq 0 ] && [ "$passed" -gt 0 ]
+told

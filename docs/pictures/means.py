@@ -3,7 +3,8 @@
 
   python3 docs/pictures/means.py [PAGE [PICTURE]]
 
-The table has the columns: commands, ABC's delay and area, lwmap's delay and area. Both scales are logarithmic.
+The table has the columns: commands, ABC's delay and area, lwmap's delay and area, and, if it is there, the area of lwarea, whose delay is that
+of lwmap. Both scales are logarithmic.
 """
 import math
 import os
@@ -18,14 +19,16 @@ STYLE = """text { font-family: sans-serif; font-size: 13px; fill: #1f2328 } .gri
 .abc { fill: #ffffff; stroke: #57606a; stroke-width: 2 } .lwmap { fill: #b84a0a } .note { font-size: 11px } .title { font-size: 16px; font-weight: bold }
 .back { fill: #ffffff }
 @media (prefers-color-scheme: dark) { text { fill: #e6edf3 } .back { fill: #0d1117 } .grid { stroke: #30363d } .abc { fill: #0d1117; stroke: #9da7b3 } .lwmap { fill: #f0883e } }"""
+AREA_STYLE = ".lwarea { fill: #0969da } @media (prefers-color-scheme: dark) { .lwarea { fill: #58a6ff } }"
+FIGURE = re.compile(r"\d\.\d\d")
 
 
 def rows_of(page):
-    """Name and four figures of each row of the table."""
+    """Name and four or five figures of each row of the table."""
     with open(page, encoding="utf-8") as text:
         cells = [[cell.strip() for cell in line.split("|")[1:-1]] for line in text if line.startswith("|")]
-    return [(row[0].replace("`", ""), *map(float, row[1:5])) for row in cells
-            if len(row) >= 5 and all(re.fullmatch(r"\d\.\d\d", cell) for cell in row[1:5])]
+    return [(row[0].replace("`", ""), *(float(cell) for cell in row[1:6] if FIGURE.fullmatch(cell))) for row in cells
+            if len(row) >= 5 and all(FIGURE.fullmatch(cell) for cell in row[1:5])]
 
 
 def place(value, bounds, start, end):
@@ -55,19 +58,26 @@ def grid():
 
 def points(rows):
     for name, *figures in rows:
-        (ax, ay), (bx, by) = ((x_of(d), y_of(a)) for d, a in (figures[:2], figures[2:]))
+        (ax, ay), (bx, by) = ((x_of(d), y_of(a)) for d, a in (figures[:2], figures[2:4]))
+        for area in figures[4:]:
+            cy = y_of(area)
+            yield f'<line class="pair" x1="{bx:.1f}" y1="{by:.1f}" x2="{bx:.1f}" y2="{cy:.1f}"/><circle class="lwarea" cx="{bx:.1f}" cy="{cy:.1f}" r="6"/>'
         yield f'<line class="pair" x1="{ax:.1f}" y1="{ay:.1f}" x2="{bx:.1f}" y2="{by:.1f}"/>'
         yield f'<circle class="abc" cx="{ax:.1f}" cy="{ay:.1f}" r="6"/><circle class="lwmap" cx="{bx:.1f}" cy="{by:.1f}" r="6"/>'
         yield text(ax, ay + 22, name)
 
 
 def picture(rows):
+    third = any(len(row) > 5 for row in rows)
+    style, who = (STYLE + AREA_STYLE, "ABC, lwmap and lwarea") if third else (STYLE, "ABC and lwmap")
     parts = [text(LEFT, 24, "Delay and area relative to ABC's strash; map", "title", "start"),
              f'<circle class="abc" cx="{LEFT + 6}" cy="42" r="6"/>', text(LEFT + 18, 46, "ABC's map", anchor="start"),
              f'<circle class="lwmap" cx="{LEFT + 116}" cy="42" r="6"/>', text(LEFT + 128, 46, "lwmap, after the same commands of ABC", anchor="start"),
              text((LEFT + WIDTH - RIGHT) / 2, HEIGHT - 26, "delay"), text(LEFT, HEIGHT - 6, NOTE, "note", "start"), text(20, TOP - 8, "area", anchor="start"), *grid(), *points(rows)]
+    if third:
+        parts.append(f'<circle class="lwarea" cx="{LEFT + 418}" cy="42" r="6"/>' + text(LEFT + 430, 46, "lwarea, with lwmap's delay", anchor="start"))
     return (f'<svg xmlns="http://www.w3.org/2000/svg" viewBox="0 0 {WIDTH} {HEIGHT}" width="{WIDTH}" height="{HEIGHT}" role="img">'
-            f'<title>Delay and area of ABC and lwmap, geometric means</title><style>{STYLE}</style>'
+            f'<title>Delay and area of {who}, geometric means</title><style>{style}</style>'
             f'<rect class="back" width="{WIDTH}" height="{HEIGHT}"/>' + "\n".join(parts) + "</svg>\n")
 
 

@@ -6,7 +6,7 @@ import signal
 import sys
 import tempfile
 
-from . import blif, genlib, library, networks, options, page, program, proof, report, runs, search, simulate, timing, verilog
+from . import area, blif, genlib, library, networks, options, page, program, proof, report, runs, search, simulate, timing, verilog
 from .script import Fault
 
 SHOWN, FAILED, UNDECIDED, DIFFERENT, NO_PROGRAM, INTERRUPTED = 0, 1, 3, 4, 69, 130
@@ -43,7 +43,7 @@ class Flow:
             raise Fault(f"{self.design.top} is the name of a cell, too; the design needs another name")
         self.work = search.Work(self.room, self.design.file, self.library, chosen.effort, chosen.jobs, self.told, chosen.limit, self.loads)
         search.search(self.work)
-        search.trade(self.work, chosen.area)
+        area.recover(self.work, chosen.area)
         self.prover = proof.Prover(self.work)
         reading = self.design.prove_reading(max(self.work.proof, 30))
         self.choose()
@@ -96,7 +96,7 @@ class Flow:
     def choose(self):
         """The best netlist of which nothing was found wrong, and its steps; with --sure every step has to be shown."""
         lost = set()
-        for netlist in search.ranked(self.work, self.options.area):
+        for netlist in area.ranked(self.work, self.options.area):
             if lost & ancestors(netlist.network):
                 continue
             self.told(f"{netlist.said()}: is it right?")

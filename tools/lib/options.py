@@ -29,12 +29,14 @@ status  0  a netlist, and every step from the design to it was shown
        69  there is no program lwmap
       130  interrupted; nothing was written
 
-what --area means today
+what --area asks for
   max    among the netlists of the smallest delay the smallest one (the default)
   each   lwmap's netlist of the smallest delay, in which every output is as early as its front end allows
-  N%     the smallest netlist within N percent of the smallest delay, N from 100; up to 5,000 nodes, and if loads do not count,
-         'lwmap trade' with that deadline is tried too
+  N%     the smallest netlist within N percent of the smallest delay, N from 100
   T      the smallest netlist within the delay T, in the library's unit
+
+For the networks whose netlists come first, lwarea makes smaller ones with that deadline. Where it is not there, 'lwmap trade' does
+for N% and T, up to 5,000 nodes and if loads do not count.
 
 example: ./lwflow -l bench/libs/mcnc.genlib examples/verilog/processor.v
          processor.lwflow/report.html says then which try won, by how much, and what was shown

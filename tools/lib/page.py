@@ -118,7 +118,7 @@ def answer(found):
     if is_ours(kept):
         said += [compared(kept, found[key], name) for key, name in (("abc", "ABC's best netlist of this search"),) if found[key]]
     elif found["lwmap"]:
-        said.append(compared(kept, found["lwmap"], "the best netlist of lwmap"))
+        said.append(compared(kept, found["lwmap"], "the best netlist of lwmap and lwarea"))
     if found["abc_as_given"] and name_of(found["abc_as_given"]) != name_of(kept):
         said.append(compared(kept, found["abc_as_given"], "ABC's map on the design as given"))
     parts += [f"<p>It is {text(one)}.</p>" for one in said]
@@ -169,7 +169,7 @@ def tries(found):
     kept = next((k for k, one in enumerate(found["netlists"]) if name_of(one) == name_of(found["kept"])), None)
     judge = ("ABC buffered and sized each netlist; its delay under loads decides, then its area." if loads else
              "The smaller delay decides, then the smaller area.")
-    parts = [f'<h2 id="tries">Every try</h2><p>A filled circle is a netlist of lwmap, a square one of ABC\'s map after the same commands. {judge} '
+    parts = [f'<h2 id="tries">Every try</h2><p>A filled circle is a netlist of lwmap or lwarea, a square one of ABC\'s map after the same commands. {judge} '
              "Left and low is better.</p><figure>",
              both(pictures.tries, found), "</figure>",
              table(heads_of(loads), rows_of_netlists(found["netlists"], loads), "Best first; the kept one is marked", kept), commands(found)]
@@ -236,10 +236,14 @@ def drawing(found):
 REASONS = [
     ("theorem", "lwmap is written in Rattle, a Rust with contracts. A proof checker has verified once and for all that every netlist of lwmap "
                 "computes its network and that none in its search space is earlier."),
+    ("theorem of lwarea", "lwarea is written in the same language. Every netlist of it computes its network, each output arrives by its deadline, "
+                          "and the area is at most that of lwmap's netlist."),
     ("lwmap check", "This netlist carries a certificate. lwmap check, which is proved too, has verified the netlist with it."),
+    ("by lwequal", "lwequal looked for an assignment of the inputs under which the two networks differ. That there is none where it says so is "
+                   "proved, too."),
     ("by cec", "ABC's checker cec looked for an assignment of the inputs under which the two networks differ, and found that there is none."),
-    ("registers by name", "Both sides have the same registers, with clocks, resets and initial values. All logic between them was compared by cec, "
-                          "so both behave alike forever, from every state."),
+    ("registers by name", "Both sides have the same registers, with clocks, resets and initial values. All logic between them was compared, so "
+                          "both behave alike forever, from every state."),
     ("simulation", "Icarus Verilog ran the Verilog and mapped.v side by side on random inputs. This is a test and no proof, but the only comparison that "
                    "does not rest on how Yosys reads Verilog."),
 ]
@@ -259,8 +263,8 @@ def trust(found):
         rows.append([f'<span class="{kind}">{word}</span>', text(step["what"]) + (f' ({text(step["why"])})' if step["why"] else "")])
     said = " ".join(step["what"] for step in steps)
     reasons = [f"<li><b>{text(word)}</b>: {text(why)}</li>" for word, why in REASONS if word in said]
-    trusted = ["ABC's cec"] + ["Yosys where it reads and writes Verilog"] * (found["design"]["kind"] == "Verilog")
-    trusted += ["the proof checker of Rattle"] * ("theorem" in said)
+    trusted = ["ABC's cec"] * ("by cec" in said) + ["Yosys where it reads and writes Verilog"] * (found["design"]["kind"] == "Verilog")
+    trusted += ["the proof checker of Rattle"] * ("theorem" in said or "by lwequal" in said)
     return ('<h2 id="trust">Why it can be trusted</h2><p>Each step from the design to mapped.v was compared by itself. If every step is '
             "shown, mapped.v does what the design says.</p>" + table(["result", "step"], rows) +
             f"<ul>{''.join(reasons)}</ul><p>What you trust beside that: {text(listed(trusted))}.</p>")

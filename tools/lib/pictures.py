@@ -21,7 +21,7 @@ def judged(one):
 
 
 def is_ours(one):
-    return one["by"].startswith("lwmap")
+    return one["by"].startswith(("lwmap", "lwarea"))
 
 
 def read_by(one):
@@ -78,7 +78,7 @@ def legend(x, y):
 def named(found):
     """The places that get a name, each with its names."""
     names = {}
-    for said, key in (("kept", "kept"), ("best of ABC", "abc"), ("best of lwmap", "lwmap"), ("ABC, as given", "abc_as_given")):
+    for said, key in (("kept", "kept"), ("best of ABC", "abc"), ("best of ours", "lwmap"), ("ABC, as given", "abc_as_given")):
         if found[key]:
             names.setdefault(judged(found[key]), []).append(said)
     return names

@@ -74,16 +74,17 @@ class Prover:
         return Step(f"{one.name} to {other.name}, by {by}", verdict, why)
 
     def checked(self, netlist):
-        """The netlist that lwmap wrote: equivalent by theorem, and lwmap check looks at its certificate."""
-        work = self.work
-        if not netlist.width:
-            return Step("front to netlist, by the theorem of lwmap trade", "equal", "")
+        """A netlist of ours: equivalent by theorem, and lwmap check looks at its certificate, if it can have one."""
+        work, maker = self.work, netlist.maker
+        by_theorem = Step(f"front to netlist, by the theorem of {maker.program}", "equal", "")
+        if not maker.certified:
+            return by_theorem
         given, width = work.restored(netlist.network.file), str(netlist.width)
         made, checked = "certified.blif", "lwmap check"
-        command = [program.path(), "map", "-w", width, "-c", work.library.file, given]
-        ended = runs.run(command, work.path("certify.log"), cwd=work.room, limit=work.search * 2, out=work.path(made))
+        ended = runs.run([*maker.certified, work.library.file, given], work.path("certify.log"), cwd=work.room, limit=work.search * 2,
+                         out=work.path(made))
         if ended.status:
-            return Step("front to netlist, by the theorem of lwmap map", "equal", "no certificate: " + runs.tail(ended.log))
+            return by_theorem._replace(why="no certificate: " + runs.tail(ended.log))
         netlist.certified = made
         command = [program.path(), "check", "-w", width, work.library.file, given, made]
         ended = runs.run(command, work.path("check.log"), cwd=work.room, limit=work.proof, out=work.path("check.out"))

@@ -58,7 +58,7 @@ def text(found):
     parts = [f"{design['top']}: {design['kind']}, {design['nodes']} nodes, {design['registers']} registers; {found['library']['file']}, "
              f"{found['library']['cells']} cells; effort {found['effort']}, {len(found['netlists'])} netlists\n\n",
              " " * 16 + "".join(f"{head:>13}" for head in heads) + "\n"]
-    for name, key in (("kept", "kept"), ("least, lwmap", "lwmap"), ("least, ABC", "abc"), ("ABC, as given", "abc_as_given")):
+    for name, key in (("kept", "kept"), ("least, ours", "lwmap"), ("least, ABC", "abc"), ("ABC, as given", "abc_as_given")):
         if found[key]:
             parts.append(line(name, found[key], loads))
     parts.append("\n" + won(found, loads))
@@ -75,12 +75,12 @@ def text(found):
 def won(found, loads):
     """Who won, and by how much."""
     kind = "sized_delay" if loads else "delay"
-    ours, theirs = found["lwmap"], found["abc"]
+    ours, theirs, name = found["lwmap"], found["abc"], (found["lwmap"] or {"by": ""})["by"].split(" ")[0]
     if not ours or not theirs:
         return ""
     if ours[kind] == theirs[kind]:
-        return f"lwmap and ABC are as early; the area of lwmap's is {ratio(ours, theirs, loads)} of ABC's\n"
-    first, second, names = (ours, theirs, ("lwmap", "ABC")) if ours[kind] < theirs[kind] else (theirs, ours, ("ABC", "lwmap"))
+        return f"{name} and ABC are as early; the area of {name}'s is {ratio(ours, theirs, loads)} of ABC's\n"
+    first, second, names = (ours, theirs, (name, "ABC")) if ours[kind] < theirs[kind] else (theirs, ours, ("ABC", name))
     percent = 100 * (second[kind] - first[kind]) / second[kind] if second[kind] else 0
     return f"{names[0]} is {percent:.1f}% earlier than {names[1]}, at {ratio(first, second, loads)} of its area\n"
 

@@ -1,4 +1,4 @@
-"""The search for the best netlist of a network of logic: front ends by ABC, lwmap after each, and ABC's own mapper beside it.
+"""The search for the netlists of a network of logic: front ends by ABC, lwmap after each, and ABC's own mapper beside it.
 
 A network (Network) is a file in the room, with the one that it was made from and how: by ABC, which cec has to confirm, or by
 lwmap, whose netlists are equivalent to what it read by theorem. All of them are without latches. What is mapped and timed has
@@ -11,12 +11,15 @@ from concurrent.futures import ThreadPoolExecutor
 from . import abc, blif, fronts, genlib, library, program, runs, timing
 from .script import Fault
 
-Effort = namedtuple("Effort", "fronts rounds loop widths search proof")
+# Fronts and rounds of ABC, turns of the loop, widths, seconds of a step and of a proof; the effort of lwarea, and for how many netlists.
+Effort = namedtuple("Effort", "fronts rounds loop widths search proof area recovered")
 EFFORTS = {
-    "fast": Effort(("if4",), 1, 0, (6,), 2, 2),
-    "normal": Effort(("if4", "dch+map"), 3, 0, (6,), 10, 10),
-    "best": Effort(("if4", "dch+map"), 4, 20, (6, 8), 30, 40),
+    "fast": Effort(("if4",), 1, 0, (6,), 2, 2, 1, 2),
+    "normal": Effort(("if4", "dch+map"), 3, 0, (6,), 10, 10, 2, 4),
+    "best": Effort(("if4", "dch+map"), 4, 20, (6, 8), 30, 40, 3, 4),
 }
+# The program whose theorem speaks of a netlist, its width, and its command with a certificate, without the files; None where it has none.
+Maker = namedtuple("Maker", "program width certified", defaults=(None, None))
 GIVEN = "as given"
 LARGE = 1500
 SIGNALS = 262144
@@ -33,16 +36,17 @@ class Network:
 
 
 class Netlist:
-    """A netlist of cells: its file with latches, the network that it covers, who made it (by) and after what (where), the
-    width if it is ours, and its figures in millionths. If loads count, sized has delay, area and file of the sized one."""
+    """A netlist of cells: its file with latches, the network that it covers, who made it (by) and after what (where), its figures in
+    millionths, and its maker if it is ours. If loads count, sized has delay, area and file of the sized one."""
 
-    def __init__(self, file, network, by, where, width, figures):
-        self.file, self.network, self.by, self.where, self.width = file, network, by, where, width
+    def __init__(self, file, network, by, where, figures, maker=None):
+        self.file, self.network, self.by, self.where, self.maker = file, network, by, where, maker
         self.delay, self.area, self.gates = figures
+        self.width = maker and maker.width
         self.sized = None
 
     def ours(self):
-        return self.width is not None
+        return self.maker is not None
 
     def said(self):
         return f"{self.by}, {self.where}"
@@ -213,13 +217,12 @@ def figures(work, file):
 def map_one(work, network, width):
     """lwmap's netlist of a network, or None."""
     given = work.restored(network.file)
-    file = f"lwmap{width}.{network.file}"
-    ended = runs.run([program.path(), "map", "-w", str(width), work.library.file, given], work.path(file + ".log"), cwd=work.room,
-                     limit=work.search, out=work.path(file))
+    file, command = f"lwmap{width}.{network.file}", [program.path(), "map", "-w", str(width)]
+    ended = runs.run([*command, work.library.file, given], work.path(file + ".log"), cwd=work.room, limit=work.search, out=work.path(file))
     if ended.status or ended.late:
         work.lose(f"lwmap -w {width}, {network.said}", ended, work.search)
         return None
-    return Netlist(file, network, f"lwmap -w {width}", network.said, width, figures(work, file))
+    return Netlist(file, network, f"lwmap -w {width}", network.said, figures(work, file), Maker("lwmap map", width, [*command, "-c"]))
 
 
 def last_step(work, networks):
@@ -257,7 +260,7 @@ def theirs(work, found):
             lines.append(words)
     work.write(file, blif.text(lines))
     whole = work.restored(file)
-    return Netlist(whole, network, "ABC map", where, None, figures(work, whole))
+    return Netlist(whole, network, "ABC map", where, figures(work, whole))
 
 
 def keep_theirs(work, found):
@@ -300,47 +303,3 @@ def loop(work):
         last_step(work, [network])
         keep_theirs(work, [netlist])
         idle = 0 if min(one.rank() for one in work.netlists) < best else idle + 1
-
-
-# Area
-
-
-def deadline(work, area):
-    """The latest delay that an area asks for, in the unit of what judges; None where it is the least."""
-    kind, value = area
-    least = min(one.rank()[0] for one in work.netlists)
-    if kind == "percent":
-        return least * value / genlib.UNIT if work.loads else least * value // genlib.UNIT
-    if kind == "time":
-        return value / genlib.UNIT if work.loads else value
-    return None
-
-
-def trade(work, area):
-    """With a deadline later than the least delay: the netlist of lwmap trade after the best front, if it ends."""
-    latest = deadline(work, area)
-    ours = [one for one in work.netlists if one.ours()]
-    if latest is None or work.loads or not ours or work.size > 5000:
-        return
-    network = min(ours, key=Netlist.rank).network
-    file, time = "trade." + network.file, genlib.show(latest)
-    ended = runs.run([program.path(), "trade", time, work.library.file, work.restored(network.file)], work.path(file + ".log"), cwd=work.room,
-                     limit=work.search, out=work.path(file))
-    if ended.status or ended.late:
-        work.lose(f"lwmap trade {time}, {network.said}", ended, work.search)
-    else:
-        work.keep([Netlist(file, network, f"lwmap trade {time}", network.said, 0, figures(work, file))])
-
-
-def ranked(work, area):
-    """The netlists, the one to keep first."""
-    latest = deadline(work, area)
-    if area[0] == "each":
-        return sorted((one for one in work.netlists if one.ours()), key=Netlist.rank)
-    if latest is None:
-        return sorted(work.netlists, key=Netlist.rank)
-    within = [one for one in work.netlists if one.rank()[0] <= latest]
-    if not within:
-        best = min(work.netlists, key=Netlist.rank)
-        raise Fault(f"no netlist is as early as --area asks; the least delay found has: {best.figures()}")
-    return sorted(within, key=lambda one: one.rank()[::-1]) + sorted((one for one in work.netlists if one not in within), key=Netlist.rank)

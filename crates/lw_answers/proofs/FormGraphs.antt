@@ -1,9 +1,9 @@
 -- The graph of a network's forms is what each graph is: its classes stand in pairs, and all that it names is one of them.
-use Rattle.std.proofs.Common.{ℕ, zero, suc, ◌^◌, ◌/◌, ◌%◌, ◌==◌, ◌<◌, ◌≤◌, ◌≡◌, inl, Bool, true, false, if◌then◌else◌, List, [], ◌∷◌, length, Some, All, Contains, slice_get, slice_index, slice_index_or, refl, sym, subst, arith}
+use Rattle.std.proofs.Common.{ℕ, ◌^◌, ◌/◌, ◌%◌, ◌==◌, ◌<◌, ◌≤◌, ◌≡◌, inl, if◌then◌else◌, List, [], length, All, Contains, slice_index, slice_index_or, refl, sym, subst, arith}
 use Rattle.std.proofs.lemmas.List.{get_or_default}
 use Rattle.std.proofs.lemmas.List.Elements.{Contains-get_or}
 use Rattle.std.proofs.lemmas.Option.{get_or_from_slice_get}
-use Rattle.lw_laws.specs.Flip.{flip}
+use Rattle.lw_map.proofs.Ranges.{choice_low, listed_low, unfolds_low, numbered_low}
 use Rattle.lw_laws.specs.Modes.{Mode}
 use Rattle.lw_laws.specs.Trees.{leaf, const_one}
 use Rattle.lw_laws.specs.Networks.{Network}
@@ -11,31 +11,21 @@ use Rattle.lw_laws.specs.Listings.{listing_of}
 use Rattle.lw_laws.specs.Numbering.{number}
 use Rattle.lw_laws.specs.Graphs.{Graph, Pair, class_of, pair_count}
 use Rattle.lw_laws.specs.Classes.{IsGraphOf}
-use Rattle.lw_laws.proofs.Flips.{half-flip}
 use Rattle.lw_laws.proofs.Lists.{slice_get_some}
 use Rattle.lw_laws.proofs.GraphEncodes.{graph_pairs_once}
 use Rattle.lw_graph.specs.Graphs.{IsBelow, IsGraph}
-use Rattle.lw_map.proofs.Ranges.{unfolds_low, numbered_low}
 
 module _ (mode : Mode) (width : ℕ) (net : Network) (g : Graph) (wide : 2 ≤ width) (is : IsGraphOf mode net.inputs (listing_of width net) g) where
   one_low : g.one < length g.pairs
   one_low = unfolds_low mode width net g wide is const_one g.one refl
 
-  base_low : (b : ℕ) → slice_index g.forms b / 2 < pair_count 0 g.forms
-  base_low b = by_list g.forms b (let lt = one_low in let n = is.written.class_count in omega arith) (λ c e. numbered_low 0 g.forms b c is.written.numbered e)
-    where
-      by_list : (cs : List ℕ) (b : ℕ) → 0 < pair_count 0 g.forms → ((c : ℕ) → slice_get cs b ≡ Some c → c / 2 < pair_count 0 g.forms) → slice_index cs b / 2 < pair_count 0 g.forms
-      by_list [] b pos low = omega arith
-      by_list (c ∷ cs) zero pos low = low c refl
-      by_list (c ∷ cs) (suc b) pos low = by_list cs b pos low
-
   -- the class of any form is one of the graph's
   form_low : (f : ℕ) → class_of g f < length g.pairs
-  form_low f = by_test (f % 2 == 0) (slice_index g.forms (f / 2)) (base_low (f / 2))
-    where
-      by_test : (t : Bool) (c : ℕ) → c / 2 < pair_count 0 g.forms → (if t then c else flip c) < length g.pairs
-      by_test true c low = let n = is.written.class_count in omega arith
-      by_test false c low = let n = is.written.class_count in let h = half-flip c in omega arith
+  form_low f =
+      let n = is.written.class_count in
+      let base = listed_low g.forms (f / 2) (pair_count 0 g.forms) (omega (arith, n, one_low)) (λ c e. numbered_low 0 g.forms (f / 2) c is.written.numbered e) in
+      let low = choice_low (f % 2 == 0) (slice_index g.forms (f / 2)) (pair_count 0 g.forms) base in
+      omega (arith, n, low)
 
   leaves_low : All (λ c. c < length g.pairs) g.leaves
   leaves_low k d lt =

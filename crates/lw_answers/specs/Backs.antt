@@ -8,9 +8,10 @@ use Rattle.lw_top.specs.Answers.{ReadsLibrary, ReadsMapped, IsAnswer}
 use Rattle.lw_top.specs.Verilogs.{plain_text}
 use Rattle.lw_words.specs.Limits.{most_bytes}
 
--- The words `words` ask for a mapped netlist in Verilog, and `backs` for the mapped text of the text in Verilog, over other files that hold
--- the same library. The text is not too long to be read.
-pub record IsBackOf (words : List (List ℕ)) (files : Files) (text : List ℕ) (backs : List (List ℕ)) (others : Files) : Type 0 where
+-- The words `words` ask for a mapped netlist in Verilog, and `backs` for the mapped text of the text in Verilog, over
+-- other files that hold the same library. The text is not too long to be read.
+pub record IsBackOf (words : List (List ℕ)) (files : Files) (text : List ℕ) (backs : List (List ℕ))
+    (others : Files) : Type 0 where
   pub library : List ℕ
   pub mapped : List ℕ
   pub there : command_of words ≡ Some (to_verilog library mapped)
@@ -21,7 +22,8 @@ pub record IsBackOf (words : List (List ℕ)) (files : Files) (text : List ℕ) 
   pub written : others verilog ≡ Some text
   pub few : length text ≤ most_bytes
 
--- What was read and written comes back: the answer to `backs` is the mapped text of the netlist that was read for `words`.
+-- What was read and written comes back: the answer to `backs` is the mapped text of the netlist that was read for
+-- `words`.
 pub record ComesBack (words : List (List ℕ)) (files : Files) (backs : List (List ℕ)) (others : Files) : Type 0 where
   pub library : List ℕ
   pub mapped : List ℕ

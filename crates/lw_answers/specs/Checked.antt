@@ -11,10 +11,11 @@ use Rattle.lw_words.specs.Limits.{most_bytes}
 abbrev pub AreApart : List CellParts → Type 0
 AreApart cells = All (λ (cell : CellParts). Contains cell.pins cell.output → ⊥) cells
 
--- The words `words` ask for a mapping with its certificate, and `checks` for a check of the text, over other files, by the same options
--- and by files that hold the same library and the same network. The text is not too long to be read, and no cell of the library has an
--- output with the name of one of its pins.
-pub record IsCheckOf (words : List (List ℕ)) (files : Files) (text : List ℕ) (checks : List (List ℕ)) (others : Files) : Type 0 where
+-- The words `words` ask for a mapping with its certificate, and `checks` for a check of the text, over other files, by
+-- the same options and by files that hold the same library and the same network. The text is not too long to be read,
+-- and no cell of the library has an output with the name of one of its pins.
+pub record IsCheckOf (words : List (List ℕ)) (files : Files) (text : List ℕ) (checks : List (List ℕ))
+    (others : Files) : Type 0 where
   pub options : Options
   pub library : List ℕ
   pub network : List ℕ

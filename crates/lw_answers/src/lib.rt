@@ -1,4 +1,9 @@
-//! Laws on the answer to words over known files, whatever the program does.
+//! Theorems on the results of `lwmap`: what its answer to words over known files comes to, whatever
+//! the program does.
+//!
+//! There is no code that runs. `laws` has functions with empty bodies, whose clauses are the
+//! theorems. The definition to start at is `IsCheckOf` in `specs/Checked.antt`; `docs/PROMISES.md`
+//! says what each theorem means. Nothing calls this crate.
 #![tactic(auto)]
 
 mod laws;

@@ -2,6 +2,7 @@
 use Rattle.std.proofs.Common.{◌≡◌, ◌+◌, ◌-◌, ◌*◌, ◌/◌, ◌%◌, ◌^◌, ◌<◌, ◌≤◌, ◌⊎◌, inl, inr, ℕ, zero, suc, Bool, true, false, not, ◌&&◌, List, [], ◌∷◌, ◌++◌, length, Option, Some, Contains, slice_get, slice_index, slice_index_or, replicate, refl, ap, ap₂, sym, ◌∙◌, subst, arith, if◌then◌else◌, ◌==◌}
 use native.Mathlib.Decide.{dec_lt}
 use Rattle.std.proofs.lemmas.List.Elements.{Contains-append_left, Contains-push, Contains-push_cases}
+use Rattle.lw_form.proofs.Parts.{unpicked, cut_by}
 use Rattle.lw_facts.proofs.Lists.{falses_at}
 use Rattle.lw_laws.specs.Modes.{Mode}
 use Rattle.lw_laws.specs.Modes.Mode.{plain, idempotent}
@@ -17,7 +18,7 @@ use Rattle.lw_form.specs.Kept.{AreForms, HasPart}
 use Rattle.lw_assoc.specs.Drafting.{other, IsSplitBy, HasSplit, HasSplits, HasTwice, MakeSplit, HasSplitsUpTo, IsSplitting, HasLinksUpTo, HasSamples, HasBases, HasFactsUpTo, AddsNands, AddsLinks, AddsSplit, first_draft, with_nand, with_link}
 use Rattle.lw_assoc.specs.Parts.{HasParts}
 use Rattle.lw_reduce.specs.Drafting.{sample_of, IsKnown}
-use Rattle.lw_assoc.proofs.Masks.{unpicked, cut_by, picked_other}
+use Rattle.lw_assoc.proofs.Masks.{picked_other}
 
 pub same_operands : (o : Option Base) (fs hs : List ℕ) → o ≡ Some (base_and fs) → o ≡ Some (base_and hs) → fs ≡ hs
 same_operands o fs hs e d = cc

@@ -3,24 +3,13 @@ use Rattle.std.proofs.Common.{◌≡◌, ◌+◌, ◌-◌, ◌*◌, ◌/◌, ◌
 use Rattle.std.specs.Int.Bits.{bit_or, or_step}
 use Rattle.std.specs.List.{AllByRecursion}
 use Rattle.std.proofs.lemmas.Nat.{pow_pos}
+use Rattle.lw_form.proofs.Parts.{unpicked}
 use Rattle.lw_laws.specs.NumberedForms.{IsCut, IsCovering}
 use Rattle.lw_laws.specs.NumberedForms.IsCovering.{in_none, in_left, in_right, in_both}
 use Rattle.lw_form.specs.Kept.{AreApart}
 use Rattle.lw_laws.specs.NumberedForms.IsCut.{cut_none, cut_left, cut_right}
 use Rattle.lw_form.specs.Bases.{picked}
 use Rattle.lw_assoc.specs.Drafting.{other}
-
--- the operands whose bits are not set
-abbrev pub unpicked : List ℕ → ℕ → List ℕ
-unpicked [] mask = []
-unpicked (f ∷ fs) mask = if mask % 2 == 1 then unpicked fs (mask / 2) else f ∷ unpicked fs (mask / 2)
-
-pub cut_by : (fs : List ℕ) (mask : ℕ) → IsCut fs (picked fs mask) (unpicked fs mask)
-cut_by [] mask = cut_none
-cut_by (f ∷ fs) mask = by_test (mask % 2 == 1) (cut_by fs (mask / 2)) where
-  by_test : (t : Bool) → IsCut fs (picked fs (mask / 2)) (unpicked fs (mask / 2)) → IsCut (f ∷ fs) (if t then f ∷ picked fs (mask / 2) else picked fs (mask / 2)) (if t then unpicked fs (mask / 2) else f ∷ unpicked fs (mask / 2))
-  by_test true c = cut_left c
-  by_test false c = cut_right c
 
 -- the other operands are those of the other mask
 pub picked_other : (fs : List ℕ) (mask : ℕ) → mask < 2 ^ length fs → picked fs (other fs mask) ≡ unpicked fs mask

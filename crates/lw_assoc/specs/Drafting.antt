@@ -1,5 +1,6 @@
 -- The draft of all splits and links of listed forms, and how far it is made.
-use Rattle.std.specs.Prelude.{ℕ, ◌+◌, ◌-◌, ◌*◌, ◌^◌, ◌<◌, ◌≤◌, ◌≡◌, ◌⊎◌, bit_or, Bool, true, false, List, [], ◌∷◌, ◌++◌, replicate, length, Some, slice_get, slice_index_or, Contains}
+use Rattle.std.specs.Prelude.{ℕ, ◌+◌, ◌-◌, ◌*◌, ◌^◌, ◌<◌, ◌≤◌, ◌≡◌, ◌⊎◌, bit_or, Bool, true, false, List, [], ◌∷◌, ◌++◌}
+use Rattle.std.specs.Prelude.{replicate, length, Some, slice_get, slice_index_or, Contains}
 use Rattle.lw_laws.specs.Flip.{flip}
 use Rattle.lw_laws.specs.Modes.{Mode}
 use Rattle.lw_laws.specs.Modes.Mode.{plain, idempotent}
@@ -47,12 +48,14 @@ HasSplit forms nands b fs mask rest =
 pub record MakeSplit (forms : NumberedForms) (b mask rest : ℕ) : Type 0 where
   pub left : HasPart forms b mask
   pub right : HasPart forms b rest
-  pub is : (fs : List ℕ) (x y : ℕ) → slice_get forms.bases b ≡ Some (base_and fs) → IsPart forms (picked fs mask) x → IsPart forms (picked fs rest) y → IsSplitOf idempotent forms (2 * b + 1) x y
+  pub is : (fs : List ℕ) (x y : ℕ) → slice_get forms.bases b ≡ Some (base_and fs) → IsPart forms (picked fs mask) x
+      → IsPart forms (picked fs rest) y → IsSplitOf idempotent forms (2 * b + 1) x y
 
 -- Unordered splits are made by the masks that leave the last operand out; those below the bound are there.
 abbrev pub HasSplitsBelow : NumberedForms → List NandFact → ℕ → ℕ → Type 0
 HasSplitsBelow forms nands b bound =
-    (fs : List ℕ) (mask : ℕ) → slice_get forms.bases b ≡ Some (base_and fs) → 1 ≤ mask → mask < bound → mask < 2 ^ (length fs - 1) → HasSplit forms nands b fs mask (other fs mask)
+    (fs : List ℕ) (mask : ℕ) → slice_get forms.bases b ≡ Some (base_and fs) → 1 ≤ mask → mask < bound
+    → mask < 2 ^ (length fs - 1) → HasSplit forms nands b fs mask (other fs mask)
 
 -- two masks, the lower one first, that together have all bits
 pub record AreOverlapping (k mask rest : ℕ) : Type 0 where
@@ -64,7 +67,8 @@ pub record AreOverlapping (k mask rest : ℕ) : Type 0 where
 -- Unordered pairs of different parts that overlap are made by two such masks; those before two bounds are there.
 abbrev pub HasOverlapsBelow : NumberedForms → List NandFact → ℕ → ℕ → ℕ → Type 0
 HasOverlapsBelow forms nands b low high =
-    (fs : List ℕ) (mask rest : ℕ) → slice_get forms.bases b ≡ Some (base_and fs) → AreOverlapping (length fs) mask rest → (mask < low) ⊎ ((mask ≡ low) × (rest < high)) → HasSplit forms nands b fs mask rest
+    (fs : List ℕ) (mask rest : ℕ) → slice_get forms.bases b ≡ Some (base_and fs) → AreOverlapping (length fs) mask rest
+    → (mask < low) ⊎ ((mask ≡ low) × (rest < high)) → HasSplit forms nands b fs mask rest
 
 -- the base form and its complement are each the NAND of the other one twice
 pub record HasTwice (nands : List NandFact) (b : ℕ) : Type 0 where
@@ -74,9 +78,11 @@ pub record HasTwice (nands : List NandFact) (b : ℕ) : Type 0 where
 -- the facts of a base form
 abbrev pub HasSplits : Mode → NumberedForms → List NandFact → ℕ → Type 0
 HasSplits plain forms nands b =
-    (fs : List ℕ) (mask : ℕ) → slice_get forms.bases b ≡ Some (base_and fs) → 1 ≤ mask → mask < 2 ^ (length fs - 1) → HasSplit forms nands b fs mask (other fs mask)
+    (fs : List ℕ) (mask : ℕ) → slice_get forms.bases b ≡ Some (base_and fs) → 1 ≤ mask → mask < 2 ^ (length fs - 1)
+    → HasSplit forms nands b fs mask (other fs mask)
 HasSplits idempotent forms nands b =
-    HasTwice nands b × ((fs : List ℕ) (mask rest : ℕ) → slice_get forms.bases b ≡ Some (base_and fs) → AreOverlapping (length fs) mask rest → HasSplit forms nands b fs mask rest)
+    HasTwice nands b × ((fs : List ℕ) (mask rest : ℕ) → slice_get forms.bases b ≡ Some (base_and fs)
+    → AreOverlapping (length fs) mask rest → HasSplit forms nands b fs mask rest)
 
 -- the facts are splits of the mode
 abbrev pub AreSplits : Mode → NumberedForms → List NandFact → Type 0
@@ -91,12 +97,14 @@ pub record HasSplitsUpTo (mode : Mode) (forms : NumberedForms) (b : ℕ) (nands 
 -- the two forms of the first s signals are linked, and no others
 pub record HasLinksUpTo (forms : NumberedForms) (s : ℕ) (links : List FormLink) : Type 0 where
   pub are : (l : FormLink) → Contains links l → IsSignal forms l.left l.right
-  pub all : (k f h : ℕ) → k < s → slice_get forms.sops k ≡ Some f → slice_get forms.facs k ≡ Some h → Contains links (record { left = f; right = h })
+  pub all : (k f h : ℕ) → k < s → slice_get forms.sops k ≡ Some f → slice_get forms.facs k ≡ Some h
+      → Contains links (record { left = f; right = h })
 
 -- each sample is the value of its base form where every input is false
 abbrev pub HasSamples : NumberedForms → List Bool → Type 0
 HasSamples forms samples =
-    (value : ℕ → Bool) → AreNumberedValues forms (λ i. false) value → (b : ℕ) → b < length samples → slice_index_or samples b false ≡ value (2 * b)
+    (value : ℕ → Bool) → AreNumberedValues forms (λ i. false) value → (b : ℕ) → b < length samples
+    → slice_index_or samples b false ≡ value (2 * b)
 
 -- the draft has the first n base forms
 pub record HasBases (forms : NumberedForms) (n : ℕ) (d : Draft) : Type 0 where

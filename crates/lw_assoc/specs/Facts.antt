@@ -32,7 +32,8 @@ pub record AddsAllFacts (mode : Mode) (forms : NumberedForms) (old new : Draft) 
   pub facts : HasFactsUpTo mode forms (length forms.bases) new
   pub kept : AddsNands old new
 
--- the left mask is below the right one, neither is past the whole, and the draft has the facts of each pair before these two
+-- the left mask is below the right one, neither is past the whole, and the draft has the facts of each pair before
+-- these two
 pub record CanOverlap (base : BaseParts) (left right whole : ℕ) (d : Draft) : Type 0 where
   pub parts : HasAllParts base
   pub left_below : IsMaskBelow base.forms.now base.b left whole

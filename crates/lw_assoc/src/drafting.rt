@@ -1,7 +1,8 @@
 // The draft of all splits and links of listed forms.
 ghost use Rattle.std.specs.Prelude.{◌≡◌, ◌+◌, ◌*◌, length, OnOk, IfOk};
 ghost use Rattle.lw_laws.specs.Modes.Mode.{plain};
-ghost use Rattle.lw_assoc.specs.Drafting.{AddsBases, AddsLinks, AddsSplit, HasBases, HasFactsUpTo, HasLinksUpTo, IsDraftOf};
+ghost use Rattle.lw_assoc.specs.Drafting.{AddsBases, AddsLinks, AddsSplit, HasBases, HasFactsUpTo};
+ghost use Rattle.lw_assoc.specs.Drafting.{HasLinksUpTo, IsDraftOf};
 ghost use Rattle.lw_assoc.specs.Facts.{AddsAllFacts, AddsFacts, CanAddFacts, CanAddSplit};
 ghost use Rattle.lw_assoc.specs.Modes.{law_mode};
 ghost use Rattle.lw_assoc.specs.Parts.{HasDrops};

@@ -2,8 +2,10 @@
 // operand, and each form by its complement twice.
 ghost use Rattle.std.specs.Prelude.{◌+◌, ◌/◌, ◌<◌, length, OnOk};
 ghost use Rattle.lw_laws.specs.Modes.Mode.{idempotent};
-ghost use Rattle.lw_assoc.specs.Drafting.{AddsInverter, AddsNands, HasBases, HasFactsUpTo, IsOverlapping};
-ghost use Rattle.lw_assoc.specs.Facts.{AddsFacts, AddsOverlaps, CanAddFacts, CanOverlap, CanOverlapFrom, HasAllParts};
+ghost use Rattle.lw_assoc.specs.Drafting.{AddsInverter, AddsNands, HasBases, HasFactsUpTo};
+ghost use Rattle.lw_assoc.specs.Drafting.{IsOverlapping};
+ghost use Rattle.lw_assoc.specs.Facts.{AddsFacts, AddsOverlaps, CanAddFacts, CanOverlap};
+ghost use Rattle.lw_assoc.specs.Facts.{CanOverlapFrom, HasAllParts};
 
 use crate::drafting::add_split;
 use crate::parts::BaseParts;

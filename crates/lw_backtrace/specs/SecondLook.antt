@@ -1,5 +1,6 @@
 -- What is looked through of a walk from the roots down.
-use Rattle.std.specs.Prelude.{ℕ, ◌+◌, ◌<◌, ◌≤◌, ◌≡◌, ◌⊎◌, Bool, true, false, IsTrue, IsFalse, List, length, Some, None, slice_get}
+use Rattle.std.specs.Prelude.{ℕ, ◌+◌, ◌<◌, ◌≤◌, ◌≡◌, ◌⊎◌, Bool, true, false, IsTrue, IsFalse, List, length, Some, None}
+use Rattle.std.specs.Prelude.{slice_get}
 use Rattle.lw_pool.specs.declared.id.CellId.{CellId}
 use Rattle.lw_pool.specs.declared.id.ClassId.{ClassId}
 use Rattle.lw_fixed.specs.declared.micro.Micro.{Micro}
@@ -44,15 +45,19 @@ want_of_pin d pin delay = record { class = pin; delay = delay.0; time = d.time; 
 -- so does the pin with a number
 abbrev pub IsPinWant : Demand → ℕ → Want → Type 0
 IsPinWant d k want =
-    (pin : ClassId) (delay : Micro) → slice_get d.pins.now k ≡ Some pin → slice_get d.delays.now k ≡ Some delay → want ≡ want_of_pin d pin delay
+    (pin : ClassId) (delay : Micro) → slice_get d.pins.now k ≡ Some pin → slice_get d.delays.now k ≡ Some delay
+    → want ≡ want_of_pin d pin delay
 
--- the net of a point of a class by a time, with a delay: that of the input of the class, or of the gate that has the point
+-- the net of a point of a class by a time, with a delay: that of the input of the class, or of the gate that has the
+-- point
 pub record IsNetBy (plan : Plan) (trail : Trail) (want : Want) (net : ℕ) : Type 0 where
   pub row : List Point
   pub at : slice_get plan.curves.now.points want.class.0 ≡ Some row
   pub place : ℕ
   pub last : IsLastPlace row want.delay want.time (Some place)
-  pub right : (slice_get plan.inputs.now want.class.0 ≡ Some (Some net)) ⊎ ((slice_get plan.inputs.now want.class.0 ≡ Some None) × (j : ℕ) × IsNodeBy trail.nodes.items want.exact want.class.0 place j × (net ≡ plan.count + j))
+  pub right : (slice_get plan.inputs.now want.class.0 ≡ Some (Some net))
+      ⊎ ((slice_get plan.inputs.now want.class.0 ≡ Some None) × (j : ℕ)
+      × IsNodeBy trail.nodes.items want.exact want.class.0 place j × (net ≡ plan.count + j))
 
 -- the last point of a class by a time has the greatest area that is told
 pub record IsCut (points : List (List Point)) (c time : ℕ) : Type 0 where
@@ -64,19 +69,23 @@ pub record IsCut (points : List (List Point)) (c time : ℕ) : Type 0 where
 
 -- the net of a root's last point by its time, or of any by then where the last one is cut
 pub record IsRootBy (plan : Plan) (trail : Trail) (root : ClassId) (time : Micro) (net : ℕ) : Type 0 where
-  pub right : IsNetBy plan trail (root_want root time true) net ⊎ (IsCut plan.curves.now.points root.0 time.0 × IsNetBy plan trail (root_want root time false) net)
+  pub right : IsNetBy plan trail (root_want root time true) net
+      ⊎ (IsCut plan.curves.now.points root.0 time.0 × IsNetBy plan trail (root_want root time false) net)
 
 -- the nets of roots, each by its time
 pub record AreRootsRight (plan : Plan) (trail : Trail) (nets : List ℕ) : Type 0 where
   pub one_net : length nets ≡ length plan.roots.now
   pub one_time : length plan.times.now ≡ length plan.roots.now
-  pub each : (k : ℕ) (root : ClassId) (time : Micro) (net : ℕ) → slice_get plan.roots.now k ≡ Some root → slice_get plan.times.now k ≡ Some time → slice_get nets k ≡ Some net → IsRootBy plan trail root time net
+  pub each : (k : ℕ) (root : ClassId) (time : Micro) (net : ℕ) → slice_get plan.roots.now k ≡ Some root
+      → slice_get plan.times.now k ≡ Some time → slice_get nets k ≡ Some net → IsRootBy plan trail root time net
 
 -- the nets of pins by a time, each with its delay
 pub record ArePinsRight (plan : Plan) (trail : Trail) (demand : Demand) (nets : List ℕ) : Type 0 where
   pub one_net : length nets ≡ length demand.pins.now
   pub one_delay : length demand.delays.now ≡ length demand.pins.now
-  pub each : (k : ℕ) (pin : ClassId) (delay : Micro) (net : ℕ) → slice_get demand.pins.now k ≡ Some pin → slice_get demand.delays.now k ≡ Some delay → slice_get nets k ≡ Some net → IsNetBy plan trail (want_of_pin demand pin delay) net
+  pub each : (k : ℕ) (pin : ClassId) (delay : Micro) (net : ℕ) → slice_get demand.pins.now k ≡ Some pin
+      → slice_get demand.delays.now k ≡ Some delay → slice_get nets k ≡ Some net
+      → IsNetBy plan trail (want_of_pin demand pin delay) net
 
 -- the cell of the point's choice, and its pins with their delays by the time of the point
 pub record IsDemand (plan : Plan) (node : Node) (demand : Demand) : Type 0 where
@@ -104,11 +113,14 @@ pub record IsNodeRight (plan : Plan) (trail : Trail) (node : Node) (cell : CellI
 -- a root's net, or the net of a pin of an earlier gate
 abbrev pub IsUsedEarlier : ℕ → List (List ℕ) → List ℕ → ℕ → Type 0
 IsUsedEarlier count pins nets j =
-    ((k : ℕ) × (slice_get nets k ≡ Some (count + j))) ⊎ ((g : ℕ) × (row : List ℕ) × (k : ℕ) × (g < j) × (slice_get pins g ≡ Some row) × (slice_get row k ≡ Some (count + j)))
+    ((k : ℕ) × (slice_get nets k ≡ Some (count + j))) ⊎
+    ((g : ℕ) × (row : List ℕ) × (k : ℕ) × (g < j) × (slice_get pins g ≡ Some row)
+    × (slice_get row k ≡ Some (count + j)))
 
 -- the point has this exact gate
 abbrev pub IsOwned : List (Vec ℕ) → Node → ℕ → Type 0
-IsOwned owners node j = (row : Vec ℕ) × (slice_get owners node.class.0 ≡ Some row) × (slice_get row.items node.place ≡ Some j)
+IsOwned owners node j =
+    (row : Vec ℕ) × (slice_get owners node.class.0 ≡ Some row) × (slice_get row.items node.place ≡ Some j)
 
 -- the class has this shared gate
 abbrev pub IsSpare : List ℕ → Node → ℕ → Type 0

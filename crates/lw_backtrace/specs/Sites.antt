@@ -25,14 +25,17 @@ pub record Site : Type 0 where
   pub point : Held
   pub exact : Bool
 
--- the net of an input that has the class of the point, and starts by its time; or else that of the point's gate, which stands where the
--- site does
+-- the net of an input that has the class of the point, and starts by its time; or else that of the point's gate, which
+-- stands where the site does
 abbrev pub IsNetOfPoint : Task → List Site → Bool → Held → ℕ → Type 0
 IsNetOfPoint s sites exact h net =
-    ((slice_get s.graph.leaves net ≡ Some h.spot.class) × (start_of (timing s).starts net ≤ h.spot.time)) ⊎ (((i : ℕ) → slice_get s.graph.leaves i ≡ Some h.spot.class → ⊥) × (j : ℕ) × (slice_get sites j ≡ Some (record { point = h; exact = exact })) × (net ≡ length s.graph.leaves + j))
+    ((slice_get s.graph.leaves net ≡ Some h.spot.class) × (start_of (timing s).starts net ≤ h.spot.time))
+    ⊎ (((i : ℕ) → slice_get s.graph.leaves i ≡ Some h.spot.class → ⊥) × (j : ℕ)
+    × (slice_get sites j ≡ Some (record { point = h; exact = exact })) × (net ≡ length s.graph.leaves + j))
 
 -- the net of a point of the class in time; for an exact use that of the last such point, which is exact too
-pub record IsPinNet (s : Task) (held : List Held) (sites : List Site) (exact : Bool) (c delay time net : ℕ) : Type 0 where
+pub record IsPinNet (s : Task) (held : List Held) (sites : List Site) (exact : Bool)
+    (c delay time net : ℕ) : Type 0 where
   pub point : Held
   pub own : Bool
   pub by : IsPointBy held c delay time point
@@ -47,7 +50,8 @@ HavePinNets s held sites exact time (d ∷ ds) (p ∷ ps) (net ∷ nets) =
 HavePinNets s held sites exact time _ _ _ = ⊥
 
 -- the gate has the cell of the point's choice, and such nets at its pins
-pub record IsGateOfPoint (s : Task) (choices : List Choice) (held : List Held) (sites : List Site) (site : Site) (g : Gate) : Type 0 where
+pub record IsGateOfPoint (s : Task) (choices : List Choice) (held : List Held) (sites : List Site) (site : Site)
+    (g : Gate) : Type 0 where
   pub class : ℕ
   pub pins : List ℕ
   pub chosen : slice_get choices site.point.choice ≡ Some (record { class = class; part = gate g.cell pins })

@@ -23,10 +23,11 @@ pub record AreTargets (g : Graph) (t : Targets) : Type 0 where
 
 -- the class has a point that is no later
 abbrev pub HasPointBy : List (List Point) → ClassId → Micro → Type 0
-HasPointBy curves c time = (row : List Point) × (p : Point) × (slice_get curves c.0 ≡ Some row) × Contains row p × (p.time.0 ≤ time.0)
+HasPointBy curves c time =
+    (row : List Point) × (p : Point) × (slice_get curves c.0 ≡ Some row) × Contains row p × (p.time.0 ≤ time.0)
 
--- The curves are those of the task, with a choice for each point, and no input's class has a point other than at the input's start. Each root
--- has a point by its time.
+-- The curves are those of the task, with a choice for each point, and no input's class has a point other than at the
+-- input's start. Each root has a point by its time.
 pub record AreCurvesFor (s : Task) (t : Targets) (curves : CurveLists) : Type 0 where
   pub horizon : ℕ
   pub are : AreCurves s horizon curves.points
@@ -34,4 +35,5 @@ pub record AreCurvesFor (s : Task) (t : Targets) (curves : CurveLists) : Type 0 
   pub ways : HaveWays s curves
   pub in_time : All (λ (time : Micro). time.0 ≤ horizon) t.times
   pub reached : AllZip (HasPointBy curves.points) t.roots t.times
-  pub starts : (i c : ℕ) (row : List Point) (p : Point) → slice_get s.graph.leaves i ≡ Some c → slice_get curves.points c ≡ Some row → Contains row p → p.time.0 ≡ start_of (timing s).starts i
+  pub starts : (i c : ℕ) (row : List Point) (p : Point) → slice_get s.graph.leaves i ≡ Some c
+      → slice_get curves.points c ≡ Some row → Contains row p → p.time.0 ≡ start_of (timing s).starts i

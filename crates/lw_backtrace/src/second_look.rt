@@ -1,6 +1,9 @@
 // What a walk has found, looked through.
 ghost use Rattle.std.specs.Prelude.{◌≡◌, ◌+◌, IsTrue};
-ghost use Rattle.lw_backtrace.specs.SecondLook.{ArePinsRight, AreRootsRight, HasNumber, IsEven, IsNodeFor, IsCut, IsNetBy, IsNodeBy, IsGateRight, IsNodeRight, IsOnlyGate, IsOwned, IsRightWalk, IsRootBy, IsSpare, IsUsedEarlier};
+ghost use Rattle.lw_backtrace.specs.SecondLook.{ArePinsRight, AreRootsRight, HasNumber, IsEven};
+ghost use Rattle.lw_backtrace.specs.SecondLook.{IsNodeFor, IsCut, IsNetBy, IsNodeBy, IsGateRight};
+ghost use Rattle.lw_backtrace.specs.SecondLook.{IsNodeRight, IsOnlyGate, IsOwned, IsRightWalk};
+ghost use Rattle.lw_backtrace.specs.SecondLook.{IsRootBy, IsSpare, IsUsedEarlier};
 
 use crate::trail::{MOST_GATES, Node, Trail, User};
 use crate::wants::{Demand, Plan, Want, demand_of, pin_want, root_want};

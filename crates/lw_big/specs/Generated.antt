@@ -1,5 +1,6 @@
 -- The network of so many nodes that is drawn from a seed.
-use Rattle.std.specs.Prelude.{ℕ, ◌+◌, ◌-◌, ◌*◌, ◌%◌, ◌==◌, nat_lt, not, List, [], ◌∷◌, ◌++◌, map, drop, if◌then◌else◌, codes}
+use Rattle.std.specs.Prelude.{ℕ, ◌+◌, ◌-◌, ◌*◌, ◌%◌, ◌==◌, nat_lt, not, List, [], ◌∷◌, ◌++◌, map, drop, if◌then◌else◌}
+use Rattle.std.specs.Prelude.{codes}
 use Rattle.std.specs.Fmt.{decimal}
 use Rattle.std.specs.List.{range_with_len}
 use Rattle.lw_net.specs.declared.draft.Draft.{Draft}
@@ -38,7 +39,8 @@ node_kind seed k = draw seed (3 * k + 2) % 4
 -- The rows of a kind: where the node is true, or, of a NAND, where it is false.
 abbrev pub rows_of : ℕ → List (List ℕ)
 rows_of kind =
-    if kind == 1 then codes "1-" ∷ codes "-1" ∷ [] else (if kind == 2 then codes "10" ∷ codes "01" ∷ [] else codes "11" ∷ [])
+    if kind == 1 then codes "1-" ∷ codes "-1" ∷ [] else
+    (if kind == 2 then codes "10" ∷ codes "01" ∷ [] else codes "11" ∷ [])
 
 -- node k with these two fan-ins and of this kind
 abbrev pub node_with : ℕ → ℕ → ℕ → ℕ → DraftNode

@@ -2,7 +2,8 @@
 ghost use Rattle.std.specs.Prelude.{◌≡◌, ◌+◌, ◌*◌, ◌<◌, ◌≤◌, [], ◌∷◌, ℕ, All, IfOk};
 ghost use Rattle.lw_net.specs.Signs.{IsSign};
 ghost use Rattle.lw_big.specs.Drawing.{HasDrawn};
-ghost use Rattle.lw_big.specs.Generated.{most_nodes, signal_name, first_fanin, other_than, second_fanin, node_kind, rows_of, node_with, drawn_nodes};
+ghost use Rattle.lw_big.specs.Generated.{most_nodes, signal_name, first_fanin, other_than};
+ghost use Rattle.lw_big.specs.Generated.{second_fanin, node_kind, rows_of, node_with, drawn_nodes};
 
 use crate::draws::Draws;
 use crate::naming::{INPUTS, signal_name};

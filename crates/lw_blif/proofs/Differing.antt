@@ -4,9 +4,8 @@ use Rattle.std.specs.List.{flat_map, IsDistinct, AllByRecursion}
 use Rattle.std.specs.List.Sorted.{IsPermutation}
 use Rattle.std.specs.Str.{bytes_eq}
 use Rattle.std.proofs.lemmas.Bool.{and_parts, not-true}
-use Rattle.std.proofs.lemmas.List.Sorted.{IsPermutation-refl, IsPermutation-sym, IsPermutation-trans, IsPermutation-to_front, IsPermutation-append_comm, IsPermutation-append_left, IsPermutation-append_right}
-use Rattle.std.proofs.lemmas.Map.Keys.{IsDistinct-IsPermutation, IsDistinct-cons}
-use Rattle.lw_facts.proofs.Lists.{bytes_eq_turned}
+use Rattle.std.proofs.lemmas.List.Sorted.{IsPermutation-refl, IsPermutation-trans, IsPermutation-append_comm, IsPermutation-append_left, IsPermutation-append_right}
+use Rattle.lw_facts.proofs.Lists.{distinct_push}
 use Rattle.lw_blif.specs.Readers.{are_fresh}
 use Rattle.lw_words.specs.Words.{is_among}
 
@@ -19,20 +18,13 @@ none-among (other ∷ names) name e = by_first (bytes_eq name other) refl e (non
     by_first true is h others = let wrong : true ≡ false = sym (ap (λ b. b || is_among names name) is) ∙ h in cc
     by_first false is h others = (is, others (sym (ap (λ b. b || is_among names name) is) ∙ h))
 
--- a name more
-distinct-push : (names : List (List ℕ)) (name : List ℕ) → IsDistinct bytes_eq names → is_among names name ≡ false → IsDistinct bytes_eq (names ++ name ∷ [])
-distinct-push names name distinct none =
-    IsDistinct-IsPermutation bytes_eq bytes_eq_turned (name ∷ names) (names ++ name ∷ [])
-    (IsPermutation-sym (names ++ name ∷ []) (name ∷ names) (IsPermutation-to_front names name))
-    (IsDistinct-cons bytes_eq name names (none-among names name none) distinct)
-
 -- names that are new
 pub distinct-fresh : (names more : List (List ℕ)) → IsDistinct bytes_eq names → are_fresh names more ≡ true → IsDistinct bytes_eq (names ++ more)
 distinct-fresh names [] distinct fresh = subst (IsDistinct bytes_eq) (sym (append-nil names)) distinct
 distinct-fresh names (name ∷ more) distinct fresh =
     let parts = and_parts (not (is_among names name)) (are_fresh (names ++ name ∷ []) more) fresh in
     subst (IsDistinct bytes_eq) (append_assoc names (name ∷ []) more)
-    (distinct-fresh (names ++ name ∷ []) more (distinct-push names name distinct (not-true (is_among names name) parts.0)) parts.1)
+    (distinct-fresh (names ++ name ∷ []) more (distinct_push names name distinct (not-true (is_among names name) parts.0)) parts.1)
 
 -- Two lists of names an element, one after the other.
 pub in-two : {A : Type 0} (f g : A → List (List ℕ)) (xs : List A) → IsPermutation (flat_map (λ x. f x ++ g x) xs) (flat_map f xs ++ flat_map g xs)

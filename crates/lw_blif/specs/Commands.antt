@@ -2,11 +2,13 @@
 use Rattle.std.specs.Prelude.{ℕ, Bool, ◌||◌, List, [], ◌∷◌, if◌then◌else◌, codes}
 use Rattle.std.specs.Str.{bytes_eq}
 use Rattle.lw_blif.specs.declared.command.Command.{Command}
-use Rattle.lw_blif.specs.declared.command.Command.TheVariants.{Model, Inputs, Outputs, Names, Latch, Arrival, DefaultArrival, End, Ignored, Unsupported, Unknown, Row}
+use Rattle.lw_blif.specs.declared.command.Command.TheVariants.{Model, Inputs, Outputs, Names, Latch, Arrival}
+use Rattle.lw_blif.specs.declared.command.Command.TheVariants.{DefaultArrival, End, Ignored, Unsupported, Unknown, Row}
 use Rattle.lw_words.specs.Words.{is_among, is_ignored_word, has_point}
 
 abbrev pub unsupported_words : List (List ℕ)
-unsupported_words = codes ".gate" ∷ codes ".mlatch" ∷ codes ".subckt" ∷ codes ".search" ∷ codes ".clock" ∷ codes ".start_kiss" ∷ []
+unsupported_words =
+    codes ".gate" ∷ codes ".mlatch" ∷ codes ".subckt" ∷ codes ".search" ∷ codes ".clock" ∷ codes ".start_kiss" ∷ []
 
 unfoldable pub is_unsupported_word : List ℕ → Bool
 is_unsupported_word word = is_among unsupported_words word

@@ -1,5 +1,6 @@
 -- What lines that break no rule say.
-use Rattle.std.specs.Prelude.{ℕ, ◌≡◌, Bool, not, List, [], ◌∷◌, ◌++◌, length, map, filter, Option, Some, None, Result, Ok, Err, if◌then◌else◌, codes}
+use Rattle.std.specs.Prelude.{ℕ, ◌≡◌, Bool, not, List, [], ◌∷◌, ◌++◌, length, map, filter, Option, Some, None, Result}
+use Rattle.std.specs.Prelude.{Ok, Err, if◌then◌else◌, codes}
 use Rattle.std.specs.List.{list_any, flat_map}
 use Rattle.std.specs.Str.{bytes_eq}
 use Rattle.lw_words.specs.Lines.{LogicalLine}
@@ -10,7 +11,8 @@ use Rattle.lw_blif.specs.declared.parsed.Parsed.{Parsed}
 use Rattle.lw_blif.specs.declared.command.Command.{Command}
 use Rattle.lw_blif.specs.declared.command.Command.TheVariants as asks
 use Rattle.lw_blif.specs.declared.command.Command.TheVariants.{Model, Inputs, Outputs}
-use Rattle.lw_blif.specs.LineFaults.{last_word, other_words, command, is_row, is_names, is_ignored, fanins_on, times_for, start_in}
+use Rattle.lw_blif.specs.LineFaults.{last_word, other_words, command, is_row, is_names, is_ignored, fanins_on}
+use Rattle.lw_blif.specs.LineFaults.{times_for, start_in}
 use Rattle.lw_fixed.specs.declared.micro.Micro.{Micro}
 use Rattle.lw_fixed.specs.declared.fault.DecimalFault.{DecimalFault}
 use Rattle.lw_pool.specs.declared.latch.Latch.{Latch}
@@ -32,7 +34,13 @@ row_of line = columns_of line.words
 
 -- the node of a line and of the rows behind it
 abbrev pub node_of : LogicalLine → List LogicalLine → DraftNode
-node_of line rows = record { out = last_word line.words; fanins = fanins_on line; rows = map row_of rows; on = not (list_any is_off_row rows) }
+node_of line rows =
+    record {
+      out = last_word line.words;
+      fanins = fanins_on line;
+      rows = map row_of rows;
+      on = not (list_any is_off_row rows);
+    }
 
 -- the nodes of lines, none of which is ignored
 abbrev pub nodes_of : List LogicalLine → List DraftNode
@@ -84,7 +92,8 @@ arrival_of named (Err fault) = []
 
 -- what a line of this command and these words says of starts
 abbrev pub arrivals_for : Command → List (List ℕ) → List Arrival
-arrivals_for asks.Arrival words = arrival_of (Some (first_word (other_words words))) (start_in (times_for asks.Arrival words))
+arrivals_for asks.Arrival words =
+    arrival_of (Some (first_word (other_words words))) (start_in (times_for asks.Arrival words))
 arrivals_for asks.DefaultArrival words = arrival_of None (start_in (times_for asks.DefaultArrival words))
 arrivals_for other words = []
 

@@ -15,7 +15,8 @@ Stops (Some (why.Broken number kind)) first = first ≡ Some (record { number = 
 Stops (Some why.Memory) first = ⊤
 
 -- This is kept of these lines.
-pub record IsKept (is_begun is_ended : Bool) (stopped : Option Stop) (parts : Parts) (lines : List LogicalLine) : Type 0 where
+pub record IsKept (is_begun is_ended : Bool) (stopped : Option Stop) (parts : Parts)
+    (lines : List LogicalLine) : Type 0 where
   pub stop : Stops stopped (first_fault [] (lines_read lines))
   pub begun : stopped ≡ None → is_begun ≡ not (is_first lines)
   pub ended : stopped ≡ None → is_ended ≡ has_ended lines

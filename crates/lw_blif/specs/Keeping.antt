@@ -1,13 +1,17 @@
 -- What the parts keep of lines.
-use Rattle.std.specs.Prelude.{⊤, ℕ, Bool, true, ◌≤◌, length, ◌≡◌, ◌++◌, List, [], ◌∷◌, take, Option, Some, None, option_to_list, if◌then◌else◌}
+use Rattle.std.specs.Prelude.{⊤, ℕ, Bool, true, ◌≤◌, length, ◌≡◌, ◌++◌, List, [], ◌∷◌, take, Option, Some, None}
+use Rattle.std.specs.Prelude.{option_to_list, if◌then◌else◌}
 use Rattle.std.specs.Str.{bytes_eq}
 use Rattle.indexmap.specs.IndexSet.{insert_all}
 use Rattle.lw_blif.specs.declared.command.Command.{Command}
-use Rattle.lw_blif.specs.declared.command.Command.TheVariants.{Model, Inputs, Outputs, Names, Latch, Arrival, DefaultArrival}
-use Rattle.lw_blif.specs.LineFaults.{other_words, is_names_command, defined_for, first_fault, first_broken, arrival_rules}
+use Rattle.lw_blif.specs.declared.command.Command.TheVariants.{Model, Inputs, Outputs, Names, Latch, Arrival}
+use Rattle.lw_blif.specs.declared.command.Command.TheVariants.{DefaultArrival}
+use Rattle.lw_blif.specs.LineFaults.{other_words, is_names_command, defined_for, first_fault, first_broken}
+use Rattle.lw_blif.specs.LineFaults.{arrival_rules}
 use Rattle.lw_blif.specs.declared.fault.BlifKind.{BlifKind}
 use Rattle.lw_blif.specs.declared.fault.BlifKind.TheVariants as kind
-use Rattle.lw_blif.specs.Drafts.{model_for, inputs_for, outputs_for, latches_for, arrivals_for, draft_of, frame_on, starts_on}
+use Rattle.lw_blif.specs.Drafts.{model_for, inputs_for, outputs_for, latches_for, arrivals_for, draft_of, frame_on}
+use Rattle.lw_blif.specs.Drafts.{starts_on}
 use Rattle.lw_blif.specs.declared.drafting.Said.{Said}
 use Rattle.lw_frame.specs.Frames.{Fits}
 use Rattle.lw_frame.specs.Starts.{StartsFit}
@@ -16,7 +20,8 @@ use Rattle.lw_frame.specs.Standing.{StandsFor}
 use Rattle.lw_words.specs.Lines.{LogicalLine}
 use Rattle.lw_net.specs.declared.draft.DraftNode.{DraftNode}
 use Rattle.lw_blif.specs.declared.parts.Parts.{Parts}
-use Rattle.lw_blif.specs.Readers.{Kept, KeptAround, row_added, node_begun, are_fresh, names_fault_of, row_fault_of, fault_else}
+use Rattle.lw_blif.specs.Readers.{Kept, KeptAround, row_added, node_begun, are_fresh, names_fault_of, row_fault_of}
+use Rattle.lw_blif.specs.Readers.{fault_else}
 use Rattle.lw_pool.specs.Numbers.{most_signals}
 
 pub record Keeps (parts : Parts) (lines : List LogicalLine) : Type 0 where
@@ -113,10 +118,12 @@ pub record ReadsNames (old : Parts) (c : Command) (words : List (List ℕ)) (new
 
 -- the first rule that a line of names breaks
 abbrev pub names_fault : Parts → Command → List (List ℕ) → Option BlifKind
-names_fault parts c words = fault_else (names_fault_of (length parts.defined.keys) c words) (if are_fresh parts.defined.keys (defined_for c words) then None else Some kind.Redefined)
+names_fault parts c words = fault_else (names_fault_of (length parts.defined.keys) c words)
+    (if are_fresh parts.defined.keys (defined_for c words) then None else Some kind.Redefined)
 
 -- A line of names is read, or the first rule that it breaks is told.
-pub record ReadsNamesLine (old : Parts) (c : Command) (words : List (List ℕ)) (new : Parts) (told : Option BlifKind) : Type 0 where
+pub record ReadsNamesLine (old : Parts) (c : Command) (words : List (List ℕ)) (new : Parts)
+    (told : Option BlifKind) : Type 0 where
   pub fault : told ≡ names_fault old c words
   pub names : told ≡ None → ReadsNames old c words new
 
@@ -148,10 +155,12 @@ pub record ReadsArrival (old : Parts) (c : Command) (words : List (List ℕ)) (n
   pub nodes : new.nodes ≡ old.nodes ++ option_to_list old.node
   pub node : new.node ≡ None
   pub latches : new.latches ≡ old.latches
-  pub arrivals : (said : List starts.Arrival) → StandsFor old.arrivals said → StandsFor new.arrivals (said ++ arrivals_for c words)
+  pub arrivals : (said : List starts.Arrival) → StandsFor old.arrivals said
+      → StandsFor new.arrivals (said ++ arrivals_for c words)
 
 -- An arrival line is read, or the first rule that it breaks is told.
-pub record ReadsArrivalLine (old : Parts) (c : Command) (words : List (List ℕ)) (new : Parts) (told : Option BlifKind) : Type 0 where
+pub record ReadsArrivalLine (old : Parts) (c : Command) (words : List (List ℕ)) (new : Parts)
+    (told : Option BlifKind) : Type 0 where
   pub fault : told ≡ arrival_fault c words
   pub arrival : told ≡ None → ReadsArrival old c words new
 

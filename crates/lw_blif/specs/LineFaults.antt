@@ -1,10 +1,13 @@
 -- The first rule that a line of a network's text breaks, behind the lines before it.
-use Rattle.std.specs.Prelude.{ℕ, ◌+◌, ◌-◌, Bool, true, false, not, ◌&&◌, ◌||◌, ◌==◌, nat_lt, nat_le, List, [], ◌∷◌, ◌++◌, length, take, drop, reverse, filter, Option, Some, None, Result, Ok, Err, if◌then◌else◌, codes}
+use Rattle.std.specs.Prelude.{ℕ, ◌+◌, ◌-◌, Bool, true, false, not, ◌&&◌, ◌||◌, ◌==◌, nat_lt, nat_le, List, [], ◌∷◌}
+use Rattle.std.specs.Prelude.{◌++◌, length, take, drop, reverse, filter, Option, Some, None, Result, Ok, Err}
+use Rattle.std.specs.Prelude.{if◌then◌else◌, codes}
 use Rattle.std.specs.List.{list_any, list_all, flat_map}
 use Rattle.std.specs.Str.{bytes_eq}
 use Rattle.lw_words.specs.Lines.{LogicalLine}
 use Rattle.lw_blif.specs.declared.command.Command.{Command}
-use Rattle.lw_blif.specs.declared.command.Command.TheVariants.{Model, Inputs, Outputs, Names, Latch, Arrival, DefaultArrival, End, Ignored, Unsupported, Unknown, Row}
+use Rattle.lw_blif.specs.declared.command.Command.TheVariants.{Model, Inputs, Outputs, Names, Latch, Arrival}
+use Rattle.lw_blif.specs.declared.command.Command.TheVariants.{DefaultArrival, End, Ignored, Unsupported, Unknown, Row}
 use Rattle.lw_blif.specs.declared.fault.BlifKind.{BlifKind}
 use Rattle.lw_blif.specs.declared.fault.BlifKind.TheVariants as kind
 use Rattle.lw_blif.specs.Commands.{command_of}
@@ -129,7 +132,8 @@ is_value word = bytes_eq word (codes "0") || bytes_eq word (codes "1")
 -- a row of a node with this many fan-ins
 abbrev pub has_shape : ℕ → List (List ℕ) → Bool
 has_shape fanins (value ∷ []) = fanins == 0 && is_value value
-has_shape fanins (columns ∷ value ∷ []) = nat_lt 0 fanins && length columns == fanins && list_all is_column columns && is_value value
+has_shape fanins (columns ∷ value ∷ []) =
+    nat_lt 0 fanins && length columns == fanins && list_all is_column columns && is_value value
 has_shape fanins words = false
 
 -- some row has another last word
@@ -167,9 +171,15 @@ row_rules node rows words =
 abbrev pub name_rules : List (List ℕ) → Command → List (List ℕ) → List Rule
 name_rules defined c words =
     record { broken = not (list_all is_name (names_for c words)); kind = kind.BadName }
-    ∷ record { broken = is_names_command c && nat_lt most_fanins (length (words_before_last (other_words words))); kind = kind.LimitFanin }
+    ∷ record {
+      broken = is_names_command c && nat_lt most_fanins (length (words_before_last (other_words words)));
+      kind = kind.LimitFanin;
+    }
     ∷ record { broken = nat_lt most_signals (length defined + length (defined_for c words)); kind = kind.LimitSignals }
-    ∷ record { broken = has_twice (defined_for c words) || list_any (is_among defined) (defined_for c words); kind = kind.Redefined } ∷ []
+    ∷ record {
+      broken = has_twice (defined_for c words) || list_any (is_among defined) (defined_for c words);
+      kind = kind.Redefined;
+    } ∷ []
 
 -- a command for an arrival line
 abbrev pub is_arrival_command : Command → Bool
@@ -221,7 +231,8 @@ rules_for node rows defined Row words = row_rules node rows words
 rules_for node rows defined Ignored words = []
 rules_for node rows defined Arrival words = arrival_rules Arrival words
 rules_for node rows defined DefaultArrival words = arrival_rules DefaultArrival words
-rules_for node rows defined c words = record { broken = not (wants_words c words); kind = kind.WordCount } ∷ name_rules defined c words
+rules_for node rows defined c words =
+    record { broken = not (wants_words c words); kind = kind.WordCount } ∷ name_rules defined c words
 
 -- The first rule that the line breaks behind these, which break none.
 unfoldable pub line_fault : List LogicalLine → LogicalLine → Option BlifKind
@@ -241,7 +252,8 @@ fault_or number None other = other
 -- the first of the lines behind these that breaks a rule
 unfoldable pub first_fault : List LogicalLine → List LogicalLine → Option FaultAt
 first_fault before [] = None
-first_fault before (line ∷ lines) = fault_or line.number (line_fault before line) (first_fault (before ++ line ∷ []) lines)
+first_fault before (line ∷ lines) =
+    fault_or line.number (line_fault before line) (first_fault (before ++ line ∷ []) lines)
 
 -- a line of these ends the reading
 abbrev pub has_ended : List LogicalLine → Bool

@@ -1,14 +1,19 @@
 -- What a reader keeps of the lines that it was given.
-use Rattle.std.specs.Prelude.{ℕ, ◌+◌, Bool, true, false, not, ◌&&◌, nat_lt, nat_le, Option, Some, None, Result, Ok, Err, List, [], ◌∷◌, ◌++◌, length, drop, reverse, if◌then◌else◌, ◌≡◌, ◌≤◌, map, take, codes, option_to_list}
+use Rattle.std.specs.Prelude.{ℕ, ◌+◌, Bool, true, false, not, ◌&&◌, nat_lt, nat_le, Option, Some, None, Result, Ok, Err}
+use Rattle.std.specs.Prelude.{List, [], ◌∷◌, ◌++◌, length, drop, reverse, if◌then◌else◌, ◌≡◌, ◌≤◌, map, take, codes}
+use Rattle.std.specs.Prelude.{option_to_list}
 use Rattle.std.specs.Str.{bytes_eq}
 use Rattle.lw_net.specs.declared.draft.DraftNode.{DraftNode}
 use Rattle.lw_words.specs.Lines.{LogicalLine, has_some}
 use Rattle.lw_blif.specs.declared.fault.BlifKind.{BlifKind}
 use Rattle.lw_blif.specs.declared.fault.BlifKind.TheVariants as kind
-use Rattle.lw_blif.specs.LineFaults.{most_rows, most_fanins, defined_by, last_word, has_shape, nearest, rows_before, node_before, wants_words, names_for, defined_for, is_names_command, words_before_last, other_words, times_for, start_in}
+use Rattle.lw_blif.specs.LineFaults.{most_rows, most_fanins, defined_by, last_word, has_shape, nearest, rows_before}
+use Rattle.lw_blif.specs.LineFaults.{node_before, wants_words, names_for, defined_for, is_names_command}
+use Rattle.lw_blif.specs.LineFaults.{words_before_last, other_words, times_for, start_in}
 use Rattle.lw_blif.specs.declared.command.Command.{Command}
 use Rattle.std.specs.List.{list_all, flat_map}
-use Rattle.lw_blif.specs.Drafts.{nodes_of, node_of, columns_of, model_on, inputs_on, outputs_on, latches_on, arrivals_on}
+use Rattle.lw_blif.specs.Drafts.{nodes_of, node_of, columns_of, model_on, inputs_on, outputs_on, latches_on}
+use Rattle.lw_blif.specs.Drafts.{arrivals_on}
 use Rattle.lw_frame.specs.Frames.{each_once}
 use Rattle.lw_frame.specs.Standing.{StandsFor}
 use Rattle.lw_frame.specs.declared.arrivals.Arrivals.{Arrivals}
@@ -54,7 +59,8 @@ unfoldable pub names_fault_of : ℕ → Command → List (List ℕ) → Option B
 names_fault_of count c words =
     if not (wants_words c words) then Some kind.WordCount
     else (if not (list_all is_name (names_for c words)) then Some kind.BadName
-    else (if is_names_command c && nat_lt most_fanins (length (words_before_last (other_words words))) then Some kind.LimitFanin
+    else (if is_names_command c
+    && nat_lt most_fanins (length (words_before_last (other_words words))) then Some kind.LimitFanin
     else (if nat_lt most_signals (count + length (defined_for c words)) then Some kind.LimitSignals else None)))
 
 -- a decimal's fault as a rule that is broken
@@ -66,15 +72,23 @@ start_or_kind (Err fault) = Err (kind.Decimal fault)
 unfoldable pub start_said_on : Command → List (List ℕ) → Result Micro BlifKind
 start_said_on c words =
     if not (wants_words c words) then Err kind.WordCount
-    else (if not (list_all is_name (names_for c words)) then Err kind.BadName else start_or_kind (start_in (times_for c words)))
+    else (if not (list_all is_name (names_for c words)) then Err kind.BadName else start_or_kind
+    (start_in (times_for c words)))
 
 -- the node of a line of these words, before its rows
 abbrev pub node_begun : List (List ℕ) → DraftNode
-node_begun words = record { out = last_word words; fanins = words_before_last (other_words words); rows = []; on = true }
+node_begun words =
+    record { out = last_word words; fanins = words_before_last (other_words words); rows = []; on = true }
 
 -- the node with one more row of these words
 abbrev pub row_added : List (List ℕ) → DraftNode → DraftNode
-row_added words node = record { out = node.out; fanins = node.fanins; rows = node.rows ++ columns_of words ∷ []; on = not (bytes_eq (last_word words) (codes "0")) }
+row_added words node =
+    record {
+      out = node.out;
+      fanins = node.fanins;
+      rows = node.rows ++ columns_of words ∷ [];
+      on = not (bytes_eq (last_word words) (codes "0"));
+    }
 
 -- the rows have this value
 abbrev pub HaveValue : List ℕ → List LogicalLine → Type 0
@@ -87,7 +101,8 @@ HaveValueOf None rows = Unit {0}
 HaveValueOf (Some node) rows = HaveValue (value_word node.on) rows
 
 -- What is kept of lines that break no rule.
-pub record Kept (model : Option (List ℕ)) (inputs outputs defined : List (List ℕ)) (nodes : List DraftNode) (node : Option DraftNode) (lines : List LogicalLine) : Type 0 where
+pub record Kept (model : Option (List ℕ)) (inputs outputs defined : List (List ℕ)) (nodes : List DraftNode)
+    (node : Option DraftNode) (lines : List LogicalLine) : Type 0 where
   pub model_is : option_to_list model ≡ take 1 (flat_map model_on lines)
   pub inputs_are : inputs ≡ flat_map inputs_on lines
   pub outputs_are : outputs ≡ each_once (flat_map outputs_on lines)

@@ -1,6 +1,7 @@
 // What the first word of a line asks for.
 ghost use Rattle.std.specs.Prelude.{◌≡◌};
-ghost use Rattle.lw_blif.specs.Commands.{command_of, point_command, other_command, is_unsupported_word};
+ghost use Rattle.lw_blif.specs.Commands.{command_of, point_command, other_command};
+ghost use Rattle.lw_blif.specs.Commands.{is_unsupported_word};
 
 use lw_words::{is, is_ignored};
 

@@ -1,5 +1,6 @@
 // Signals that a line defines, and the node that it begins.
-ghost use Rattle.std.specs.Prelude.{◌≡◌, ◌++◌, [], ◌∷◌, take, drop, option_to_list, Some, IfOk, OnOk};
+ghost use Rattle.std.specs.Prelude.{◌≡◌, ◌++◌, [], ◌∷◌, take, drop, option_to_list, Some, IfOk};
+ghost use Rattle.std.specs.Prelude.{OnOk};
 ghost use Rattle.indexmap.specs.IndexSet.{insert_all};
 ghost use Rattle.std.specs.Str.{bytes_eq};
 ghost use Rattle.lw_blif.specs.Readers.{AreDefined, node_begun};

@@ -1,5 +1,6 @@
 // The draft of what lines say.
-ghost use Rattle.std.specs.Prelude.{◌≡◌, ◌+◌, ◌++◌, IfOk, OnOk, length, option_to_list, unwrap_or, codes};
+ghost use Rattle.std.specs.Prelude.{◌≡◌, ◌+◌, ◌++◌, IfOk, OnOk, length, option_to_list, unwrap_or};
+ghost use Rattle.std.specs.Prelude.{codes};
 ghost use Rattle.lw_frame.specs.Frames.{input_names, root_names};
 ghost use Rattle.std.specs.List.{IsDistinct};
 ghost use Rattle.std.specs.Str.{bytes_eq};

@@ -1,33 +1,12 @@
 // Words in places of names.
-ghost use Rattle.std.specs.Prelude.{◌≡◌, ◌-◌, ◌<◌, ◌≤◌, length, drop, IfOk};
-ghost use Rattle.std.specs.List.{list_all, slice_range};
+ghost use Rattle.std.specs.Prelude.{◌≡◌, ◌-◌, ◌<◌, ◌≤◌, length, IfOk};
+ghost use Rattle.std.specs.List.{slice_range};
 ghost use Rattle.lw_blif.specs.LineFaults.{last_word};
-ghost use Rattle.lw_words.specs.Words.{first_word, is_name};
+ghost use Rattle.lw_words.specs.Words.{first_word};
 
 use lw_pool::{Name, Names};
 use lw_words::{Line, Words};
 use std::alloc::{AllocError, Global};
-
-const NAME_MAX: usize = 2000;
-
-/// Whether a word may be a name.
-pub fn is_name(word: &[u8]) -> bool
-    ensures { result ≡ is_name word.now }
-{
-    word.len() <= NAME_MAX && !word.ends_with(b"\\")
-}
-
-/// Whether all words from a place on are names.
-pub fn are_names(words: &Words, from: usize) -> bool
-    ensures { result ≡ list_all is_name (drop from words.now) }
-{
-    for i in from..words.len() {
-        if !is_name(words.get(i)) {
-            return false;
-        }
-    }
-    true
-}
 
 /// The words between two places.
 pub fn names_between(

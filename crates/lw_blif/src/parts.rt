@@ -1,5 +1,6 @@
 // What lines say, as far as they were read.
-ghost use Rattle.std.specs.Prelude.{◌≡◌, ◌≢◌, ◌++◌, [], ◌∷◌, List, None, IfOk, OnOk, option_to_list};
+ghost use Rattle.std.specs.Prelude.{◌≡◌, ◌≢◌, ◌++◌, [], ◌∷◌, List, None, IfOk, OnOk};
+ghost use Rattle.std.specs.Prelude.{option_to_list};
 
 use crate::adding::add_row;
 use crate::arrival::{add_start, start_on};
@@ -43,9 +44,12 @@ impl Parts {
     ghost use Rattle.std.specs.Prelude.{unwrap_or, codes};
     ghost use Rattle.lw_frame.specs.Frames.{input_names};
     ghost use Rattle.lw_net.specs.Plain.{HasRisingDepths};
-    ghost use Rattle.lw_blif.specs.Keeping.{Keeps, IsSaidOf, IsOfSome, ReadsRow, ReadsArrivalLine, DefinesNew, EndsNode, TakesNames, TakesModel, ReadsNamesLine};
+    ghost use Rattle.lw_blif.specs.Keeping.{Keeps, IsSaidOf, IsOfSome, ReadsRow, ReadsArrivalLine};
+    ghost use Rattle.lw_blif.specs.Keeping.{DefinesNew, EndsNode, TakesNames, TakesModel};
+    ghost use Rattle.lw_blif.specs.Keeping.{ReadsNamesLine};
     ghost use Rattle.lw_blif.specs.LineFaults.{command, defined_for, line_fault};
 
+    /// Nothing was said yet.
     pub fn new(alloc: Global) -> Self
         ensures { Keeps result [] }
     {

@@ -62,6 +62,7 @@ impl Reader {
     ghost use Rattle.lw_blif.specs.Standing.{StandsFor, Tells, Stopped, stop_of, fault_of};
     ghost use Rattle.lw_net.specs.Plain.{HasRisingDepths};
 
+    /// A reader of a model, before its first line.
     pub fn new(alloc: Global) -> Self
         ensures { StandsFor result [] }
     {

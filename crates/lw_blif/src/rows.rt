@@ -37,7 +37,8 @@ fn has_shape(fanins: usize, words: &Words) -> bool
 }
 
 fn has_columns(fanins: usize, word: &[u8]) -> bool
-    ensures { result ≡ (nat_lt 0 fanins && length word.now == fanins && list_all is_column word.now) }
+    ensures { result ≡ (nat_lt 0 fanins && length word.now == fanins
+        && list_all is_column word.now) }
 {
     fanins > 0 && word.len() == fanins && are_columns(word)
 }

@@ -1,13 +1,13 @@
 // The rules for lines of names.
 ghost use Rattle.std.specs.Prelude.{◌≡◌, ◌&&◌, nat_lt, length};
 ghost use Rattle.std.specs.List.{list_all};
-ghost use Rattle.lw_blif.specs.LineFaults.{wants_words, names_for, defined_for, is_names_command, words_before_last, other_words};
+ghost use Rattle.lw_blif.specs.LineFaults.{wants_words, names_for, defined_for, is_names_command};
+ghost use Rattle.lw_blif.specs.LineFaults.{words_before_last, other_words};
 ghost use Rattle.lw_blif.specs.Readers.{names_fault_of};
 ghost use Rattle.lw_words.specs.Words.{is_name};
 
-use crate::naming::{are_names, is_name};
 use crate::{BlifKind, Command};
-use lw_words::Words;
+use lw_words::{Words, are_names, is_name};
 
 const FANINS_MAX: usize = 256;
 

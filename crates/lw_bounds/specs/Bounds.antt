@@ -1,5 +1,6 @@
 -- Bounds on what the pins cost where a part of a pattern stands.
-use Rattle.std.specs.Prelude.{ℕ, ◌+◌, ◌-◌, ◌<◌, ◌≤◌, ◌≡◌, ◌⊎◌, Bool, true, false, List, [], length, min, max, Option, Some, slice_get, slice_index, slice_index_or}
+use Rattle.std.specs.Prelude.{ℕ, ◌+◌, ◌-◌, ◌<◌, ◌≤◌, ◌≡◌, ◌⊎◌, Bool, true, false, List, [], length, min, max, Option}
+use Rattle.std.specs.Prelude.{Some, slice_get, slice_index, slice_index_or}
 use Rattle.std.specs.List.{sum_by}
 use Rattle.lw_laws.specs.Graphs.{Graph, HoldsPair, Stands}
 use Rattle.lw_laws.specs.Trees.{Tree}
@@ -11,10 +12,11 @@ use Rattle.lw_bounds.specs.declared.parts.Side.{Side}
 use Rattle.lw_bounds.specs.declared.parts.Part.{Part}
 use Rattle.lw_cost.specs.Values.{marks_in}
 use Rattle.lw_bounds.specs.Shapes.{SideFits, HasShape, AllHaveShapes, HaveRootShapes, AreClosed}
-use Rattle.lw_bounds.specs.Numbers.{never, no_row, start_of, AreStarts, IsReading, Reading, number_from, part_number, side_number}
+use Rattle.lw_bounds.specs.Numbers.{never, no_row, start_of, AreStarts, IsReading, Reading, number_from, part_number}
+use Rattle.lw_bounds.specs.Numbers.{side_number}
 
--- the parts, the gaps of the pins of each pattern, the side of each node of each pattern and of its root, where the row of
--- each class starts, and the numbers of the parts in these rows
+-- the parts, the gaps of the pins of each pattern, the side of each node of each pattern and of its root, where the row
+-- of each class starts, and the numbers of the parts in these rows
 pub record BoundsState : Type 0 where
   pub parts : List Part
   pub gaps : List (List ℕ)
@@ -38,7 +40,8 @@ AreBare starts g =
 -- the rows of two classes have no number in common
 abbrev pub AreApart : ℕ → List ℕ → Type 0
 AreApart width starts =
-    (c d : ℕ) → (c ≡ d → ⊥) → (start_of starts c ≡ no_row → ⊥) → (start_of starts d ≡ no_row → ⊥) → (start_of starts c + width ≤ start_of starts d) ⊎ (start_of starts d + width ≤ start_of starts c)
+    (c d : ℕ) → (c ≡ d → ⊥) → (start_of starts c ≡ no_row → ⊥) → (start_of starts d ≡ no_row → ⊥)
+    → (start_of starts c + width ≤ start_of starts d) ⊎ (start_of starts d + width ≤ start_of starts c)
 
 -- a row for each class that has pairs, with a number for each part
 pub record AreRows (parts : List Part) (starts numbers : List ℕ) (g : Graph) : Type 0 where
@@ -58,7 +61,8 @@ pub record BoundsFit (b : BoundsState) (pats : List Pattern) (g : Graph) : Type 
 -- the number of the part at the class is not above what any pair of the class gives
 abbrev pub IsSettledAt : Graph → Reading → List Part → ℕ → ℕ → Type 0
 IsSettledAt g r parts c n =
-    (p : Part) (x y : ℕ) → slice_get parts n ≡ Some p → HoldsPair g c x y → part_number r n c ≤ max (side_number r p.left x) (side_number r p.right y)
+    (p : Part) (x y : ℕ) → slice_get parts n ≡ Some p → HoldsPair g c x y
+    → part_number r n c ≤ max (side_number r p.left x) (side_number r p.right y)
 
 -- so are those of the first parts
 abbrev pub AreSettledBelow : Graph → Reading → List Part → ℕ → ℕ → Type 0
@@ -85,7 +89,8 @@ AreRowsBut width starts at old new =
 -- the numbers of the parts at the class are not above what any pair of it gave before
 abbrev pub AreLowered : Graph → Reading → List Part → List ℕ → ℕ → Type 0
 AreLowered g old parts new c =
-    (n : ℕ) (p : Part) (x y : ℕ) → slice_get parts n ≡ Some p → HoldsPair g c x y → number_from new n (start_of old.starts c) ≤ max (side_number old p.left x) (side_number old p.right y)
+    (n : ℕ) (p : Part) (x y : ℕ) → slice_get parts n ≡ Some p → HoldsPair g c x y
+    → number_from new n (start_of old.starts c) ≤ max (side_number old p.left x) (side_number old p.right y)
 
 -- the table with other numbers
 abbrev pub with_numbers : BoundsState → List ℕ → BoundsState
@@ -101,12 +106,15 @@ pub record IsTableBut (at : ℕ → Type 0) (old new : BoundsState) : Type 0 whe
 -- the classes of the pins have marks, of which none costs more with the gap of its pin
 abbrev pub AreMarkedWithin : List (Option Mark) → List ℕ → List ℕ → ℕ → Type 0
 AreMarkedWithin marks gaps ps top =
-    (k c : ℕ) → slice_get ps k ≡ Some c → (m : PlainMark) × (marks_in marks c ≡ Some m) × (m.cost + slice_index gaps k ≤ top)
+    (k c : ℕ) → slice_get ps k ≡ Some c → (m : PlainMark) × (marks_in marks c ≡ Some m)
+    × (m.cost + slice_index gaps k ≤ top)
 
--- where a tree stands whose pins have marks, the number of its side is not above the greatest cost of a pin with its gap
+-- where a tree stands whose pins have marks, the number of its side is not above the greatest cost of a pin with its
+-- gap
 abbrev pub BoundsTree : Graph → Reading → List ℕ → Tree → Side → Type 0
 BoundsTree g r gaps t s =
-    (c : ℕ) (ps : List ℕ) (top : ℕ) → Stands g ps t c → AreMarkedWithin r.marks gaps ps top → side_number r s c ≤ min top (never - 1)
+    (c : ℕ) (ps : List ℕ) (top : ℕ) → Stands g ps t c → AreMarkedWithin r.marks gaps ps top
+    → side_number r s c ≤ min top (never - 1)
 
 -- the number of the side may be read at each class of the graph
 pub record IsReadable (g : Graph) (r : Reading) (s : Side) : Type 0 where
@@ -117,11 +125,13 @@ pub record IsReadable (g : Graph) (r : Reading) (s : Side) : Type 0 where
 -- where a tree stands whose pins have marks, the number of its side is not above their greatest height
 abbrev pub BoundsHeight : Graph → Reading → List (Option Mark) → Tree → Side → Type 0
 BoundsHeight g r marks t s =
-    (c : ℕ) (ps : List ℕ) (ms : List PlainMark) → Stands g ps t c → HaveMarks (marks_in marks) ps ms → side_number r s c ≤ greatest_height ms
+    (c : ℕ) (ps : List ℕ) (ms : List PlainMark) → Stands g ps t c → HaveMarks (marks_in marks) ps ms
+    → side_number r s c ≤ greatest_height ms
 
 abbrev pub AreBounds : BoundsState → Graph → List (Option Mark) → Type 0
 AreBounds b g marks =
-    (gaps : List ℕ) (t : Tree) (s : Side) → HasShape b.parts gaps 0 t s → BoundsTree g (bounds_reading b g marks) gaps t s
+    (gaps : List ℕ) (t : Tree) (s : Side) → HasShape b.parts gaps 0 t s
+    → BoundsTree g (bounds_reading b g marks) gaps t s
 
 abbrev pub total : List ℕ → ℕ
 total ns = sum_by (λ n. n) ns
@@ -131,7 +141,8 @@ abbrev pub bounds_weight : BoundsState → ℕ
 bounds_weight b = total b.numbers
 
 -- the numbers of a class fell to what its pairs gave, or they were that and stayed
-pub record IsRowRenewed (g : Graph) (old : Reading) (parts : List Part) (new : List ℕ) (c : ℕ) (fell : Bool) : Type 0 where
+pub record IsRowRenewed (g : Graph) (old : Reading) (parts : List Part) (new : List ℕ) (c : ℕ)
+    (fell : Bool) : Type 0 where
   pub size : length new ≡ length old.numbers
   pub falls : fell ≡ true → total new < total old.numbers
   pub same : fell ≡ false → new ≡ old.numbers
@@ -139,7 +150,8 @@ pub record IsRowRenewed (g : Graph) (old : Reading) (parts : List Part) (new : L
   pub others : AreRowsBut (length parts) old.starts (λ d. d ≡ c) old.numbers new
 
 -- a table of these patterns and this graph, with a mark or none for each class, and so many times
-pub record IsTableWithTimes (b : BoundsState) (times : ℕ) (pats : List Pattern) (g : Graph) (marks : List (Option Mark)) : Type 0 where
+pub record IsTableWithTimes (b : BoundsState) (times : ℕ) (pats : List Pattern) (g : Graph)
+    (marks : List (Option Mark)) : Type 0 where
   pub one_each : length marks ≡ length g.pairs
   pub times_are : times ≡ length g.pairs
   pub fit : BoundsFit b pats g
@@ -152,9 +164,12 @@ pub record IsTableAfter (old new : BoundsState) (fell : Bool) : Type 0 where
 -- a table that is settled at each class is one of bounds
 abbrev pub SettledBoundsAreBounds : Type 0
 SettledBoundsAreBounds =
-    (b : BoundsState) (pats : List Pattern) (g : Graph) (marks : List (Option Mark)) → IsGraph g → BoundsFit b pats g → ((c : ℕ) → c < length g.pairs → AreSettledAt b g marks c) → AreBounds b g marks
+    (b : BoundsState) (pats : List Pattern) (g : Graph) (marks : List (Option Mark)) → IsGraph g → BoundsFit b pats g
+    → ((c : ℕ) → c < length g.pairs → AreSettledAt b g marks c) → AreBounds b g marks
 
 -- with fewer marks, and none of them changed, bounds stay bounds
 abbrev pub BoundsOfFewer : Type 0
 BoundsOfFewer =
-    (b : BoundsState) (g : Graph) (marks fewer : List (Option Mark)) → AreBounds b g marks → ((c : ℕ) (k : PlainMark) → marks_in fewer c ≡ Some k → (m : PlainMark) × (marks_in marks c ≡ Some m) × (m.cost ≡ k.cost)) → AreBounds b g fewer
+    (b : BoundsState) (g : Graph) (marks fewer : List (Option Mark)) → AreBounds b g marks
+    → ((c : ℕ) (k : PlainMark) → marks_in fewer c ≡ Some k
+    → (m : PlainMark) × (marks_in marks c ≡ Some m) × (m.cost ≡ k.cost)) → AreBounds b g fewer

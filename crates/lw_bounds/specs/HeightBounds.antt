@@ -22,7 +22,8 @@ abbrev pub AreFlat : List (List ℕ) → Type 0
 AreFlat gaps = (i k : ℕ) → slice_index (gaps_of gaps i) k ≡ 0
 
 -- the table is of these patterns and this graph, and it is one of bounds on the heights of these marks
-pub record AreHeightBounds (h : HeightBounds) (pats : List Pattern) (g : Graph) (marks : List (Option Mark)) : Type 0 where
+pub record AreHeightBounds (h : HeightBounds) (pats : List Pattern) (g : Graph)
+    (marks : List (Option Mark)) : Type 0 where
   pub heights : h.marks.now ≡ heights_of marks
   pub fit : BoundsFit h.bounds.now pats g
   pub gaps : AreFlat h.bounds.now.gaps
@@ -32,9 +33,19 @@ pub record AreHeightBounds (h : HeightBounds) (pats : List Pattern) (g : Graph) 
 abbrev pub cuts_with : CutsState → Graph → Option HeightBounds → CutsState
 cuts_with cuts g None = cuts
 cuts_with cuts g (Some h) =
-    record { sides = cuts.sides; roots = cuts.roots; width = cuts.width; starts = cuts.starts; numbers = cuts.numbers; gaps = cuts.gaps; height_sides = h.bounds.now.sides; heights = bounds_reading h.bounds.now g h.marks.now }
+    record {
+      sides = cuts.sides;
+      roots = cuts.roots;
+      width = cuts.width;
+      starts = cuts.starts;
+      numbers = cuts.numbers;
+      gaps = cuts.gaps;
+      height_sides = h.bounds.now.sides;
+      heights = bounds_reading h.bounds.now g h.marks.now;
+    }
 
 -- they are these, and the lists of the roots are as they were
 pub record AreWithHeights (cuts : Cuts) (g : Graph) (heights : Option HeightBounds) (new : Cuts) : Type 0 where
   pub state : cuts_state new ≡ cuts_with (cuts_state cuts) g heights
-  pub roots : AreRootsListed cuts.roots.now cuts.leaf_roots.now cuts.row_roots.now cuts.other_roots.now → AreRootsListed new.roots.now new.leaf_roots.now new.row_roots.now new.other_roots.now
+  pub roots : AreRootsListed cuts.roots.now cuts.leaf_roots.now cuts.row_roots.now cuts.other_roots.now
+      → AreRootsListed new.roots.now new.leaf_roots.now new.row_roots.now new.other_roots.now

@@ -35,7 +35,8 @@ pub record IsPlanned (r : Reading) (plan : Plan) (least : List ℕ) : Type 0 whe
   pub grouped : AreGrouped plan.parts.now plan.groups.now
   pub least_are : AreNumbersOf plan.parts.now least
 
--- a class of the graph, a mark or none for each class, the rows of the table, the rules of its parts, and room for a row
+-- a class of the graph, a mark or none for each class, the rows of the table, the rules of its parts, and room for a
+-- row
 pub record IsRenewal (to_do : Renewal) (plan : Plan) (room numbers : List ℕ) : Type 0 where
   pub graph : IsGraph to_do.graph.now
   pub class : to_do.class.0 < length to_do.graph.now.pairs

@@ -6,7 +6,16 @@ use Rattle.lw_bounds.specs.Places.{AreRootsListed}
 use Rattle.lw_bounds.specs.Cuts.{CutsState, cuts_state}
 
 abbrev pub no_cuts : CutsState
-no_cuts = record { sides = []; roots = []; width = 0; starts = []; numbers = []; gaps = []; height_sides = []; heights = no_reading }
+no_cuts = record {
+  sides = [];
+  roots = [];
+  width = 0;
+  starts = [];
+  numbers = [];
+  gaps = [];
+  height_sides = [];
+  heights = no_reading;
+}
 
 -- they are these, and list the roots, of which there are none
 pub record AreNoCuts (cuts : Cuts) : Type 0 where

@@ -1,5 +1,6 @@
 -- The numbers of sides at classes.
-use Rattle.std.specs.Prelude.{ℕ, ◌+◌, ◌-◌, ◌≡◌, ◌≤◌, ◌⊎◌, ◌%◌, ◌==◌, if◌then◌else◌, List, [], length, min, max, Option, Some, None, slice_index, slice_index_or}
+use Rattle.std.specs.Prelude.{ℕ, ◌+◌, ◌-◌, ◌≡◌, ◌≤◌, ◌⊎◌, ◌%◌, ◌==◌, if◌then◌else◌, List, [], length, min, max, Option}
+use Rattle.std.specs.Prelude.{Some, None, slice_index, slice_index_or}
 use Rattle.lw_laws.specs.Flip.{flip}
 use Rattle.lw_cost.specs.declared.mark.Mark.{Mark}
 use Rattle.lw_bounds.specs.declared.parts.Kind.{Kind}
@@ -20,8 +21,8 @@ never = 18446744073709551615
 abbrev pub no_row : ℕ
 no_row = 4294967295
 
--- what numbers are read from: the class of true, the marks, and the numbers of parts in rows of this width, by where the
--- row of each class starts
+-- what numbers are read from: the class of true, the marks, and the numbers of parts in rows of this width, by where
+-- the row of each class starts
 pub record Reading : Type 0 where
   pub one : ℕ
   pub marks : List (Option Mark)
@@ -84,4 +85,5 @@ side_number r s c = kind_number r s.kind (class_below s c)
 -- the number of a part by a pair, in the order in which it is the lesser
 abbrev pub pair_number : Reading → Part → ℕ → ℕ → ℕ
 pair_number r p x y =
-    min (max (side_number r p.left x) (side_number r p.right y)) (max (side_number r p.left y) (side_number r p.right x))
+    min (max (side_number r p.left x) (side_number r p.right y))
+    (max (side_number r p.left y) (side_number r p.right x))

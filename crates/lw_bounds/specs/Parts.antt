@@ -7,13 +7,14 @@ use Rattle.lw_pattern.specs.declared.node.PatNode.{PatNode}
 use Rattle.lw_bounds.specs.declared.parts.Part.{Part}
 use Rattle.lw_bounds.specs.declared.parts.Side.{Side}
 use Rattle.lw_bounds.specs.declared.shapes.Parts.{Parts}
-use Rattle.lw_bounds.specs.Shapes.{AreParts, AreMoreParts, IsJoined, JoinsShapes, HasShape, HaveShapes, AllHaveShapes, HaveRootShapes, SideFits}
+use Rattle.lw_bounds.specs.Shapes.{AreParts, AreMoreParts, IsJoined, JoinsShapes, HasShape, HaveShapes, AllHaveShapes}
+use Rattle.lw_bounds.specs.Shapes.{HaveRootShapes, SideFits}
 
 -- such parts, no more of them than there is room for
 abbrev pub AreCollected : Parts → Type 0
 AreCollected parts = AreParts parts.room parts.all.keys
 
--- the same parts, and others behind them, with room for as many
+-- no part is lost: others may stand behind them, and there is room for as many as before
 pub record AreMore (before after : Parts) : Type 0 where
   pub room : after.room ≡ before.room
   pub parts : AreCollected after
@@ -50,7 +51,8 @@ pub record MayTakeSide (ps : Parts) (gaps : List ℕ) (nodes : List PatNode) (ss
   pub sides : HaveShapes ps.all.keys gaps nodes ss
 
 -- the side is that of the next node
-pub record IsNextSide (before after : Parts) (gaps : List ℕ) (nodes : List PatNode) (sides : List Side) (s : Side) : Type 0 where
+pub record IsNextSide (before after : Parts) (gaps : List ℕ) (nodes : List PatNode) (sides : List Side)
+    (s : Side) : Type 0 where
   pub grown : AreMore before after
   pub shape : HasShape after.all.keys gaps 0 (tree_at nodes (length sides)) s
 
@@ -65,7 +67,8 @@ pub record AreSides (before after : Parts) (gaps : List ℕ) (nodes : List PatNo
   pub shapes : HaveShapes after.all.keys gaps nodes sides
 
 -- the sides are those of the nodes of each pattern, among such parts with as much room
-pub record AreAllSides (before after : Parts) (gaps : List (List ℕ)) (pats : List Pattern) (all : List (List Side)) : Type 0 where
+pub record AreAllSides (before after : Parts) (gaps : List (List ℕ)) (pats : List Pattern)
+    (all : List (List Side)) : Type 0 where
   pub room : after.room ≡ before.room
   pub parts : AreCollected after
   pub count : length all ≡ length pats
@@ -74,4 +77,5 @@ pub record AreAllSides (before after : Parts) (gaps : List (List ℕ)) (pats : L
 -- the roots of the patterns are these sides, where those of their nodes are these
 pub record AreRootsOf (pats : List Pattern) (all : List (List Side)) (roots : List Side) : Type 0 where
   pub count : length roots ≡ length pats
-  pub shapes : (parts : List Part) (gaps : List (List ℕ)) → AllHaveShapes parts gaps pats all → HaveRootShapes parts gaps pats roots
+  pub shapes : (parts : List Part) (gaps : List (List ℕ)) → AllHaveShapes parts gaps pats all
+      → HaveRootShapes parts gaps pats roots

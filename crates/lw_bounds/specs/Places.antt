@@ -1,5 +1,6 @@
 -- Lists of the numbers of sides at a class, and the rules by which the numbers of parts follow from them.
-use Rattle.std.specs.Prelude.{ℕ, ◌<◌, ◌≤◌, ◌≡◌, ◌⊎◌, ◌==◌, if◌then◌else◌, Bool, List, [], ◌∷◌, length, max, Some, None, slice_get, slice_index, slice_index_or}
+use Rattle.std.specs.Prelude.{ℕ, ◌<◌, ◌≤◌, ◌≡◌, ◌⊎◌, ◌==◌, if◌then◌else◌, Bool, List, [], ◌∷◌, length, max, Some, None}
+use Rattle.std.specs.Prelude.{slice_get, slice_index, slice_index_or}
 use Rattle.lw_bounds.specs.declared.parts.Kind.{Kind}
 use Rattle.lw_bounds.specs.declared.parts.Kind.TheVariants.{Any, Leaf, One, Joined}
 use Rattle.lw_bounds.specs.declared.parts.Side.{Side}
@@ -22,8 +23,8 @@ list_by (Joined part shift) flipped = if flipped then 2 else 1
 abbrev pub list_of : Side → ℕ
 list_of s = list_by s.kind s.flipped
 
--- in the list of pins and constants the cost of the class comes first, then that of its complement, true, its complement,
--- and any tree
+-- in the list of pins and constants the cost of the class comes first, then that of its complement, true, its
+-- complement, and any tree
 abbrev pub place_by : Kind → Bool → ℕ
 place_by Any flipped = 4
 place_by (Leaf shift) flipped = if flipped then 1 else 0
@@ -52,12 +53,14 @@ rule_of n p = record {
 -- each rule is that of a part whose sides are in these two lists
 abbrev pub AreRulesOf : List Part → ℕ → ℕ → List Rule → Type 0
 AreRulesOf parts left right rules =
-    (i : ℕ) (q : Rule) → slice_get rules i ≡ Some q → (n : ℕ) × (p : Part) × (slice_get parts n ≡ Some p) × (q ≡ rule_of n p) × (list_of p.left ≡ left) × (list_of p.right ≡ right)
+    (i : ℕ) (q : Rule) → slice_get rules i ≡ Some q → (n : ℕ) × (p : Part) × (slice_get parts n ≡ Some p)
+    × (q ≡ rule_of n p) × (list_of p.left ≡ left) × (list_of p.right ≡ right)
 
 -- the rule of each of the first parts whose sides are in these two lists is there
 abbrev pub HaveRules : List Part → ℕ → ℕ → List Rule → ℕ → Type 0
 HaveRules parts left right rules count =
-    (n : ℕ) (p : Part) → n < count → slice_get parts n ≡ Some p → list_of p.left ≡ left → list_of p.right ≡ right → (i : ℕ) × (slice_get rules i ≡ Some (rule_of n p))
+    (n : ℕ) (p : Part) → n < count → slice_get parts n ≡ Some p → list_of p.left ≡ left → list_of p.right ≡ right
+    → (i : ℕ) × (slice_get rules i ≡ Some (rule_of n p))
 
 -- the rules of the parts whose sides are in these two lists
 pub record IsGroupOf (parts : List Part) (left right : ℕ) (group : Group) : Type 0 where
@@ -69,7 +72,8 @@ pub record IsGroupOf (parts : List Part) (left right : ℕ) (group : Group) : Ty
 -- the part has its rule in a group
 abbrev pub HasRule : List Group → ℕ → Part → Type 0
 HasRule groups n p =
-    (i j : ℕ) × (group : Group) × (slice_get groups i ≡ Some group) × (group.left ≡ list_of p.left) × (group.right ≡ list_of p.right) × (slice_get group.rules.items j ≡ Some (rule_of n p))
+    (i j : ℕ) × (group : Group) × (slice_get groups i ≡ Some group) × (group.left ≡ list_of p.left)
+    × (group.right ≡ list_of p.right) × (slice_get group.rules.items j ≡ Some (rule_of n p))
 
 -- rules of these parts, by two of the three lists
 abbrev pub IsGroupAmong : List Part → Group → Type 0
@@ -93,7 +97,8 @@ list_at v n = if n == 0 then v.leaves.now else (if n == 1 then v.row.now else v.
 -- the numbers of pins and constants at a class
 abbrev pub leaves_of : Reading → ℕ → List ℕ
 leaves_of r c =
-    mark_number (slice_index_or r.marks c None) ∷ mark_number (slice_index_or r.marks (flip c) None) ∷ kind_number r One c ∷ kind_number r One (flip c) ∷ 0 ∷ []
+    mark_number (slice_index_or r.marks c None) ∷ mark_number (slice_index_or r.marks (flip c) None) ∷
+    kind_number r One c ∷ kind_number r One (flip c) ∷ 0 ∷ []
 
 -- a row of this width, or none
 abbrev pub IsRow : ℕ → List ℕ → Type 0
@@ -116,12 +121,14 @@ HasSides r c v = (s : Side) → SideFits r.width s → view_number v s ≡ side_
 -- what a rule gives its part by the lists of its two sides
 abbrev pub given : List ℕ → List ℕ → Rule → ℕ
 given xs ys q =
-    max (shifted (slice_index_or xs q.left never) q.left_shift) (shifted (slice_index_or ys q.right never) q.right_shift)
+    max (shifted (slice_index_or xs q.left never) q.left_shift)
+    (shifted (slice_index_or ys q.right never) q.right_shift)
 
 -- the rules name places in the lists
 abbrev pub AreWithin : List ℕ → List ℕ → List ℕ → List Rule → Type 0
 AreWithin xs ys least rules =
-    (i : ℕ) (q : Rule) → slice_get rules i ≡ Some q → (q.left < length xs) × (q.right < length ys) × (q.part < length least)
+    (i : ℕ) (q : Rule) → slice_get rules i ≡ Some q → (q.left < length xs) × (q.right < length ys)
+    × (q.part < length least)
 
 -- none of the numbers is above its old one
 abbrev pub AreNoMore : List ℕ → List ℕ → Type 0
@@ -137,7 +144,8 @@ root_of n s = record { pattern = n; place = place_of s; shift = shift_of s.kind 
 -- of the first roots, those that have their numbers in this list are there
 abbrev pub AreListed : List Side → ℕ → List Root → ℕ → Type 0
 AreListed sides list roots count =
-    (n : ℕ) (s : Side) → n < count → slice_get sides n ≡ Some s → list_of s ≡ list → (i : ℕ) × (slice_get roots i ≡ Some (root_of n s))
+    (n : ℕ) (s : Side) → n < count → slice_get sides n ≡ Some s → list_of s ≡ list
+    → (i : ℕ) × (slice_get roots i ≡ Some (root_of n s))
 
 -- each root is in one of three lists
 pub record AreRootsListed (sides : List Side) (leaf row other : List Root) : Type 0 where
@@ -153,10 +161,12 @@ pub record IsFar (numbers : List ℕ) (place shift top : ℕ) : Type 0 where
 -- so it is with the numbers of the roots of these patterns in a list
 abbrev pub AreFar : ℕ → List ℕ → List Root → ℕ → Type 0
 AreFar patterns numbers roots top =
-    (i : ℕ) (root : Root) → slice_get roots i ≡ Some root → root.pattern < patterns → IsFar numbers root.place root.shift top
+    (i : ℕ) (root : Root) → slice_get roots i ≡ Some root → root.pattern < patterns
+    → IsFar numbers root.place root.shift top
 
 -- the rules, lists as long as the parts, and the roots in lists
-pub record HasRoom (parts : List Part) (groups : List Group) (least : List ℕ) (roots : List Side) (leaf row other : List Root) : Type 0 where
+pub record HasRoom (parts : List Part) (groups : List Group) (least : List ℕ) (roots : List Side)
+    (leaf row other : List Root) : Type 0 where
   pub grouped : AreGrouped parts groups
   pub least_room : length least ≡ length parts
   pub roots_listed : AreRootsListed roots leaf row other

@@ -20,7 +20,7 @@ abbrev pub IsSettled : Basis → BoundsState → Type 0
 IsSettled basis b =
     (c : ℕ) → c < length basis.graph.now.pairs → AreSettledAt b basis.graph.now basis.marks.now c
 
--- the same for a round, which goes through all classes
+-- a round has gone through all classes, and where it was whole and nothing fell, the table is settled at each
 pub record IsRoundDone (basis : Basis) (whole : Bool) (old new : Table) (fell : Bool) : Type 0 where
   pub timed : IsTableOf basis new
   pub after : IsTableAfter old.bounds new.bounds fell

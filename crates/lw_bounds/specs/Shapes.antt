@@ -1,5 +1,6 @@
 -- Parts of patterns, and the trees of their shape.
-use Rattle.std.specs.Prelude.{ℕ, ◌+◌, ◌-◌, ◌^◌, ◌<◌, ◌≤◌, ◌≡◌, ◌⊎◌, not, false, List, [], ◌++◌, length, Some, slice_get, slice_index, slice_index_or}
+use Rattle.std.specs.Prelude.{ℕ, ◌+◌, ◌-◌, ◌^◌, ◌<◌, ◌≤◌, ◌≡◌, ◌⊎◌, not, false, List, [], ◌++◌, length, Some, slice_get}
+use Rattle.std.specs.Prelude.{slice_index, slice_index_or}
 use Rattle.lw_laws.specs.Trees.{Tree, leaf, const_one, const_zero, inv, nand}
 use Rattle.lw_laws.specs.Covers.{Pattern}
 use Rattle.lw_pattern.specs.Nodes.{tree_at, nodes_of}
@@ -32,8 +33,8 @@ HasPin (Joined part shift) = Unit {0}
 abbrev pub IsPinned : Part → Type 0
 IsPinned p = HasPin p.left.kind ⊎ HasPin p.right.kind
 
--- the tree is of the shape of the side: pins are alike whose gaps are the same sum of the base and the shifts down to them,
--- and the sides of a NAND may be exchanged
+-- the tree is of the shape of the side: pins are alike whose gaps are the same sum of the base and the shifts down to
+-- them, and the sides of a NAND may be exchanged
 abbrev pub HasShape : List Part → List ℕ → ℕ → Tree → Side → Type 0
 HasShape parts gaps base (leaf k) s =
     (s.kind ≡ Any) ⊎ ((d : ℕ) × (s ≡ plain (Leaf d)) × (base + d ≡ slice_index gaps k))
@@ -41,7 +42,10 @@ HasShape parts gaps base const_one s = (s.kind ≡ Any) ⊎ (s ≡ plain One)
 HasShape parts gaps base const_zero s = (s.kind ≡ Any) ⊎ (s ≡ turned (plain One))
 HasShape parts gaps base (inv t) s = HasShape parts gaps base t (turned s)
 HasShape parts gaps base (nand t u) s =
-    (s.kind ≡ Any) ⊎ ((n d : ℕ) × (p : Part) × (s ≡ plain (Joined n d)) × (slice_get parts n ≡ Some p) × IsPinned p × ((HasShape parts gaps (base + d) t p.left × HasShape parts gaps (base + d) u p.right) ⊎ (HasShape parts gaps (base + d) t p.right × HasShape parts gaps (base + d) u p.left)))
+    (s.kind ≡ Any)
+    ⊎ ((n d : ℕ) × (p : Part) × (s ≡ plain (Joined n d)) × (slice_get parts n ≡ Some p) × IsPinned p
+    × ((HasShape parts gaps (base + d) t p.left × HasShape parts gaps (base + d) u p.right)
+    ⊎ (HasShape parts gaps (base + d) t p.right × HasShape parts gaps (base + d) u p.left)))
 
 -- what each pin of the side is above, none of which is there where the side has no pin
 abbrev pub kind_base : Kind → ℕ
@@ -67,7 +71,8 @@ IsJoined parts p shift s = (n : ℕ) × (s ≡ plain (Joined n shift)) × (slice
 -- the side is the NAND of two sides that are of earlier parts
 abbrev pub JoinsShapes : List Part → List Part → Side → Side → Side → Type 0
 JoinsShapes before parts left right s =
-    (gaps : List ℕ) (t u : Tree) → HasShape before gaps 0 t left → HasShape before gaps 0 u right → HasShape parts gaps 0 (nand t u) s
+    (gaps : List ℕ) (t u : Tree) → HasShape before gaps 0 t left → HasShape before gaps 0 u right
+    → HasShape parts gaps 0 (nand t u) s
 
 -- the part that is named is one of the first n
 abbrev pub KindFits : ℕ → Kind → Type 0
@@ -106,9 +111,11 @@ gaps_of all i = slice_index_or all i []
 -- so it is for each pattern
 abbrev pub AllHaveShapes : List Part → List (List ℕ) → List Pattern → List (List Side) → Type 0
 AllHaveShapes parts gaps pats all =
-    (i : ℕ) (p : Pattern) → slice_get pats i ≡ Some p → HaveShapes parts (gaps_of gaps i) (nodes_of p.tree) (slice_index_or all i [])
+    (i : ℕ) (p : Pattern) → slice_get pats i ≡ Some p → HaveShapes parts (gaps_of gaps i) (nodes_of p.tree)
+    (slice_index_or all i [])
 
 -- the sides of the roots of patterns
 abbrev pub HaveRootShapes : List Part → List (List ℕ) → List Pattern → List Side → Type 0
 HaveRootShapes parts gaps pats roots =
-    (i : ℕ) (p : Pattern) (s : Side) → slice_get pats i ≡ Some p → slice_get roots i ≡ Some s → HasShape parts (gaps_of gaps i) 0 p.tree s
+    (i : ℕ) (p : Pattern) (s : Side) → slice_get pats i ≡ Some p → slice_get roots i ≡ Some s
+    → HasShape parts (gaps_of gaps i) 0 p.tree s

@@ -1,5 +1,6 @@
 // The table of bounds: what the pins of parts of patterns cost at least, class by class.
-ghost use Rattle.std.specs.Prelude.{◌≡◌, ◌<◌, ◌≤◌, ◌*◌, ℕ, List, [], IfOk, IsTrue, IsFalse, length, slice_index};
+ghost use Rattle.std.specs.Prelude.{◌≡◌, ◌<◌, ◌≤◌, ◌*◌, ℕ, List, [], IfOk, IsTrue, IsFalse, length};
+ghost use Rattle.std.specs.Prelude.{slice_index};
 ghost use Rattle.lw_laws.specs.Covers.{Pattern as TreeOfCell};
 ghost use Rattle.lw_bounds.specs.Numbers.{most_numbers};
 
@@ -49,14 +50,24 @@ impl Model for Bounds {
 
     ghost Value = { BoundsState };
 
-    ghost view = { λ b. record { parts = b.sides.parts.keys; gaps = b.gaps.items; sides = map (λ side. side.items) b.sides.all.items; roots = b.sides.roots.items; starts = b.rows.starts.items; numbers = b.rows.numbers.items } };
+    ghost view = { λ b. record {
+      parts = b.sides.parts.keys;
+      gaps = b.gaps.items;
+      sides = map (λ side. side.items) b.sides.all.items;
+      roots = b.sides.roots.items;
+      starts = b.rows.starts.items;
+      numbers = b.rows.numbers.items;
+    } };
 
-    ghost invariant = { λ b. HasRoom b.sides.parts.keys b.rows.groups.items b.rows.least.items b.sides.roots.items b.roots.leaf.items b.roots.row.items b.roots.other.items };
+    ghost invariant = { λ b. HasRoom b.sides.parts.keys b.rows.groups.items b.rows.least.items
+        b.sides.roots.items b.roots.leaf.items b.roots.row.items b.roots.other.items };
 }
 
 impl Bounds {
     ghost use Rattle.lw_graph.specs.Graphs.{IsGraph};
-    ghost use Rattle.lw_bounds.specs.Bounds.{BoundsFit, AreApart, AreLowered, AreRows, AreSettledAt, AreZero, IsFreshTable, IsTableBut, bounds_reading, bounds_weight, with_numbers};
+    ghost use Rattle.lw_bounds.specs.Bounds.{BoundsFit, AreApart, AreLowered, AreRows};
+    ghost use Rattle.lw_bounds.specs.Bounds.{AreSettledAt, AreZero, IsFreshTable, IsTableBut};
+    ghost use Rattle.lw_bounds.specs.Bounds.{bounds_reading, bounds_weight, with_numbers};
     ghost use Rattle.lw_bounds.specs.HeightBounds.{AreFlat};
     ghost use Rattle.lw_bounds.specs.Numbers.{AreStarts, never, no_reading, number_from, start_of};
     ghost use Rattle.lw_bounds.specs.Cuts.{cuts_state};
@@ -177,8 +188,8 @@ impl Bounds {
     }
 
     /// A view of the table for searches: sides, roots, rows and gaps, all borrowed. A root is the
-    /// side of a whole pattern; the lists `leaf_roots`, `row_roots` and `other_roots` go by where its
-    /// number stands: in list 0, 1 or 2. What cuts by height stays empty till `with_heights`.
+    /// side of a whole pattern; the lists `leaf_roots`, `row_roots` and `other_roots` go by where
+    /// its number stands: in list 0, 1 or 2. What cuts by height stays empty till `with_heights`.
     pub fn cuts(&self) -> Cuts
         ensures state { cuts_state result ≡ record {
           sides = self.now.sides;

@@ -1,5 +1,6 @@
 // What pins cost less than their cells: guesses, and tests of whether they may be trusted.
-ghost use Rattle.std.specs.Prelude.{◌≡◌, ◌<◌, ◌≤◌, ◌-◌, ℕ, IfOk, IsTrue, length, replicate, slice_index, slice_set};
+ghost use Rattle.std.specs.Prelude.{◌≡◌, ◌<◌, ◌≤◌, ◌-◌, ℕ, IfOk, IsTrue, length, replicate};
+ghost use Rattle.std.specs.Prelude.{slice_index, slice_set};
 ghost use Rattle.lw_laws.specs.Covers.{HasPins};
 ghost use Rattle.lw_bounds.specs.Cuts.{IsCertifiedBy, IsGapCertified};
 ghost use Rattle.lw_bounds.specs.HeightBounds.{AreFlat};

@@ -1,10 +1,13 @@
 // Numbers of parts that fall to what pairs give.
-ghost use Rattle.std.specs.Prelude.{◌≡◌, ◌<◌, ◌≤◌, ℕ, length, max, min, Some, slice_get, slice_index};
+ghost use Rattle.std.specs.Prelude.{◌≡◌, ◌<◌, ◌≤◌, ℕ, length, max, min, Some, slice_get};
+ghost use Rattle.std.specs.Prelude.{slice_index};
 ghost use Rattle.lw_graph.specs.declared.pair.Pair.{Pair};
 ghost use Rattle.lw_bounds.specs.Numbers.{reading, pair_number};
-ghost use Rattle.lw_bounds.specs.Lowering.{AreAtMostGiven, AreLessened, AreNumbersOf, AreViews, IsPlanned};
+ghost use Rattle.lw_bounds.specs.Lowering.{AreAtMostGiven, AreLessened, AreNumbersOf, AreViews};
+ghost use Rattle.lw_bounds.specs.Lowering.{IsPlanned};
 ghost use Rattle.lw_bounds.specs.declared.parts.Part.{Part};
-ghost use Rattle.lw_bounds.specs.Places.{list_at, view_number, given, AreGrouped, AreWithin, IsGroupAmong};
+ghost use Rattle.lw_bounds.specs.Places.{list_at, view_number, given, AreGrouped, AreWithin};
+ghost use Rattle.lw_bounds.specs.Places.{IsGroupAmong};
 
 use crate::numbers::Numbers;
 use crate::parts::{Group, Part, Rule};

@@ -1,7 +1,9 @@
 // Where the numbers of sides at classes are read from.
 ghost use Rattle.std.specs.Prelude.{◌≡◌, ◌<◌, length};
 ghost use Rattle.lw_bounds.specs.Shapes.{KindFits, SideFits};
-ghost use Rattle.lw_bounds.specs.Numbers.{reading, no_reading, start_of, shifted, mark_number, part_number, class_below, kind_number, side_number, IsReading};
+ghost use Rattle.lw_bounds.specs.Numbers.{reading, no_reading, start_of, shifted, mark_number};
+ghost use Rattle.lw_bounds.specs.Numbers.{part_number, class_below, kind_number, side_number};
+ghost use Rattle.lw_bounds.specs.Numbers.{IsReading};
 ghost use Rattle.lw_bounds.specs.declared.parts.Kind.TheVariants.{One};
 
 use crate::parts::{Kind, Side};

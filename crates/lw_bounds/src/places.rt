@@ -1,6 +1,7 @@
 // The rules of parts, in groups by the lists in which the numbers of their sides stand.
 ghost use Rattle.std.specs.Prelude.{◌≡◌, ◌<◌, ◌≤◌, length, IfOk, IsTrue, ◌↔◌};
-ghost use Rattle.lw_bounds.specs.Places.{list_of, place_of, shift_of, rule_of, root_of, AreGrouped, AreListed, IsGroupOf};
+ghost use Rattle.lw_bounds.specs.Places.{list_of, place_of, shift_of, rule_of, root_of, AreGrouped};
+ghost use Rattle.lw_bounds.specs.Places.{AreListed, IsGroupOf};
 ghost use Rattle.lw_pattern.specs.Listed.{most_patterns};
 ghost use Rattle.lw_bounds.specs.Numbers.{most_numbers};
 

@@ -1,6 +1,7 @@
 pub mod BoundClasses
 pub mod Bounding
 pub mod Branches
+pub mod Budgets
 pub mod Candidates
 pub mod Certified
 pub mod Found

@@ -39,7 +39,7 @@ mod needs;
 mod pruning;
 
 pub use binding::{Binding, Unbound};
-pub use branching::search;
+pub use branching::{candidate, search};
 pub use job::{Job, Scope};
 pub use needs::has_repeats;
-pub use pruning::{is_too_high, limit_of};
+pub use pruning::{is_over, is_too_high, limit_of, standing};

@@ -4,7 +4,7 @@ use Rattle.std.specs.List.{AllZip, AllByRecursion, filter_map}
 use Rattle.std.proofs.lemmas.List.{length-map}
 use Rattle.std.proofs.lemmas.List.Elements.{recursion_from_All}
 use Rattle.std.proofs.lemmas.Option.{same_Some, slice_get_within, slice_get-get_or, get_or_from_slice_get}
-use Rattle.lw_facts.proofs.Lists.{all_at, get_right, index_at, some_within}
+use Rattle.lw_facts.proofs.Lists.{all_at, get_right, index_at, some_within, all_by_place}
 use Rattle.lw_fixed.specs.declared.micro.Micro.{Micro}
 use Rattle.lw_pool.specs.declared.id.NetId.{NetId}
 use Rattle.lw_laws.specs.Costs.{Cost}
@@ -55,7 +55,7 @@ use Rattle.lw_check.specs.Claims.{AreMatches, Claim, HasPotential, IsAtRoot, IsO
 use Rattle.lw_check.specs.Mappings.{IsKept, IsMappingOf, IsOverGraph, IsTimelyNetlist}
 use Rattle.lw_check.specs.Verdicts.{IsVerdictOn}
 use Rattle.lw_check.specs.declared.verdict.Verdict.TheVariants.{Yes}
-use Rattle.lw_check.proofs.Places.{zip_at, zip_left, map_at, from_map, read_map, read_some, somes_append, some_mapped, all_by_place}
+use Rattle.lw_check.proofs.Places.{zip_at, zip_left, map_at, from_map, read_map, read_some, somes_append, some_mapped}
 use Rattle.lw_check.proofs.Unknown.{none_found, labelled_below, nets_below}
 use Rattle.lw_net.specs.Ports.{output_port, ports_of}
 use Rattle.lw_netlist.specs.Plain.{plain_port, mapped_ports, port_name}

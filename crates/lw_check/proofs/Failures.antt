@@ -1,7 +1,7 @@
 -- Labels that are no bound.
 use Rattle.std.proofs.Common.{ℕ, ◌<◌, ◌≡◌, ◌%◌, ◌⊎◌, ◌↔◌, inl, inr, List, length, Option, Some, None, IsNone, IfSome, option_map, refl, ap, sym, ◌∙◌, subst, arith}
 use Rattle.std.proofs.lemmas.Option.{same_Some}
-use Rattle.lw_facts.proofs.Lists.{all_at}
+use Rattle.lw_facts.proofs.Lists.{all_at, contained_at}
 use native.Mathlib.Decide.{dec_lt}
 use Rattle.lw_pool.specs.declared.id.ClassId.{ClassId}
 use Rattle.lw_laws.specs.Graphs.{Graph}
@@ -18,7 +18,6 @@ use Rattle.lw_graph.specs.Graphs.{IsGraph}
 use Rattle.lw_cost.specs.Coming.{IsPatternMatch}
 use Rattle.lw_cost.specs.Least.{AreOfCells}
 use Rattle.lw_cost.proofs.CellMatches.{of_cell, of_pattern}
-use Rattle.lw_cost.proofs.MarksAsLabels.{place_of}
 use Rattle.lw_check.specs.Claims.{class_number}
 use Rattle.lw_check.specs.Failing.{IsMatchCost, Gives, IsAbove, IsFailing, IsFirstFailing}
 use Rattle.lw_check.specs.Least.{IsLeastOf, IsLate, IsLow, IsByPattern, CostsBy, IsLowMatch, lesser_of}
@@ -70,7 +69,7 @@ module _ (g : Graph) (cost : Cost) (pats : List Pattern) where
     pub at_cost : (c d : ℕ) → AreOfCells cost.pin_counts pats → IsMatchCost g cost pats labels c d → (m : Match) × IsPatternMatch g pats c m × CostsBy cost pats labels m d
     at_cost c d cells is =
         let s = is.stands in
-        let (n, at) = place_of pats s.pattern s.listed in
+        let (n, at) = contained_at pats s.pattern s.listed in
         let m : Match = record { pattern = n; pins = is.pins } in
         let matches : IsMatchOf g cost pats c m s.pattern = record { listed = at; pins = subst (λ cell. HasPins cost.pin_counts cell (length is.pins)) (sym s.cell_is) s.pins; stands = s.stands } in (
           m,

@@ -2,7 +2,7 @@
 use Rattle.std.proofs.Common.{ℕ, zero, suc, ◌+◌, ◌-◌, ◌<◌, ◌≤◌, ◌≡◌, ◌⊎◌, inl, inr, List, [], ◌∷◌, ◌++◌, length, map, take, Option, Some, None, IfSome, option_map, slice_get, slice_index_or, get_or, length-append, refl, ap, sym, ◌∙◌, subst, arith}
 use Rattle.std.proofs.lemmas.List.{length-map, map-append, take_more}
 use Rattle.std.proofs.lemmas.Option.{same_Some, none-some, slice_get_within, slice_get-get_or}
-use Rattle.lw_facts.proofs.Lists.{all_at}
+use Rattle.lw_facts.proofs.Lists.{all_at, contained_at}
 use Rattle.lw_pool.specs.declared.id.CellId.{CellId}
 use Rattle.lw_pool.specs.declared.id.ClassId.{ClassId}
 use Rattle.lw_pool.specs.declared.id.NetId.{NetId}
@@ -11,7 +11,6 @@ use Rattle.lw_laws.specs.Graphs.{Stands}
 use Rattle.lw_laws.proofs.Extracts.{listed_at}
 use Rattle.lw_genlib.specs.Cells.{IsLibrary, IsListed}
 use Rattle.lw_genlib.specs.Tables.{cell_delays, delays_of_cells, millionths}
-use Rattle.lw_cost.proofs.MarksAsLabels.{place_of}
 use Rattle.lw_netlist.specs.declared.gate.Gate.{Gate}
 use Rattle.lw_netlist.specs.Plain.{HasCell}
 use Rattle.lw_mapped.specs.Texts.{net_name}
@@ -129,7 +128,7 @@ module _ (k : Claim) where
     pub no_match_by : (spans : List Span) (span : Span) → AreSpans (length k.cells) k.pats spans → slice_get spans gate.cell.0 ≡ Some span → ((place : ℕ) → IsIn span place → IsMatchBy k place gate.cell (numbers pins) class → ⊥) → IsMatchGate k gate → ⊥
     no_match_by spans span are_spans span_at none is =
         let s = is.stands in
-        let (place, listed) = place_of k.pats s.pattern s.listed in
+        let (place, listed) = contained_at k.pats s.pattern s.listed in
         let own : is.class ≡ class.0 = same_Some is.class class.0 (sym is.has_class ∙ at) in
         let same : is.pins ≡ numbers pins = some_injective is.pins (numbers pins) (sym is.have_classes ∙ are) in
         let inside = slice_get_within k.pats place s.pattern listed in

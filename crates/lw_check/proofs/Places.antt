@@ -1,6 +1,6 @@
 -- Elements of lists by place.
 use Rattle.std.proofs.Common.{ℕ, zero, suc, ◌-◌, ◌<◌, ◌≤◌, ◌≡◌, List, [], ◌∷◌, ◌++◌, length, map, Option, Some, None, option_map, slice_get, slice_index_or, refl, ap, sym, ◌∙◌, subst, arith}
-use Rattle.std.specs.List.{AllZip, AllByRecursion}
+use Rattle.std.specs.List.{AllZip}
 use Rattle.std.proofs.lemmas.Option.{same_Some, none-some, slice_get-get_or}
 
 -- two lists side by side
@@ -71,10 +71,6 @@ somes_append (x ∷ xs) ys = ap (λ zs. Some x ∷ zs) (somes_append xs ys)
 pub some_mapped : {A : Type 0} (f : A → ℕ) (o : Option A) (n : ℕ) → option_map f o ≡ Some n → (x : A) × (o ≡ Some x) × (f x ≡ n)
 some_mapped f None n e = absurd (none-some n e)
 some_mapped f (Some x) n e = (x, refl, same_Some (f x) n e)
-
-pub all_by_place : {A : Type 0} (P : A → Type 0) (xs : List A) → ((j : ℕ) (x : A) → slice_get xs j ≡ Some x → P x) → AllByRecursion P xs
-all_by_place P [] h = tt
-all_by_place P (x ∷ xs) h = (h zero x refl, all_by_place P xs (λ j. h (suc j)))
 
 -- lists with the same entries are one
 pub same_lists : {A : Type 0} (xs ys : List A) → length xs ≡ length ys → ((j : ℕ) → j < length xs → slice_get xs j ≡ slice_get ys j) → xs ≡ ys

@@ -12,7 +12,9 @@ use Rattle.lw_check.specs.Claims.{AreAtRoots, AreMatches, Claim, HasKnownClasses
 use Rattle.lw_check.specs.Verdicts.{claim, IsVerdictOn}
 
 abbrev pub claim_of : Case → Claim
-claim_of case = claim case.net.now case.frame.now case.starts.now case.lib.now case.graph.now case.pats.now case.roots.now case.mapped.now
+claim_of case =
+    claim case.net.now case.frame.now case.starts.now case.lib.now case.graph.now case.pats.now case.roots.now
+    case.mapped.now
 
 -- what is asked of a claim
 pub record IsAskable (k : Claim) : Type 0 where

@@ -1,5 +1,6 @@
 -- What is checked of a netlist that comes with a certificate.
-use Rattle.std.specs.Prelude.{ℕ, suc, ◌<◌, ◌≤◌, ◌≡◌, ◌≢◌, ◌++◌, List, [], ◌∷◌, length, map, find, nat_le, Option, Some, None, option_map, slice_get, slice_index_or}
+use Rattle.std.specs.Prelude.{ℕ, suc, ◌<◌, ◌≤◌, ◌≡◌, ◌≢◌, ◌++◌, List, [], ◌∷◌, length, map, find, nat_le, Option, Some}
+use Rattle.std.specs.Prelude.{None, option_map, slice_get, slice_index_or}
 use Rattle.std.specs.List.{filter_map}
 use Rattle.lw_fixed.specs.declared.micro.Micro.{Micro}
 use Rattle.lw_pool.specs.declared.id.ClassId.{ClassId}
@@ -24,8 +25,8 @@ use Rattle.lw_mapped.specs.declared.closing.Mapped.{Mapped}
 use Rattle.lw_mapped.specs.Texts.{net_name}
 use Rattle.lw_check.specs.Failing.{Gives, IsFirstFailing}
 
--- The claim that a netlist with its frame and certificate is a fastest mapping: of a network with its frame and the starts of its
--- inputs, by cells and their patterns, over a graph in which the outputs have these classes.
+-- The claim that a netlist with its frame and certificate is a fastest mapping: of a network with its frame and the
+-- starts of its inputs, by cells and their patterns, over a graph in which the outputs have these classes.
 pub record Claim : Type 0 where
   pub net : NetworkParts
   pub frame : Frame
@@ -136,7 +137,8 @@ pub record IsFirstUnbounded (k : Claim) (class : ClassId) (label : Option Micro)
 -- the net of output j is at its class
 abbrev pub IsAtRoot : Claim → ℕ → Type 0
 IsAtRoot k j =
-    (port : Port) (root : ClassId) → slice_get k.mapped.netlist.outputs j ≡ Some port → slice_get k.roots j ≡ Some root → class_of_net k port.net ≡ Some root.0
+    (port : Port) (root : ClassId) → slice_get k.mapped.netlist.outputs j ≡ Some port → slice_get k.roots j ≡ Some root
+    → class_of_net k port.net ≡ Some root.0
 
 abbrev pub AreAtRoots : Claim → Type 0
 AreAtRoots k = (j : ℕ) → IsAtRoot k j

@@ -8,7 +8,8 @@ use Rattle.lw_check.specs.declared.labelling.Labelling.{Labelling}
 use Rattle.lw_check.specs.declared.labelling.Trial.{Trial}
 use Rattle.lw_check.specs.declared.trial.Unbounded.{Unbounded}
 use Rattle.lw_check.specs.Failing.{IsMatchCost}
-use Rattle.lw_check.specs.Least.{FindsUnbounded, IsByPattern, IsCostOf, IsLate, IsLeastAt, IsLow, IsLowMatch, IsTableFor}
+use Rattle.lw_check.specs.Least.{FindsUnbounded, IsByPattern, IsCostOf, IsLate, IsLeastAt, IsLow, IsLowMatch}
+use Rattle.lw_check.specs.Least.{IsTableFor}
 
 -- the patterns are of the cells that the costs are for
 abbrev pub HasCells : {C : Type 0} → (C → Cost) → Labelling C → Type 0
@@ -46,7 +47,8 @@ FindsUnboundedIn costs l found = FindsUnbounded l.graph.now (costs l.by.cost.now
 
 -- the table bounds what matches cost under the labels
 abbrev pub HasTable : {C : Type 0} → (C → Cost) → ℕ → Trial C → Type 0
-HasTable costs most t = IsTableFor t.given.now.graph.now (costs t.given.now.by.cost.now) t.given.now.by.pats.now most t.bounds.now t.marks.now
+HasTable costs most t = IsTableFor t.given.now.graph.now
+    (costs t.given.now.by.cost.now) t.given.now.by.pats.now most t.bounds.now t.marks.now
 
 -- so that the class, which is one of the graph, can be searched
 pub record CanSearch {C : Type 0} (costs : C → Cost) (most : ℕ) (t : Trial C) (c : ℕ) : Type 0 where
@@ -55,8 +57,10 @@ pub record CanSearch {C : Type 0} (costs : C → Cost) (most : ℕ) (t : Trial C
 
 -- a match at the class with labelled pins costs d
 abbrev pub IsMatchCostIn : {C : Type 0} → (C → Cost) → Trial C → ℕ → ℕ → Type 0
-IsMatchCostIn costs t c d = IsMatchCost t.given.now.graph.now (costs t.given.now.by.cost.now) t.given.now.by.pats.now (labels_in t.given.now.labels.now) c d
+IsMatchCostIn costs t c d = IsMatchCost t.given.now.graph.now (costs t.given.now.by.cost.now) t.given.now.by.pats.now
+    (labels_in t.given.now.labels.now) c d
 
 -- the least that a class is given, with the class, or none where it is given nothing
 abbrev pub IsLeastIn : {C : Type 0} → (C → Cost) → Trial C → ℕ → Option Unbounded → Type 0
-IsLeastIn costs t c found = IsLeastAt t.given.now.graph.now (costs t.given.now.by.cost.now) t.given.now.by.pats.now (labels_in t.given.now.labels.now) c found
+IsLeastIn costs t c found = IsLeastAt t.given.now.graph.now (costs t.given.now.by.cost.now) t.given.now.by.pats.now
+    (labels_in t.given.now.labels.now) c found

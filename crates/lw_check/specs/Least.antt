@@ -1,5 +1,6 @@
 -- The least of some numbers, and what is looked for at classes and matches.
-use Rattle.std.specs.Prelude.{ℕ, ◌<◌, ◌≤◌, ◌≡◌, nat_lt, if◌then◌else◌, Bool, true, false, List, length, Option, Some, None, option_map, slice_get, slice_index_or}
+use Rattle.std.specs.Prelude.{ℕ, ◌<◌, ◌≤◌, ◌≡◌, nat_lt, if◌then◌else◌, Bool, true, false, List, length, Option, Some}
+use Rattle.std.specs.Prelude.{None, option_map, slice_get, slice_index_or}
 use Rattle.lw_fixed.specs.declared.micro.Micro.{Micro}
 use Rattle.lw_genlib.specs.Tables.{millionths}
 use Rattle.lw_laws.specs.Graphs.{Graph}
@@ -77,7 +78,8 @@ abbrev pub AreFlat : List (Option Mark) → Type 0
 AreFlat marks = (c : ℕ) (m : Mark) → slice_index_or marks c None ≡ Some m → m.height ≡ 0
 
 -- the table bounds what matches cost under the marks, so that a search may use it
-pub record IsTableFor (g : Graph) (cost : Cost) (pats : List Pattern) (cap : ℕ) (b : BoundsState) (marks : List (Option Mark)) : Type 0 where
+pub record IsTableFor (g : Graph) (cost : Cost) (pats : List Pattern) (cap : ℕ) (b : BoundsState)
+    (marks : List (Option Mark)) : Type 0 where
   pub one_each : length marks ≡ length g.pairs
   pub in_range : AreInRange cap marks
   pub of_cells : AreOfCells cost.pin_counts pats
@@ -88,7 +90,8 @@ pub record IsTableFor (g : Graph) (cost : Cost) (pats : List Pattern) (cap : ℕ
 abbrev pub FindsUnbounded : Graph → Cost → List Pattern → List (Option ℕ) → Option Unbounded → Type 0
 FindsUnbounded g cost pats labels None = IsPotentialOf g pats cost labels
 FindsUnbounded g cost pats labels (Some u) =
-    IsFirstFailing g cost pats (labels_in labels) u.class.0 × IsLeastOf (Gives g cost pats (labels_in labels) u.class.0) (Some u.value)
+    IsFirstFailing g cost pats (labels_in labels) u.class.0
+    × IsLeastOf (Gives g cost pats (labels_in labels) u.class.0) (Some u.value)
 
 -- the least that a class is given, with the class, or none where it is given nothing
 abbrev pub IsLeastAt : Graph → Cost → List Pattern → Labels → ℕ → Option Unbounded → Type 0

@@ -42,7 +42,8 @@ pub record IsKept (k : Claim) : Type 0 where
   pub netlist : IsNetlist k.mapped.netlist
   pub one_class : length k.mapped.cert.nets ≡ length k.mapped.netlist.gates
 
--- The claim is over a graph that encodes the network's forms, with the classes of the outputs' sums of products as roots.
+-- The claim is over a graph that encodes the network's forms, with the classes of the outputs' sums of products as
+-- roots.
 pub record IsOverForms (mode : Mode) (width : ℕ) (k : Claim) : Type 0 where
   pub wide : 2 ≤ width
   pub encodes : Encodes (family_of mode (forms_of width (plain_network k.net))) k.graph
@@ -50,11 +51,12 @@ pub record IsOverForms (mode : Mode) (width : ℕ) (k : Claim) : Type 0 where
   pub roots : HasRootClasses width k
   pub patterns : ArePatterns (cost_in k).pin_counts k.pats
 
--- The netlist has the frame, the ports and the values of the network, and each output arrives at the least time of any cover of any
--- tree that the rules derive for it.
+-- The netlist has the frame, the ports and the values of the network, and each output arrives at the least time of any
+-- cover of any tree that the rules derive for it.
 pub record IsFastestMapping (mode : Mode) (width : ℕ) (truth : CellTruth) (k : Claim) : Type 0 where
   pub frame : k.mapped.frame ≡ k.frame
-  pub mapping_is : IsMapping mode width (plain_network k.net) (ports_of k.net) k.pats (timing_in k) truth (plain_netlist k.mapped.netlist) (mapped_ports k.mapped.netlist)
+  pub mapping_is : IsMapping mode width (plain_network k.net) (ports_of k.net) k.pats (timing_in k) truth
+      (plain_netlist k.mapped.netlist) (mapped_ports k.mapped.netlist)
 
 -- The claim is over the graph of the network's forms, with the classes of the outputs' sums of products as roots.
 pub record IsOverGraph (mode : Mode) (width : ℕ) (k : Claim) : Type 0 where
@@ -66,24 +68,29 @@ pub record IsOverGraph (mode : Mode) (width : ℕ) (k : Claim) : Type 0 where
 
 -- The netlist is the one that the network is mapped to, with its frame and its certificate.
 pub record IsMappingOf (mode : Mode) (width : ℕ) (k : Claim) : Type 0 where
-  pub is : IsNetlistOf mode width (plain_network k.net) (ports_of k.net) k.pats (timing_in k) most_time (plain_netlist k.mapped.netlist) k.mapped.netlist.names (mapped_ports k.mapped.netlist)
+  pub is : IsNetlistOf mode width (plain_network k.net) (ports_of k.net) k.pats (timing_in k) most_time
+      (plain_netlist k.mapped.netlist) k.mapped.netlist.names (mapped_ports k.mapped.netlist)
   pub frame : k.mapped.frame ≡ k.frame
   pub certificate : Certificate
   pub of_mapping : IsCertificateOf is certificate
   pub same : AreSameCertificates k.mapped.cert certificate
   pub labels : AreLabels k.mapped.cert
 
--- The netlist is one of matches of the network, with its frame, with its nets named as `map` names them, and no class twice. The
--- certificate has the least time of each class and the class of each gate, and each output arrives at its least time.
+-- The netlist is one of matches of the network, with its frame, with its nets named as `map` names them, and no class
+-- twice. The certificate has the least time of each class and the class of each gate, and each output arrives at its
+-- least time.
 pub record IsTimelyNetlist (mode : Mode) (width : ℕ) (k : Claim) : Type 0 where
-  pub is : IsMatchNetlistOf mode width (plain_network k.net) (ports_of k.net) k.pats (cost_in k).pin_counts (plain_netlist k.mapped.netlist) k.mapped.netlist.names (mapped_ports k.mapped.netlist)
+  pub is : IsMatchNetlistOf mode width (plain_network k.net) (ports_of k.net) k.pats (cost_in k).pin_counts
+      (plain_netlist k.mapped.netlist) k.mapped.netlist.names (mapped_ports k.mapped.netlist)
   pub frame : k.mapped.frame ≡ k.frame
   pub labels : List (Option ℕ)
   pub least : (c : ℕ) → IsLeastCover is.graph k.pats (cost_in k) c (labels_in labels c)
   pub labels_are : (c : ℕ) → option_map millionths (label_of_class k c) ≡ labels_in labels c
   pub classes_are : map (option_map class_number) k.mapped.cert.nets ≡ map Some is.gates
   pub limits : AreLabels k.mapped.cert
-  pub timely : (ds : List ℕ) → AreArrivals (timing_in k) (plain_netlist k.mapped.netlist) ds → AllZip (λ p q. HasLeastArrival mode width (plain_network k.net) k.pats (timing_in k) p.net (slice_index_or ds q.net 0)) (ports_of k.net).outputs (mapped_ports k.mapped.netlist).outputs
+  pub timely : (ds : List ℕ) → AreArrivals (timing_in k) (plain_netlist k.mapped.netlist) ds
+      → AllZip (λ p q. HasLeastArrival mode width (plain_network k.net) k.pats (timing_in k) p.net
+      (slice_index_or ds q.net 0)) (ports_of k.net).outputs (mapped_ports k.mapped.netlist).outputs
 
 -- one netlist with one frame, and certificates that are the same
 pub record AreAlike (a b : Mapped) : Type 0 where

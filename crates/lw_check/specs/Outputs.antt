@@ -5,7 +5,8 @@ use Rattle.lw_pool.specs.declared.id.NetId.{NetId}
 use Rattle.lw_laws.specs.Netlists.{AreArrivals}
 use Rattle.lw_genlib.specs.Tables.{millionths}
 use Rattle.lw_netlist.specs.Plain.{plain}
-use Rattle.lw_check.specs.Claims.{Claim, class_of_net, label_of_class, timing_in, IsAtRoot, AreAtRoots, IsOnTimeAt, AreOnTime}
+use Rattle.lw_check.specs.Claims.{Claim, class_of_net, label_of_class, timing_in, IsAtRoot, AreAtRoots, IsOnTimeAt}
+use Rattle.lw_check.specs.Claims.{AreOnTime}
 
 -- the place of the first output that is off its root
 pub record IsOffRootAt (k : Claim) (place : ℕ) : Type 0 where

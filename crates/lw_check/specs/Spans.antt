@@ -20,9 +20,10 @@ HasCellsBelow cells pats = (j : ℕ) (p : Pattern) → slice_get pats j ≡ Some
 -- a span for each cell, which has the places of the first patterns of the cell, and ends where these do
 pub record AreSpansOf (cells count : ℕ) (pats : List Pattern) (spans : List Span) : Type 0 where
   pub one_each : length spans ≡ cells
-  pub places : (j : ℕ) (p : Pattern) (span : Span) → j < count → slice_get pats j ≡ Some p → slice_get spans p.cell ≡ Some span → IsIn span j
+  pub places : (j : ℕ) (p : Pattern) (span : Span) → j < count → slice_get pats j ≡ Some p
+      → slice_get spans p.cell ≡ Some span → IsIn span j
   pub ends : (cell : ℕ) (span : Span) → slice_get spans cell ≡ Some span → span.end ≤ count
 
--- the same of all patterns
+-- a span for each cell, with the places of all patterns of the cell
 abbrev pub AreSpans : ℕ → List Pattern → List Span → Type 0
 AreSpans cells pats spans = AreSpansOf cells (length pats) pats spans

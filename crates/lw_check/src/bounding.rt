@@ -1,5 +1,6 @@
 // Whether labels are a potential, by a look at each match.
-ghost use Rattle.std.specs.Prelude.{◌≡◌, ◌↔◌, ◌<◌, ◌≤◌, IfSome, IsNone, IsTrue, length, option_map, take};
+ghost use Rattle.std.specs.Prelude.{◌≡◌, ◌↔◌, ◌<◌, ◌≤◌, IfSome, IsNone, IsTrue, length, option_map};
+ghost use Rattle.std.specs.Prelude.{take};
 ghost use Rattle.lw_laws.specs.Laws.{BoundsCovers};
 ghost use Rattle.lw_laws.specs.Mapped.{IsPotentialOf};
 ghost use Rattle.lw_laws.specs.Rounds.{labels_in};
@@ -7,7 +8,8 @@ ghost use Rattle.lw_cost.specs.Least.{AreOfCells};
 ghost use Rattle.lw_cost.specs.Values.{plain_match};
 ghost use Rattle.lw_check.specs.Claims.{class_number};
 ghost use Rattle.lw_check.specs.Failing.{IsAbove, IsFirstFailing};
-ghost use Rattle.lw_check.specs.Labelling.{HasCells, HasPattern, IsCostBy, IsLateIn, IsLowBy, IsLowIn};
+ghost use Rattle.lw_check.specs.Labelling.{HasCells, HasPattern, IsCostBy, IsLateIn, IsLowBy};
+ghost use Rattle.lw_check.specs.Labelling.{IsLowIn};
 ghost use Rattle.lw_check.specs.Least.{IsLeastOf, ReadsLabels, lesser_of};
 ghost use Rattle.lw_pool.specs.Numbers.{numbers};
 

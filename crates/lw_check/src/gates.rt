@@ -1,10 +1,12 @@
 // Whether each gate is a match at the class of its net.
-ghost use Rattle.std.specs.Prelude.{◌≡◌, ◌↔◌, ◌<◌, ◌≤◌, IfOk, IfSome, IsTrue, Some, length, option_map, slice_get};
+ghost use Rattle.std.specs.Prelude.{◌≡◌, ◌↔◌, ◌<◌, ◌≤◌, IfOk, IfSome, IsTrue, Some, length};
+ghost use Rattle.std.specs.Prelude.{option_map, slice_get};
 ghost use Rattle.lw_netlist.specs.declared.gate.Gate.{Gate as NetGate};
 ghost use Rattle.lw_netlist.specs.Plain.{HasCell};
 ghost use Rattle.lw_mapped.specs.Texts.{net_name};
 ghost use Rattle.lw_check.specs.Cases.{claim_of, PassesClasses, Tells};
-ghost use Rattle.lw_check.specs.Claims.{AreMatches, class_number, class_of_net, HasKnownClasses, IsMatchGate};
+ghost use Rattle.lw_check.specs.Claims.{AreMatches, class_number, class_of_net, HasKnownClasses};
+ghost use Rattle.lw_check.specs.Claims.{IsMatchGate};
 ghost use Rattle.lw_check.specs.Gates.{AreClassesOf, FindsMatch, FindsNoMatch, IsMatchBy};
 ghost use Rattle.lw_check.specs.Spans.{AreSpans};
 ghost use Rattle.lw_check.specs.Standing.{AreWithin};

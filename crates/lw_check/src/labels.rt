@@ -17,6 +17,7 @@ use lw_cost::{Cost, Mark};
 use lw_fixed::Micro;
 use lw_graph::Graph;
 use lw_label::DelayCost;
+use lw_match::Scratch;
 use lw_pool::ClassId;
 use std::alloc::{AllocError, Global};
 
@@ -117,7 +118,8 @@ fn sought<C: Cost>(alloc: Global, given: &Labelling<C>) -> Result<Option<Unbound
         marks: &marks,
         bounds: &bounds,
     };
-    Ok(trial.first_unbounded())
+    let mut scratch = Scratch::with_room(alloc)?;
+    Ok(trial.first_unbounded(&mut scratch))
 }
 
 // The fourth test: the reason against the first class whose label is no bound, or none.

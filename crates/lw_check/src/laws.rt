@@ -6,7 +6,8 @@ ghost use Rattle.lw_mapped.specs.declared.closing.Mapped.{Mapped};
 ghost use Rattle.lw_check.specs.declared.verdict.Verdict.{Verdict};
 ghost use Rattle.lw_check.specs.declared.verdict.Verdict.TheVariants.{Yes};
 ghost use Rattle.lw_check.specs.Claims.{Claim, cost_in};
-ghost use Rattle.lw_check.specs.Mappings.{AreAlike, IsFastestMapping, IsKept, IsMappingOf, IsOverForms, IsOverGraph, IsTimelyNetlist};
+ghost use Rattle.lw_check.specs.Mappings.{AreAlike, IsFastestMapping, IsKept, IsMappingOf};
+ghost use Rattle.lw_check.specs.Mappings.{IsOverForms, IsOverGraph, IsTimelyNetlist};
 ghost use Rattle.lw_check.specs.Verdicts.{IsVerdictOn};
 
 /// A netlist that is accepted is a fastest mapping, whoever wrote it. It has the network's frame,

@@ -3,7 +3,8 @@ ghost use Rattle.std.specs.Prelude.{◌≡◌, ◌<◌, ℕ, List, IfSome, lengt
 ghost use Rattle.lw_laws.specs.Trees.{inv, nand, Tree};
 ghost use Rattle.lw_pattern.specs.Listed.{IsKept};
 ghost use Rattle.lw_pattern.specs.Nodes.{tree_of};
-ghost use Rattle.lw_check.specs.Standing.{AreClassesBefore, AreWithin, IsClassAt, IsPlaced, StandsAlone};
+ghost use Rattle.lw_check.specs.Standing.{AreClassesBefore, AreWithin, IsClassAt, IsPlaced};
+ghost use Rattle.lw_check.specs.Standing.{StandsAlone};
 ghost use Rattle.lw_pool.specs.Numbers.{numbers};
 
 use lw_graph::Graph;

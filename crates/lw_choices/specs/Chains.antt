@@ -20,7 +20,7 @@ pub record CountsPlaces (links : ChainState) (n : ℕ) : Type 0 where
   pub len : n ≡ length links.classes
   pub within : (i c : ℕ) → slice_get links.classes i ≡ Some c → c < links.count
 
--- the same places, and one class more
+-- the places are as before, and there is one class more
 pub record HasOneClassMore (old new : ChainState) : Type 0 where
   pub classes : new.classes ≡ old.classes
   pub count : new.count ≡ old.count + 1
@@ -40,4 +40,5 @@ pub record AreChains (classes : List ℕ) (befores heads : List (Option ℕ)) : 
   pub one_each : length befores ≡ length classes
   pub within : (i c : ℕ) → slice_get classes i ≡ Some c → c < length heads
   pub heads_are : (c : ℕ) (o : Option ℕ) → slice_get heads c ≡ Some o → IsLast classes c (length classes) o
-  pub before_is : (i c : ℕ) (o : Option ℕ) → slice_get classes i ≡ Some c → slice_get befores i ≡ Some o → IsLast classes c i o
+  pub before_is : (i c : ℕ) (o : Option ℕ) → slice_get classes i ≡ Some c → slice_get befores i ≡ Some o
+      → IsLast classes c i o

@@ -26,7 +26,8 @@ MayStand s c (gate cell ps) = IsMatchAt s.graph (area_cost s.cells).pin_counts s
 pub record AreListedChoices (s : Task) (choices : List Choice) : Type 0 where
   pub each : (n : ℕ) (x : Choice) → slice_get choices n ≡ Some x → MayStand s x.class x.part
   pub within : (n : ℕ) (x : Choice) → slice_get choices n ≡ Some x → x.class < length s.graph.pairs
-  pub all : (c : ℕ) (part : Part) → c < length s.graph.pairs → MayStand s c part → (n : ℕ) × (slice_get choices n ≡ Some (record { class = c; part = part }))
+  pub all : (c : ℕ) (part : Part) → c < length s.graph.pairs → MayStand s c part
+      → (n : ℕ) × (slice_get choices n ≡ Some (record { class = c; part = part }))
 
 -- the pin with this number has the class
 abbrev pub HasPinAt : Part → ℕ → ℕ → Type 0

@@ -21,13 +21,15 @@ pub record IsGroupListed (groups : List ℕ) (g : ℕ) (old new : List ℕ) : Ty
 -- their choices were
 abbrev pub AreOwnersAdded : List ℕ → List ℕ → ℕ → List ℕ → List ℕ → Type 0
 AreOwnersAdded groups owners g old new =
-    (places : List ℕ) → old ≡ owners_of owners places → (more : List ℕ) × (new ≡ owners_of owners more) × IsGroupListed groups g places more
+    (places : List ℕ) → old ≡ owners_of owners places → (more : List ℕ) × (new ≡ owners_of owners more)
+    × IsGroupListed groups g places more
 
 -- the pins in each of so many groups, those of a group up to where those of the next one begin
 pub record AreMembersListed (groups : List ℕ) (count : ℕ) (starts places : List ℕ) : Type 0 where
   pub one_more : length starts ≡ count + 1
   pub low : (g first : ℕ) → slice_get starts g ≡ Some first → first ≤ length places
-  pub all : (g first end j : ℕ) → slice_get starts g ≡ Some first → slice_get starts (g + 1) ≡ Some end → slice_get groups j ≡ Some g → IsBetween places first end j
+  pub all : (g first end j : ℕ) → slice_get starts g ≡ Some first → slice_get starts (g + 1) ≡ Some end
+      → slice_get groups j ≡ Some g → IsBetween places first end j
 
 -- their choices
 abbrev pub AreOwnersListed : List ℕ → List ℕ → ℕ → List ℕ → List ℕ → Type 0
@@ -35,7 +37,8 @@ AreOwnersListed groups owners count starts numbers =
     (places : List ℕ) × (numbers ≡ owners_of owners places) × AreMembersListed groups count starts places
 
 abbrev pub AreGroupChoicesOf : List ℕ → List ℕ → ℕ → GroupChoices → Type 0
-AreGroupChoicesOf groups owners count by_group = AreOwnersListed groups owners count by_group.starts.items by_group.numbers.items
+AreGroupChoicesOf groups owners count by_group =
+    AreOwnersListed groups owners count by_group.starts.items by_group.numbers.items
 
 -- the choices by group are those of these pins
 abbrev pub AreGroupChoices : PinGroups → Type 0

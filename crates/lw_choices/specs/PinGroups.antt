@@ -62,7 +62,8 @@ pub record IsGroupAdded (old new : PinGroups) (c delay group : ℕ) : Type 0 whe
   pub are : AreGroups old → AreGroups new
   pub group_is : AreGroups old → IsGroup new.links.classes new.delays.items c delay group
   pub low : AreGroups old → group < new.members.count
-  pub kept : (g d e : ℕ) → IsGroup old.links.classes old.delays.items d e g → IsGroup new.links.classes new.delays.items d e g
+  pub kept : (g d e : ℕ) → IsGroup old.links.classes old.delays.items d e g
+      → IsGroup new.links.classes new.delays.items d e g
   pub members : new.members.classes ≡ old.members.classes
   pub owners : new.owners.items ≡ old.owners.items
   pub firsts : new.firsts.items ≡ old.firsts.items
@@ -80,7 +81,8 @@ pub record IsPinAdded (old new : PinGroups) (c delay n : ℕ) : Type 0 where
   pub are : AreGroups new
   pub longer : length new.members.classes ≡ length old.members.classes + 1
   pub firsts : new.firsts.items ≡ old.firsts.items
-  pub has : (i first : ℕ) → slice_get old.firsts.items n ≡ Some first → length old.members.classes ≡ first + i → HasUse new n i delay c
+  pub has : (i first : ℕ) → slice_get old.firsts.items n ≡ Some first → length old.members.classes ≡ first + i
+      → HasUse new n i delay c
   pub kept : (m i e d : ℕ) → HasUse old m i e d → HasUse new m i e d
   pub only : (j m : ℕ) → slice_get new.owners.items j ≡ Some m → (slice_get old.owners.items j ≡ Some m) ⊎ (m ≡ n)
 
@@ -88,18 +90,23 @@ pub record IsPinAdded (old new : PinGroups) (c delay n : ℕ) : Type 0 where
 pub record AreUsesTo (cells : List CellParts) (choices : List Choice) (n k : ℕ) (u : PinGroups) : Type 0 where
   pub are : AreGroups u
   pub low : (j m : ℕ) → slice_get u.owners.items j ≡ Some m → m < length choices
-  pub all : (m i c : ℕ) (x : Choice) → (m < n) ⊎ ((m ≡ n) × (i < k)) → slice_get choices m ≡ Some x → HasPinAt x.part i c → HasUse u m i (pin_delay cells x.part i) c
+  pub all : (m i c : ℕ) (x : Choice) → (m < n) ⊎ ((m ≡ n) × (i < k)) → slice_get choices m ≡ Some x
+      → HasPinAt x.part i c → HasUse u m i (pin_delay cells x.part i) c
 
 -- the pins of a choice were added, with these delays
 pub record ArePinsAdded (delays : List Micro) (pins : List ClassId) (n : ℕ) (old new : PinGroups) : Type 0 where
   pub are : AreGroups new
   pub firsts : new.firsts.items ≡ old.firsts.items
-  pub pin_groups : (cells : List CellParts) (xs : List Choice) (c cell : ℕ) → slice_get xs n ≡ Some (record { class = c; part = gate cell (numbers pins) }) → delays_of (delays_of_cells cells) cell ≡ map millionths delays → AreUsesTo cells xs n 0 old → AreUsesTo cells xs n (length pins) new
+  pub pin_groups : (cells : List CellParts) (xs : List Choice) (c cell : ℕ)
+      → slice_get xs n ≡ Some (record { class = c; part = gate cell (numbers pins) })
+      → delays_of (delays_of_cells cells) cell ≡ map millionths delays → AreUsesTo cells xs n 0 old
+      → AreUsesTo cells xs n (length pins) new
 
 -- so were those of a choice with a cell of the library, and those of an input, which has none
 pub record IsChoiceAdded (cells : List CellParts) (x : Choice) (n : ℕ) (old new : PinGroups) : Type 0 where
   pub of : AreGroupsTo (n + 1) new
-  pub pin_groups : (xs : List Choice) → slice_get xs n ≡ Some x → AreUsesTo cells xs n 0 old → AreUsesTo cells xs (n + 1) 0 new
+  pub pin_groups : (xs : List Choice) → slice_get xs n ≡ Some x → AreUsesTo cells xs n 0 old
+      → AreUsesTo cells xs (n + 1) 0 new
 
 -- the pins of all choices, and the choices of each group
 pub record AreUses (cells : List CellParts) (choices : List Choice) (u : PinGroups) : Type 0 where

@@ -51,7 +51,8 @@ pub record IsListing (s : Task) (inputs classes : ℕ) (choices : List Choice) :
   pub each : (n : ℕ) (x : Choice) → slice_get choices n ≡ Some x → MayStand s x.class x.part
   pub within : (n : ℕ) (x : Choice) → slice_get choices n ≡ Some x → x.class < length s.graph.pairs
   pub inputs_are : (i c : ℕ) → i < inputs → slice_get s.graph.leaves i ≡ Some c → IsAmong choices c (input i)
-  pub gates_are : (c cell : ℕ) (ps : List ℕ) → c < classes → MayStand s c (gate cell ps) → IsAmong choices c (gate cell ps)
+  pub gates_are : (c cell : ℕ) (ps : List ℕ) → c < classes → MayStand s c (gate cell ps)
+      → IsAmong choices c (gate cell ps)
 
 -- a cell at a class more
 abbrev pub IsGatePushed : List ListedChoice → List ListedChoice → ClassId → CellId → List ClassId → Type 0
@@ -61,12 +62,16 @@ IsGatePushed old new class cell pins =
 -- the matches at a class more, by cells of any library that the patterns are of
 abbrev pub IsClassListed : Graph → List Pattern → ℕ → List ListedChoice → List ListedChoice → Type 0
 IsClassListed g pats c old new =
-    (cells : List CellParts) (starts : List Micro) → AreOfCells (area_cost cells).pin_counts pats → IsListing (task g pats cells starts) (length g.leaves) c (plain_rows old) → IsListing (task g pats cells starts) (length g.leaves) (c + 1) (plain_rows new)
+    (cells : List CellParts) (starts : List Micro) → AreOfCells (area_cost cells).pin_counts pats
+    → IsListing (task g pats cells starts) (length g.leaves) c (plain_rows old)
+    → IsListing (task g pats cells starts) (length g.leaves) (c + 1) (plain_rows new)
 
 -- so are those at all classes, behind the inputs
 abbrev pub AreMatchesListed : Graph → List Pattern → List ListedChoice → List ListedChoice → Type 0
 AreMatchesListed g pats old new =
-    (cells : List CellParts) (starts : List Micro) → AreOfCells (area_cost cells).pin_counts pats → IsListing (task g pats cells starts) (length g.leaves) 0 (plain_rows old) → AreListedChoices (task g pats cells starts) (plain_rows new)
+    (cells : List CellParts) (starts : List Micro) → AreOfCells (area_cost cells).pin_counts pats
+    → IsListing (task g pats cells starts) (length g.leaves) 0 (plain_rows old)
+    → AreListedChoices (task g pats cells starts) (plain_rows new)
 
 -- so are those of a store, whatever graph and patterns it is of
 abbrev pub AreStoredListed : List (List Stored) → List ListedChoice → List ListedChoice → Type 0
@@ -76,4 +81,5 @@ AreStoredListed lists old new =
 -- all that may stand at the classes, by cells of any library that the patterns are of, and they can be numbered
 pub record AreAllChoices (g : Graph) (pats : List Pattern) (rows : List ListedChoice) : Type 0 where
   pub few : length rows < number_count
-  pub choices : (cells : List CellParts) (starts : List Micro) → AreOfCells (area_cost cells).pin_counts pats → AreListedChoices (task g pats cells starts) (plain_rows rows)
+  pub choices : (cells : List CellParts) (starts : List Micro) → AreOfCells (area_cost cells).pin_counts pats
+      → AreListedChoices (task g pats cells starts) (plain_rows rows)

@@ -33,5 +33,6 @@ area_of s k = cost_of (area_cost s.cells) k
 -- the least area of the covers of the class that arrive by the time, and none where there is no such cover
 abbrev pub IsLeastAreaBy : Task → ℕ → ℕ → Option ℕ → Type 0
 IsLeastAreaBy s c time (Some area) =
-    ((k : Cover) × IsCoverBy s c time k × (area_of s k ≡ area)) × ((k : Cover) → IsCoverBy s c time k → area ≤ area_of s k)
+    ((k : Cover) × IsCoverBy s c time k × (area_of s k ≡ area))
+    × ((k : Cover) → IsCoverBy s c time k → area ≤ area_of s k)
 IsLeastAreaBy s c time None = (k : Cover) → IsCoverBy s c time k → ⊥

@@ -52,10 +52,10 @@ impl Cost for AreaCost<'_> {
     }
 }
 
-// The area at which areas are cut, 2^62 millionths.
+/// The area at which sums are cut: 2^62, in millionths of a unit of area.
 pub const MOST_AREA: u64 = 4_611_686_018_427_387_904;
 
-// The sum of two areas in millionths, or 2^62 if it is greater.
+/// The sum of two areas in millionths, or 2^62 if it is greater.
 pub fn joined(a: u64, b: u64) -> u64
     ensures { result ≡ min most_area (a + b) }
 {

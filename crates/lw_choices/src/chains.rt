@@ -1,5 +1,6 @@
 // Places, each linked to the last one before it that has the same class.
-ghost use Rattle.std.specs.Prelude.{◌≡◌, ◌<◌, ◌++◌, [], ◌∷◌, ℕ, IfOk, MatchResult, OnOk, OnErr, length, Some, slice_get};
+ghost use Rattle.std.specs.Prelude.{◌≡◌, ◌<◌, ◌++◌, [], ◌∷◌, ℕ, IfOk, MatchResult, OnOk, OnErr};
+ghost use Rattle.std.specs.Prelude.{length, Some, slice_get};
 ghost use Rattle.lw_choices.specs.Chains.{CountsPlaces, HasNoPlaces, HasOneClassMore, IsLast};
 
 use lw_pool::ClassId;

@@ -3,7 +3,8 @@ ghost use Rattle.std.specs.Prelude.{◌≡◌, ◌<◌, List, IfOk, OnOk, length
 ghost use Rattle.lw_genlib.specs.Cells.{CellParts};
 ghost use Rattle.lw_fixed.specs.declared.micro.Micro.{Micro as MicroOf};
 ghost use Rattle.lw_choices.specs.Tasks.{task};
-ghost use Rattle.lw_choices.specs.Rows.{AreAllChoices, AreMatchesListed, AreStoredListed, IsClassListed, IsGatePushed, IsListing, plain_rows};
+ghost use Rattle.lw_choices.specs.Rows.{AreAllChoices, AreMatchesListed, AreStoredListed};
+ghost use Rattle.lw_choices.specs.Rows.{IsClassListed, IsGatePushed, IsListing, plain_rows};
 
 use lw_cost::Pins;
 use lw_cursor::Cursor;

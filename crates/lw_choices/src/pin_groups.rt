@@ -2,7 +2,10 @@
 ghost use Rattle.std.specs.Prelude.{◌≡◌, ◌<◌, IfOk, IfSome, MatchResult, OnOk, length};
 ghost use Rattle.lw_choices.specs.Choices.{IsPartFor};
 ghost use Rattle.lw_choices.specs.Rows.{ArePartsFor, plain_part, plain_row, plain_rows};
-ghost use Rattle.lw_choices.specs.PinGroups.{AreGroups, AreGroupsTo, ArePinsAdded, AreUses, HasFirst, HasNoUses, HasNoUsesFor, HaveDelays, IsChoiceAdded, IsFirstAdded, IsGroup, IsGroupAdded, IsPinAdded};
+ghost use Rattle.lw_choices.specs.PinGroups.{AreGroups, AreGroupsTo, ArePinsAdded, AreUses};
+ghost use Rattle.lw_choices.specs.PinGroups.{HasFirst, HasNoUses, HasNoUsesFor, HaveDelays};
+ghost use Rattle.lw_choices.specs.PinGroups.{IsChoiceAdded, IsFirstAdded, IsGroup, IsGroupAdded};
+ghost use Rattle.lw_choices.specs.PinGroups.{IsPinAdded};
 
 use crate::chains::Chains;
 use crate::choices::{ListedChoice, Stand};
@@ -153,7 +156,8 @@ fn add_pins(
     requires pins { HaveDelays pin_groups.old.links.count delays.now pins.now }
     requires first { HasFirst choice pin_groups.old }
     ensures count { pin_groups.new.links.count ≡ pin_groups.old.links.count }
-    ensures added { OnOk result (ArePinsAdded delays.now pins.now choice pin_groups.old pin_groups.new) }
+    ensures added { OnOk result
+        (ArePinsAdded delays.now pins.now choice pin_groups.old pin_groups.new) }
 {
     for (pin, class) in pins.iter().enumerate() {
         add_pin(pin_groups, *class, delays[pin].0, choice)?;

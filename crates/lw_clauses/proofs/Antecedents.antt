@@ -2,6 +2,7 @@
 use Rattle.std.proofs.Common.{ℕ, ◌*◌, ◌≡◌, Bool, true, false, not, ◌&&◌, ◌||◌, Some, Contains, ◌⊎◌, inl, inr, List, [], ◌∷◌, slice_get, refl, ap, ap₂, sym, ◌∙◌, subst}
 use Rattle.std.proofs.lemmas.List.Elements.{All-weaker, All-contains}
 use Rattle.std.proofs.lemmas.List.Folds.{Any-from_list_any, list_any_none}
+use Rattle.std.proofs.lemmas.Bool.{both_ways}
 use Rattle.lw_aig.specs.declared.gate.Gate.{Gate}
 use Rattle.lw_aig.specs.declared.gate.Gate.TheVariants.{Zero, And}
 use Rattle.lw_aig.specs.declared.literal.Literal.{Literal}
@@ -12,21 +13,18 @@ use Rattle.lw_clauses.specs.declared.denied.Left.TheVariants.{Nothing, One, More
 use Rattle.lw_clauses.specs.Checks.{AreFalse, IsLeft, Tells}
 use Rattle.lw_clauses.specs.Clauses.{Holds, clause_value}
 
-not_both : (b : Bool) → b ≡ true → b ≡ false → ⊥
-not_both b t f = cc
-
 -- what is left of an antecedent that holds
 pub left_tells : (gates : List Gate) (denied antecedent : List Literal) (left : Left) → Holds gates antecedent → IsLeft denied antecedent left → Tells gates denied left
 left_tells gates denied antecedent Nothing holds is = λ v values are.
     let off = list_any_none (literal_value v) antecedent (All-weaker (Contains denied) (λ l. literal_value v l ≡ false) (λ l inside. All-contains (λ m. literal_value v m ≡ false) denied l are inside) antecedent is) in
-    not_both (clause_value v antecedent) (holds.always v values) off
+    both_ways (clause_value v antecedent) off (holds.always v values)
 left_tells gates denied antecedent (One m) holds is = λ v values are.
     let (k, l, lt, at, on) = Any-from_list_any (literal_value v) antecedent (holds.always v values) in
     by_case v are l on (subst (λ x. (x ≡ m) ⊎ Contains denied x) at (is k l lt))
   where
     by_case : (v : ℕ → Bool) → AreFalse v denied → (l : Literal) → literal_value v l ≡ true → (l ≡ m) ⊎ Contains denied l → literal_value v m ≡ true
     by_case v are l on (inl e) = sym (ap (literal_value v) e) ∙ on
-    by_case v are l on (inr inside) = absurd (not_both (literal_value v l) on (All-contains (λ x. literal_value v x ≡ false) denied l are inside))
+    by_case v are l on (inr inside) = absurd (both_ways (literal_value v l) (All-contains (λ x. literal_value v x ≡ false) denied l are inside) on)
 left_tells gates denied antecedent More holds is = tt
 
 module _ (gates : List Gate) (n : ℕ) (node off : Literal) (even : node.0 ≡ 2 * n) (turned : off ≡ complement node) where

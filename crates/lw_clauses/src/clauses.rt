@@ -1,4 +1,5 @@
-ghost use Rattle.std.specs.Prelude.{◌≡◌, ◌<◌, ◌++◌, [], ◌∷◌, length, slice_get, IfOk, OnErr, IfSome, OnSome, Some};
+ghost use Rattle.std.specs.Prelude.{◌≡◌, ◌<◌, ◌++◌, [], ◌∷◌, length, slice_get, IfOk, OnErr};
+ghost use Rattle.std.specs.Prelude.{IfSome, OnSome, Some};
 
 use crate::Cause;
 use crate::denied::Denied;
@@ -89,8 +90,8 @@ impl Clauses {
         self.aig.push_and(alloc, left, right)
     }
 
-    /// Takes a clause in and gives its number, if it is found to follow along these antecedents. The
-    /// graph stays as it is.
+    /// Takes a clause in and gives its number, if it is found to follow along these antecedents.
+    /// The graph stays as it is.
     pub fn learn(&mut self, clause: &[Literal], hints: &[Cause]) -> Result<Option<u32>, AllocError>
         ensures kept { self.new ≡ self.old }
         ensures holds { IfOk result (λ number. OnSome number (Holds self.old clause.now)) }

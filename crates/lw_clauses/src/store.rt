@@ -1,5 +1,6 @@
 // Clauses in flat arrays.
-ghost use Rattle.std.specs.Prelude.{◌≡◌, [], length, slice_get, IfSome, Some, MatchResult, All, Contains};
+ghost use Rattle.std.specs.Prelude.{◌≡◌, [], length, slice_get, IfSome, Some, MatchResult, All};
+ghost use Rattle.std.specs.Prelude.{Contains};
 
 use lw_aig::Literal;
 use std::alloc::{AllocError, Global};

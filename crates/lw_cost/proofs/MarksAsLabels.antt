@@ -1,7 +1,8 @@
 -- Marks as labels, and priced matches.
-use Rattle.std.proofs.Common.{ℕ, zero, suc, ◌+◌, ◌<◌, ◌≤◌, ◌≡◌, List, [], ◌∷◌, length, Option, Some, None, slice_index_or, slice_set, sym, ◌∙◌, arith, ◌↔◌, Contains, option_map, slice_get, refl, ap, ap₂, subst}
+use Rattle.std.proofs.Common.{ℕ, zero, suc, ◌+◌, ◌<◌, ◌≤◌, ◌≡◌, List, [], ◌∷◌, length, Option, Some, None, slice_index_or, slice_set, sym, ◌∙◌, arith, ◌↔◌, option_map, refl, ap, ap₂, subst}
 use Rattle.std.proofs.lemmas.List.{map-set}
-use Rattle.std.proofs.lemmas.Option.{none-some, same_Some, slice_get-get_or}
+use Rattle.std.proofs.lemmas.Option.{none-some, same_Some}
+use Rattle.lw_facts.proofs.Lists.{contained_at}
 use Rattle.lw_laws.specs.Graphs.{Graph}
 use Rattle.lw_laws.specs.Costs.{Cost, IsCost}
 use Rattle.lw_laws.specs.Covers.{Pattern, ArePatterns, HasPins}
@@ -97,10 +98,6 @@ cover_problem g cost pats graph is of_cells = record {
   cost_is = is;
 }
 
--- a pattern of a list has a place in it
-pub place_of : (pats : List Pattern) (p : Pattern) → Contains pats p → (n : ℕ) × (slice_get pats n ≡ Some p)
-place_of pats p (k, below, at) = (k, slice_get-get_or pats k p below ∙ ap (λ (q : Pattern). Some q) at)
-
 -- a priced match stands at its class
 pub standing : (g : Graph) (cost : Cost) (pats : List Pattern) (marks : Marks) (c : ℕ) (b : Priced) → (is : IsPricedAt g cost pats marks c b) → IsMatchAt g cost.pin_counts pats c is.pattern.cell b.found.pins
 standing g cost pats marks c b is = record {
@@ -114,7 +111,7 @@ standing g cost pats marks c b is = record {
 -- a match whose pins have marks is priced
 pub priced : (g : Graph) (cost : Cost) (pats : List Pattern) (marks : Marks) (c cell : ℕ) (ps : List ℕ) (ms : List PlainMark) → IsMatchAt g cost.pin_counts pats c cell ps → HaveMarks marks ps ms → (b : Priced) × IsPricedAt g cost pats marks c b × (b.mark ≡ price cost cell ms)
 priced g cost pats marks c cell ps ms m have =
-    let (n, at) = place_of pats m.pattern m.listed in (
+    let (n, at) = contained_at pats m.pattern m.listed in (
       record { mark = price cost cell ms; found = record { pattern = n; pins = ps } },
       record {
         pattern = m.pattern;

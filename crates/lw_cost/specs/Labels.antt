@@ -29,6 +29,7 @@ pub record AreLeastMarks (g : Graph) (cost : Cost) (pats : List Pattern) (marks 
   pub one_each : length marks ≡ length g.pairs
   pub least : (c : ℕ) → IsLeastCover g pats cost c (labels_in (costs_of marks) c)
   pub potential : IsPotentialOf g pats cost (costs_of marks)
-  pub heights : (c : ℕ) (m : PlainMark) → marks_in marks c ≡ Some m → IsHeight (choices_of g cost.pin_counts pats) cost (labels_in (costs_of marks)) c m.height
+  pub heights : (c : ℕ) (m : PlainMark) → marks_in marks c ≡ Some m
+      → IsHeight (choices_of g cost.pin_counts pats) cost (labels_in (costs_of marks)) c m.height
   -- no cost above the cap, and heights that a number of 32 bits holds
   pub in_range : AreInRange cost.cap marks

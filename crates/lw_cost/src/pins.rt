@@ -1,5 +1,6 @@
 // The pins of a match.
-ghost use Rattle.std.specs.Prelude.{◌≡◌, ◌<◌, ◌≤◌, ◌+◌, ◌++◌, [], ◌∷◌, ◌↔◌, List, length, take, IsTrue, Some, slice_get};
+ghost use Rattle.std.specs.Prelude.{◌≡◌, ◌<◌, ◌≤◌, ◌+◌, ◌++◌, [], ◌∷◌, ◌↔◌, List, length, take};
+ghost use Rattle.std.specs.Prelude.{IsTrue, Some, slice_get};
 
 use lw_pool::ClassId;
 use std::marker::Model;
@@ -48,6 +49,7 @@ impl Pins {
         self.as_slice().is_empty()
     }
 
+    /// The classes, in order.
     pub fn as_slice(&self) -> &[ClassId]
         ensures classes { result.now ≡ self.now }
         ensures few { length result.now ≤ 16 }

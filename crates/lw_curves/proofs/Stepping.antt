@@ -277,23 +277,19 @@ module _ (s : Task) (choices : List Choice) (are : AreListedChoices s choices) (
           let p : HasPinAt x.part j class = subst (λ (z : Spot). HasPinAt x.part j z.class) e pn in
           inr (subst (λ u. comes' (u + delay_at s x.part j) n) (sym t) (added n j x at p (subst (λ u. u + delay_at s x.part j ≤ horizon) t le)))
 
+  from_old : (n t a c : ℕ) → HasAtMost next c t a ⊎ comes t n → HasAtMost next c t a ⊎ comes' t n
+  from_old n t a c (inl h) = inl h
+  from_old n t a c (inr w) = inr (more t n w)
+
   give : (n t a c : ℕ) (part : Part) → slice_get choices n ≡ Some (record { class = c; part = part }) → Gives s next part t a → t ≤ horizon → HasAtMost next c t a ⊎ comes' t n
-  give n t a c (input i) at gives le = from_old (gaining.settling.given n t a (record { class = c; part = input i }) at gives le)
-    where
-      from_old : HasAtMost next c t a ⊎ comes t n → HasAtMost next c t a ⊎ comes' t n
-      from_old (inl h) = inl h
-      from_old (inr w) = inr (more t n w)
+  give n t a c (input i) at gives le = from_old n t a c (gaining.settling.given n t a (record { class = c; part = input i }) at gives le)
   give n t a c (gate cell ps) at (ks, zip, et, ea) le = by_time (cases_lt now t)
     where
       sizes : length (delays_of (timing s).delays cell) ≡ length ks
       sizes = length-delays_of (timing s).delays cell (length ps) (are.each n (record { class = c; part = gate cell ps }) at).pins ∙ zip_length next ps ks zip
 
-      from_old : HasAtMost next c t a ⊎ comes t n → HasAtMost next c t a ⊎ comes' t n
-      from_old (inl h) = inl h
-      from_old (inr w) = inr (more t n w)
-
       by_split : t ≤ now → AllZip (IsSpotOf Old) ps ks ⊎ ((j : ℕ) × (slice_get ks j ≡ Some (spot class now gaining.area))) → HasAtMost next c t a ⊎ comes' t n
-      by_split low (inl old) = from_old (gaining.settling.given n t a (record { class = c; part = gate cell ps }) at (ks, old, et, ea) le)
+      by_split low (inl old) = from_old n t a c (gaining.settling.given n t a (record { class = c; part = gate cell ps }) at (ks, old, et, ea) le)
       by_split low (inr (j, jt)) =
           let (has, p) = zip_at next ps ks j (spot class now gaining.area) zip jt in
           let below = pin_below (delays_of (timing s).delays cell) ks j (spot class now gaining.area) sizes jt in

@@ -23,7 +23,8 @@ spot_in h = h.spot
 -- no later; and earlier, or of less area, or of no more area and gained before
 pub record IsBefore (l h : Held) : Type 0 where
   pub no_later : l.spot.time ≤ h.spot.time
-  pub less : (l.spot.time < h.spot.time) ⊎ ((l.spot.area < h.spot.area) ⊎ ((l.spot.area ≤ h.spot.area) × (l.order < h.order)))
+  pub less : (l.spot.time < h.spot.time)
+      ⊎ ((l.spot.area < h.spot.area) ⊎ ((l.spot.area ≤ h.spot.area) × (l.order < h.order)))
 
 abbrev pub IsPinOf : List Held → Held → ℕ → Held → Type 0
 IsPinOf held h p l = IsHeld held l × (l.spot.class ≡ p) × IsBefore l h
@@ -38,7 +39,9 @@ held_areas ks = map (λ (l : Held). l.spot.area) ks
 abbrev pub IsGivenBy : Task → List Held → Held → Part → Type 0
 IsGivenBy s held h (input i) = start_of (timing s).starts i ≤ h.spot.time
 IsGivenBy s held h (gate cell ps) =
-    (ks : List Held) × AllZip (IsPinOf held h) ps ks × (latest (delays_of (timing s).delays cell) (held_times ks) ≤ h.spot.time) × (min most_area (area_at s.cells cell + total (held_areas ks)) ≤ h.spot.area)
+    (ks : List Held) × AllZip (IsPinOf held h) ps ks
+    × (latest (delays_of (timing s).delays cell) (held_times ks) ≤ h.spot.time)
+    × (min most_area (area_at s.cells cell + total (held_areas ks)) ≤ h.spot.area)
 
 -- the choice stands at the class of the point, and gives it its time and its area
 pub record IsBacked (s : Task) (choices : List Choice) (held : List Held) (h : Held) : Type 0 where
@@ -54,5 +57,6 @@ AreBacked s choices held = (h : Held) → IsHeld held h → IsBacked s choices h
 pub record IsHeldGained (old new : List Held) (h : Held) : Type 0 where
   pub has : IsHeld new h
   pub only : (l : Held) → IsHeld new l → IsHeld old l ⊎ (l ≡ h)
-  pub kept : (l : Held) → IsHeld old l → IsHeld new l ⊎ ((l.spot.class ≡ h.spot.class) × (l.spot.time ≡ h.spot.time) × (h.spot.area < l.spot.area))
+  pub kept : (l : Held) → IsHeld old l → IsHeld new l ⊎
+      ((l.spot.class ≡ h.spot.class) × (l.spot.time ≡ h.spot.time) × (h.spot.area < l.spot.area))
   pub fresh : (l : Held) → IsHeld old l → l.order < h.order

@@ -1,5 +1,6 @@
 -- Points by class, one class after the other.
-use Rattle.std.specs.Prelude.{ℕ, ◌+◌, ◌-◌, ◌<◌, ◌≤◌, ◌≡◌, List, [], ◌∷◌, ◌++◌, length, map, reverse, Some, Contains, slice_get, slice_range}
+use Rattle.std.specs.Prelude.{ℕ, ◌+◌, ◌-◌, ◌<◌, ◌≤◌, ◌≡◌, List, [], ◌∷◌, ◌++◌, length, map, reverse, Some, Contains}
+use Rattle.std.specs.Prelude.{slice_get, slice_range}
 use Rattle.lw_curves.specs.declared.point.Way.{Way}
 use Rattle.lw_curves.specs.declared.point.Point.{Point}
 use Rattle.lw_curves.specs.Backing.{Held, IsHeld, AreBacked, spot_in}
@@ -25,16 +26,19 @@ way_in h = record { order = h.order; choice = h.choice }
 pub record IsRow (spots : List Spot) (c : ℕ) (row : List Point) : Type 0 where
   pub each : (p : Point) → Contains row p → Has spots (spot c p.time.0 p.area)
   pub all : (k : Spot) → Has spots k → k.class ≡ c → Contains row (point_of k)
-  pub rising : (i j : ℕ) (p q : Point) → i < j → slice_get row i ≡ Some p → slice_get row j ≡ Some q → p.time.0 < q.time.0
+  pub rising : (i j : ℕ) (p q : Point) → i < j → slice_get row i ≡ Some p → slice_get row j ≡ Some q
+      → p.time.0 < q.time.0
 
--- the same with their choices
+-- the points of the class with their choices, by rising time
 pub record IsHeldRow (held : List Held) (c : ℕ) (row : List Held) : Type 0 where
   pub each : (h : Held) → IsHeld row h → IsHeld held h × (h.spot.class ≡ c)
   pub all : (h : Held) → IsHeld held h → h.spot.class ≡ c → IsHeld row h
-  pub rising : (i j : ℕ) (g h : Held) → i < j → slice_get row i ≡ Some g → slice_get row j ≡ Some h → g.spot.time < h.spot.time
+  pub rising : (i j : ℕ) (g h : Held) → i < j → slice_get row i ≡ Some g → slice_get row j ≡ Some h
+      → g.spot.time < h.spot.time
 
 -- the points of the class and how they came are put behind others, the last one first
-pub record IsRowPushed (held : List Held) (c : ℕ) (points new_points : List Point) (ways new_ways : List Way) : Type 0 where
+pub record IsRowPushed (held : List Held) (c : ℕ) (points new_points : List Point)
+    (ways new_ways : List Way) : Type 0 where
   pub row : List Held
   pub is : IsHeldRow held c row
   pub points_are : reverse new_points ≡ map point_in row ++ reverse points
@@ -68,7 +72,8 @@ pub record AreCurveArrays (points : List Point) (ways : List Way) (lefts : List 
   pub rising : (c : ℕ) (row : List Point) → slice_get (rows_of points lefts) c ≡ Some row → ArePointsRising row
 
 -- the rows of the classes from a first one on stand in two arrays, and nothing before them
-pub record IsTable (held : List Held) (count first : ℕ) (points : List Point) (ways : List Way) (lefts : List ℕ) : Type 0 where
+pub record IsTable (held : List Held) (count first : ℕ) (points : List Point) (ways : List Way)
+    (lefts : List ℕ) : Type 0 where
   pub one_each : length ways ≡ length points
   pub later : List ℕ
   pub all_left : lefts ≡ length points ∷ later

@@ -1,5 +1,6 @@
 -- The points that were found, by class.
-use Rattle.std.specs.Prelude.{ℕ, ◌+◌, ◌<◌, ◌≤◌, ◌≡◌, ◌⊎◌, Bool, true, false, List, [], ◌∷◌, length, map, Option, Some, None, slice_get, slice_set}
+use Rattle.std.specs.Prelude.{ℕ, ◌+◌, ◌<◌, ◌≤◌, ◌≡◌, ◌⊎◌, Bool, true, false, List, [], ◌∷◌, length, map, Option, Some}
+use Rattle.std.specs.Prelude.{None, slice_get, slice_set}
 use Rattle.lw_curves.specs.declared.point.Found.{Found}
 use Rattle.lw_choices.specs.Areas.{most_area}
 use Rattle.lw_curves.specs.Backing.{Held, IsHeld, IsHeldGained, spot_in}
@@ -96,7 +97,8 @@ abbrev pub IsLeastSpot : List Spot → ℕ → ℕ → Option ℕ → Type 0
 IsLeastSpot spots c time None =
     (k : Spot) → Has spots k → k.class ≡ c → k.time ≤ time → ⊥
 IsLeastSpot spots c time (Some area) =
-    ((k : Spot) × Has spots k × (k.class ≡ c) × (k.time ≤ time) × (k.area ≡ area)) × ((k : Spot) → Has spots k → k.class ≡ c → k.time ≤ time → area ≤ k.area)
+    ((k : Spot) × Has spots k × (k.class ≡ c) × (k.time ≤ time) × (k.area ≡ area))
+    × ((k : Spot) → Has spots k → k.class ≡ c → k.time ≤ time → area ≤ k.area)
 
 -- a point of the class has no more area by this time, unless it was said that there is none
 abbrev pub IsLessOr : List Spot → ℕ → ℕ → ℕ → Bool → Type 0
@@ -106,7 +108,9 @@ IsLessOr spots c time area false = HasAtMost spots c time area
 -- the point is added with its choice, or a point of the class has no more area
 abbrev pub IsTried : FrontState → FrontState → Spot → ℕ → Bool → Type 0
 IsTried old new k choice true =
-    IsGained old.spots new.spots k × (new.least ≡ slice_set old.least k.class k.area) × ((area : ℕ) → slice_get old.least k.class ≡ Some area → k.area < area) × ((order : ℕ) × IsHeldGained old.held new.held (record { spot = k; choice = choice; order = order }))
+    IsGained old.spots new.spots k × (new.least ≡ slice_set old.least k.class k.area)
+    × ((area : ℕ) → slice_get old.least k.class ≡ Some area → k.area < area)
+    × ((order : ℕ) × IsHeldGained old.held new.held (record { spot = k; choice = choice; order = order }))
 IsTried old new k choice false = (new ≡ old) × HasAtMost old.spots k.class k.time k.area
 
 -- the point is of one of the classes, of no more area than is told, and no earlier than any

@@ -18,7 +18,8 @@ pub record IsPoint (s : Task) (c : ℕ) (p : Point) : Type 0 where
 -- points of the class up to the horizon, by rising time
 pub record ArePoints (s : Task) (c horizon : ℕ) (points : List Point) : Type 0 where
   pub each : (p : Point) → Contains points p → IsPoint s c p × (p.time.0 ≤ horizon)
-  pub rising : (i j : ℕ) (p q : Point) → i < j → slice_get points i ≡ Some p → slice_get points j ≡ Some q → p.time.0 < q.time.0
+  pub rising : (i j : ℕ) (p q : Point) → i < j → slice_get points i ≡ Some p → slice_get points j ≡ Some q
+      → p.time.0 < q.time.0
 
 -- all of them
 pub record IsCurve (s : Task) (c horizon : ℕ) (points : List Point) : Type 0 where
@@ -52,4 +53,5 @@ IsWhy s horizon Memory = Unit {0}
 -- each cover that arrives by the horizon has a point of its class that is no later and has no more area
 abbrev pub BoundCovers : Task → ℕ → List (List Point) → Type 0
 BoundCovers s horizon curves =
-    (c : ℕ) (k : Cover) → IsCoverBy s c horizon k → (row : List Point) × (p : Point) × (slice_get curves c ≡ Some row) × Contains row p × (p.time.0 ≤ time_of (timing s) k) × (p.area ≤ area_of s k)
+    (c : ℕ) (k : Cover) → IsCoverBy s c horizon k → (row : List Point) × (p : Point) × (slice_get curves c ≡ Some row)
+    × Contains row p × (p.time.0 ≤ time_of (timing s) k) × (p.area ≤ area_of s k)

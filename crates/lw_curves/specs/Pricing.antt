@@ -14,4 +14,5 @@ pub record ArePinSpots (spots : List Spot) (ds ps : List ℕ) (time : ℕ) (ks :
 abbrev pub IsBestOfPins : List Spot → List ℕ → List ℕ → ℕ → Option ℕ → Type 0
 IsBestOfPins spots ds ps time None = (ks : List Spot) → ArePinSpots spots ds ps time ks → ⊥
 IsBestOfPins spots ds ps time (Some area) =
-    ((ks : List Spot) × ArePinSpots spots ds ps time ks × (area ≡ min most_area (total (areas ks)))) × ((ks : List Spot) → ArePinSpots spots ds ps time ks → area ≤ total (areas ks))
+    ((ks : List Spot) × ArePinSpots spots ds ps time ks × (area ≡ min most_area (total (areas ks))))
+    × ((ks : List Spot) → ArePinSpots spots ds ps time ks → area ≤ total (areas ks))

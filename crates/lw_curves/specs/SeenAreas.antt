@@ -1,5 +1,6 @@
 -- What the groups of pins have seen: the least area of the points of their class that came.
-use Rattle.std.specs.Prelude.{ℕ, zero, suc, ◌+◌, ◌≤◌, ◌≡◌, ◌⊎◌, min, List, length, Option, Some, None, slice_get, slice_index_or}
+use Rattle.std.specs.Prelude.{ℕ, zero, suc, ◌+◌, ◌≤◌, ◌≡◌, ◌⊎◌, min, List, length, Option, Some, None, slice_get}
+use Rattle.std.specs.Prelude.{slice_index_or}
 use Rattle.lw_pool.specs.declared.id.ClassId.{ClassId}
 use Rattle.lw_choices.specs.declared.pin_groups.PinGroups.{PinGroups}
 use Rattle.lw_choices.specs.Areas.{most_area}
@@ -15,9 +16,11 @@ HasSeen seen g area =
 -- each group has seen the points of its class, but for those that it comes for
 abbrev pub AreSeen : PinGroups → List ℕ → List Spot → Queued → Type 0
 AreSeen u seen spots coming =
-    (k : Spot) (g delay : ℕ) → Has spots k → IsGroup u.links.classes u.delays.items k.class delay g → k.time + delay ≤ coming.horizon → HasSeen seen g k.area ⊎ Waits coming (k.time + delay) g
+    (k : Spot) (g delay : ℕ) → Has spots k → IsGroup u.links.classes u.delays.items k.class delay g
+    → k.time + delay ≤ coming.horizon → HasSeen seen g k.area ⊎ Waits coming (k.time + delay) g
 
--- the same, where a class has gained a point at a time for which no group comes yet
+-- Each group has seen the points of its class, but for those that it comes for, and for a point that a class has gained
+-- at a time for which no group comes yet.
 abbrev pub AreSeenAfter : PinGroups → List ℕ → List Spot → Queued → ℕ → Option ClassId → Type 0
 AreSeenAfter u seen spots coming time None = AreSeen u seen spots coming
 AreSeenAfter u seen spots coming time (Some class) =
@@ -27,7 +30,8 @@ AreSeenAfter u seen spots coming time (Some class) =
 pub record IsSeeing (u : PinGroups) (spots : List Spot) (old new : List ℕ) (group time : ℕ) : Type 0 where
   pub one_each : length new ≡ length old
   pub kept : (g area : ℕ) → HasSeen old g area → HasSeen new g area
-  pub here : (k : Spot) (delay : ℕ) → Has spots k → IsGroup u.links.classes u.delays.items k.class delay group → k.time + delay ≤ time → HasSeen new group k.area
+  pub here : (k : Spot) (delay : ℕ) → Has spots k → IsGroup u.links.classes u.delays.items k.class delay group
+      → k.time + delay ≤ time → HasSeen new group k.area
 
 -- a point of a pin's class that the pin's group has not seen, in time for the choice
 pub record HasUnseen (u : PinGroups) (seen : List ℕ) (spots : List Spot) (time n : ℕ) : Type 0 where

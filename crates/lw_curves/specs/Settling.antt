@@ -1,5 +1,6 @@
 -- What is kept while points are settled by rising time.
-use Rattle.std.specs.Prelude.{ℕ, ◌+◌, ◌*◌, ◌/◌, ◌%◌, ◌<◌, ◌≤◌, ◌≡◌, ◌⊎◌, min, List, [], length, map, Option, Some, None, Result, Ok, Err, slice_get}
+use Rattle.std.specs.Prelude.{ℕ, ◌+◌, ◌*◌, ◌/◌, ◌%◌, ◌<◌, ◌≤◌, ◌≡◌, ◌⊎◌, min, List, [], length, map, Option, Some, None}
+use Rattle.std.specs.Prelude.{Result, Ok, Err, slice_get}
 use Rattle.std.specs.List.{AllZip}
 use Rattle.lw_fixed.specs.declared.micro.Micro.{Micro}
 use Rattle.lw_pool.specs.declared.id.ClassId.{ClassId}
@@ -37,7 +38,8 @@ HasAtMost spots c time area =
 -- of two points of a class the later has less area
 abbrev pub AreApart : List Spot → Type 0
 AreApart spots =
-    (i j : ℕ) (k l : Spot) → i < j → slice_get spots i ≡ Some k → slice_get spots j ≡ Some l → k.class ≡ l.class → (k.time < l.time) × (l.area < k.area)
+    (i j : ℕ) (k l : Spot) → i < j → slice_get spots i ≡ Some k → slice_get spots j ≡ Some l → k.class ≡ l.class
+    → (k.time < l.time) × (l.area < k.area)
 
 abbrev pub times : List Spot → List ℕ
 times ks = map (λ (k : Spot). k.time) ks
@@ -53,7 +55,8 @@ abbrev pub Gives : Task → List Spot → Part → ℕ → ℕ → Type 0
 Gives s spots (input i) time area =
     (time ≡ start_of (timing s).starts i) × (area ≡ 0)
 Gives s spots (gate cell ps) time area =
-    (ks : List Spot) × AllZip (IsSpotOf spots) ps ks × (time ≡ latest (delays_of (timing s).delays cell) (times ks)) × (area ≡ min most_area (area_at s.cells cell + total (areas ks)))
+    (ks : List Spot) × AllZip (IsSpotOf spots) ps ks × (time ≡ latest (delays_of (timing s).delays cell) (times ks))
+    × (area ≡ min most_area (area_at s.cells cell + total (areas ks)))
 
 -- the least area that it gives by a time, and none where it gives none
 abbrev pub IsBest : Task → List Spot → Part → ℕ → Option ℕ → Type 0
@@ -76,14 +79,16 @@ abbrev pub joint_cost : Task → Cost
 joint_cost s = record {
   cap = 0;
   leaf = λ i. joint (start_of (timing s).starts i) 0;
-  value = λ cell ds. joint (latest (delays_of (timing s).delays cell) (map time_in ds)) (min most_area (area_at s.cells cell + total (map area_in ds)));
+  value = λ cell ds. joint (latest (delays_of (timing s).delays cell) (map time_in ds))
+      (min most_area (area_at s.cells cell + total (map area_in ds)));
   pin_counts = (area_cost s.cells).pin_counts;
 }
 
 -- some cover of the class arrives by the time and has this area
 abbrev pub IsReached : Task → Spot → Type 0
 IsReached s k =
-    (d : ℕ) × HasCost (choices_of s.graph (area_cost s.cells).pin_counts s.patterns) (joint_cost s) k.class d × (time_in d ≤ k.time) × (area_in d ≡ k.area)
+    (d : ℕ) × HasCost (choices_of s.graph (area_cost s.cells).pin_counts s.patterns) (joint_cost s) k.class d
+    × (time_in d ≤ k.time) × (area_in d ≡ k.area)
 
 -- a group of pins has one class and one delay
 pub record Turns : Type 0 where
@@ -103,17 +108,23 @@ turns groups owners count coming looked =
 -- the choice waits, or a group with a pin of it comes
 abbrev pub Comes : Turns → ℕ → ℕ → Type 0
 Comes w t n =
-    Waits w.looked t n ⊎ ((j g : ℕ) × (slice_get w.groups j ≡ Some g) × (slice_get w.owners j ≡ Some n) × Waits w.coming t g)
+    Waits w.looked t n
+    ⊎ ((j g : ℕ) × (slice_get w.groups j ≡ Some g) × (slice_get w.owners j ≡ Some n) × Waits w.coming t g)
 
--- All points are covers' and none is later than now. A use of a point from now on comes, and what a choice gives with points is
--- had or comes.
-pub record IsSettling (s : Task) (choices : List Choice) (now horizon : ℕ) (spots had : List Spot) (comes : ℕ → ℕ → Type 0) : Type 0 where
+-- All points are covers' and none is later than now. A use of a point from now on comes, and what a choice gives with
+-- points is had or comes.
+pub record IsSettling (s : Task) (choices : List Choice) (now horizon : ℕ) (spots had : List Spot)
+    (comes : ℕ → ℕ → Type 0) : Type 0 where
   pub reached : (k : Spot) → Has had k → IsReached s k
   pub low : (k : Spot) → Has had k → k.time ≤ now
-  pub pin_groups : (k : Spot) (n j : ℕ) (x : Choice) → Has spots k → slice_get choices n ≡ Some x → HasPinAt x.part j k.class → k.time + delay_at s x.part j ≤ horizon → (k.time + delay_at s x.part j ≤ now) ⊎ comes (k.time + delay_at s x.part j) n
-  pub given : (n t a : ℕ) (x : Choice) → slice_get choices n ≡ Some x → Gives s spots x.part t a → t ≤ horizon → HasAtMost had x.class t a ⊎ comes t n
+  pub pin_groups : (k : Spot) (n j : ℕ) (x : Choice) → Has spots k → slice_get choices n ≡ Some x
+      → HasPinAt x.part j k.class → k.time + delay_at s x.part j ≤ horizon
+      → (k.time + delay_at s x.part j ≤ now) ⊎ comes (k.time + delay_at s x.part j) n
+  pub given : (n t a : ℕ) (x : Choice) → slice_get choices n ≡ Some x → Gives s spots x.part t a → t ≤ horizon
+      → HasAtMost had x.class t a ⊎ comes t n
 
--- the same where nothing is between the points that are had and those that are used
+-- All points are covers' and none is later than now. A use of a point from now on comes, and what a choice gives with
+-- these points is one of them or comes.
 abbrev pub IsStill : Task → List Choice → ℕ → ℕ → List Spot → (ℕ → ℕ → Type 0) → Type 0
 IsStill s choices now horizon spots comes = IsSettling s choices now horizon spots spots comes
 
@@ -124,7 +135,8 @@ pub record IsGained (old new : List Spot) (k : Spot) : Type 0 where
   pub kept : (l : Spot) → Has old l → HasAtMost new l.class l.time l.area
 
 -- a point was added whose uses do not yet come
-pub record IsGaining (s : Task) (choices : List Choice) (now horizon class : ℕ) (new : List Spot) (comes : ℕ → ℕ → Type 0) : Type 0 where
+pub record IsGaining (s : Task) (choices : List Choice) (now horizon class : ℕ) (new : List Spot)
+    (comes : ℕ → ℕ → Type 0) : Type 0 where
   pub old : List Spot
   pub area : ℕ
   pub settling : IsSettling s choices now horizon old new comes
@@ -134,7 +146,8 @@ pub record IsGaining (s : Task) (choices : List Choice) (now horizon class : ℕ
 pub record AreGroupsAdded (classes delays : List ℕ) (class time : ℕ) (old new : Queued) : Type 0 where
   pub horizon : new.horizon ≡ old.horizon
   pub kept : (t g : ℕ) → Waits old t g → Waits new t g
-  pub added : (g d : ℕ) → slice_get delays g ≡ Some d → slice_get classes g ≡ Some class → time + d ≤ old.horizon → Waits new (time + d) g
+  pub added : (g d : ℕ) → slice_get delays g ≡ Some d → slice_get classes g ≡ Some class → time + d ≤ old.horizon
+      → Waits new (time + d) g
   pub only : (t g : ℕ) → Waits new t g → Waits old t g ⊎ ((time ≤ t) × (g < length delays))
 
 -- the choice gives no more at this time than what is had
@@ -142,30 +155,35 @@ abbrev pub GivesNoMore : Task → List Choice → List Spot → ℕ → ℕ → 
 GivesNoMore s choices spots time n =
     (x : Choice) (a : ℕ) → slice_get choices n ≡ Some x → Gives s spots x.part time a → HasAtMost spots x.class time a
 
--- the same, but for choices with a point that was not seen
+-- the choice gives no more at this time than what is had, or it has a point that was not seen
 abbrev pub GivesNoMoreSeen : Task → List Choice → List Spot → (ℕ → Type 0) → ℕ → ℕ → Type 0
 GivesNoMoreSeen s choices spots unseen time n =
-    (x : Choice) (a : ℕ) → slice_get choices n ≡ Some x → Gives s spots x.part time a → HasAtMost spots x.class time a ⊎ unseen n
+    (x : Choice) (a : ℕ) → slice_get choices n ≡ Some x → Gives s spots x.part time a
+    → HasAtMost spots x.class time a ⊎ unseen n
 
 -- a choice waits too, or it gives no more
-pub record IsLookedAt (s : Task) (choices : List Choice) (spots : List Spot) (unseen : ℕ → Type 0) (old new : Queued) (time n : ℕ) : Type 0 where
+pub record IsLookedAt (s : Task) (choices : List Choice) (spots : List Spot) (unseen : ℕ → Type 0) (old new : Queued)
+    (time n : ℕ) : Type 0 where
   pub horizon : new.horizon ≡ old.horizon
   pub kept : (t m : ℕ) → Waits old t m → Waits new t m
   pub only : (t m : ℕ) → Waits new t m → Waits old t m ⊎ ((t ≡ time) × (m < length choices))
   pub done : Waits new time n ⊎ GivesNoMoreSeen s choices spots unseen time n
 
 -- so does each choice with a pin in the group
-pub record IsGroupLookedAt (s : Task) (choices : List Choice) (spots : List Spot) (unseen : ℕ → Type 0) (groups owners : List ℕ) (old new : Queued) (time group : ℕ) : Type 0 where
+pub record IsGroupLookedAt (s : Task) (choices : List Choice) (spots : List Spot) (unseen : ℕ → Type 0)
+    (groups owners : List ℕ) (old new : Queued) (time group : ℕ) : Type 0 where
   pub horizon : new.horizon ≡ old.horizon
   pub kept : (t m : ℕ) → Waits old t m → Waits new t m
   pub only : (t m : ℕ) → Waits new t m → Waits old t m ⊎ ((t ≡ time) × (m < length choices))
-  pub done : (j n : ℕ) → slice_get groups j ≡ Some group → slice_get owners j ≡ Some n → Waits new time n ⊎ GivesNoMoreSeen s choices spots unseen time n
+  pub done : (j n : ℕ) → slice_get groups j ≡ Some group → slice_get owners j ≡ Some n
+      → Waits new time n ⊎ GivesNoMoreSeen s choices spots unseen time n
 
 -- Up to a time the points are settled: each choice gives no more than what is had.
 pub record AreSettled (s : Task) (now : ℕ) (choices : List Choice) (spots : List Spot) : Type 0 where
   pub reached : (k : Spot) → Has spots k → IsReached s k
   pub low : (k : Spot) → Has spots k → k.time ≤ now
-  pub given : (n t a : ℕ) (x : Choice) → slice_get choices n ≡ Some x → Gives s spots x.part t a → t ≤ now → HasAtMost spots x.class t a
+  pub given : (n t a : ℕ) (x : Choice) → slice_get choices n ≡ Some x → Gives s spots x.part t a → t ≤ now
+      → HasAtMost spots x.class t a
 
 -- none waits or comes before now, and all that do are there
 pub record AreInTime (now choices : ℕ) (w : Turns) : Type 0 where
@@ -176,7 +194,8 @@ pub record AreInTime (now choices : ℕ) (w : Turns) : Type 0 where
 -- the choices are those of the task, and all is kept
 abbrev pub IsStillFor : Task → List Choice → ℕ → List Spot → Turns → Type 0
 IsStillFor s choices now spots w =
-    AreListedChoices s choices × AreInTime now (length choices) w × IsStill s choices now w.coming.horizon spots (Comes w)
+    AreListedChoices s choices × AreInTime now (length choices) w
+    × IsStill s choices now w.coming.horizon spots (Comes w)
 
 -- none waits or comes up to now
 abbrev pub NoneComes : ℕ → Turns → Type 0
@@ -187,7 +206,8 @@ NoneComes now w =
 abbrev pub IsAfter : Task → List Choice → ℕ → List Spot → Turns → Option ClassId → Type 0
 IsAfter s choices now spots w None = IsStillFor s choices now spots w × NoneComes now w
 IsAfter s choices now spots w (Some class) =
-    AreListedChoices s choices × AreInTime now (length choices) w × IsGaining s choices now w.coming.horizon class.0 spots (Comes w)
+    AreListedChoices s choices × AreInTime now (length choices) w
+    × IsGaining s choices now w.coming.horizon class.0 spots (Comes w)
 
 -- a choice waits too, unless the time is past the horizon
 pub record IsLetWait (old new : Queued) (time n : ℕ) : Type 0 where
@@ -207,7 +227,8 @@ pub record IsStarted (starts : List Micro) (part : Part) (old new : Queued) (n :
 pub record AreFirst (s : Task) (choices : List Choice) (q : Queued) : Type 0 where
   pub are : AreListedChoices s choices
   pub low : (t n : ℕ) → Waits q t n → n < length choices
-  pub given : (n t a : ℕ) (x : Choice) → slice_get choices n ≡ Some x → Gives s [] x.part t a → t ≤ q.horizon → Waits q t n
+  pub given : (n t a : ℕ) (x : Choice) → slice_get choices n ≡ Some x → Gives s [] x.part t a → t ≤ q.horizon
+      → Waits q t n
 
 -- Up to some time the points are settled, and they are too many.
 pub record HaveTooMany (s : Task) (choices : List Choice) (horizon : ℕ) : Type 0 where

@@ -20,7 +20,8 @@ use Rattle.lw_curves.specs.Points.{most_points}
 use Rattle.lw_choices.specs.GroupChoices.{AreGroupChoices}
 use Rattle.lw_choices.specs.Rows.{IsRowFor, plain_part, plain_rows}
 use Rattle.lw_curves.specs.SeenAreas.{AreSeen, AreSeenAfter, HasUnseen}
-use Rattle.lw_curves.specs.Settling.{AreFirst, AreSettled, GivesNoMoreSeen, Has, IsAfter, IsGroupLookedAt, IsLookedAt, IsStillFor, IsStop, Spot, Turns}
+use Rattle.lw_curves.specs.Settling.{AreFirst, AreSettled, GivesNoMoreSeen, Has, IsAfter, IsGroupLookedAt, IsLookedAt}
+use Rattle.lw_curves.specs.Settling.{IsStillFor, IsStop, Spot, Turns}
 use Rattle.lw_queue.specs.Queues.{Queued, Waits}
 use Rattle.lw_curves.specs.Tallies.{AreTallied}
 use Rattle.lw_choices.specs.PinGroups.{AreGroups, AreUses}
@@ -42,7 +43,9 @@ task_of setup g pats = task g pats setup.lib.now setup.starts.now
 -- so it is for each graph, patterns and starts, where the groups are those of the choices' pins
 abbrev pub ForAnyTask : Setup → (Task → List Choice → Type 0) → Type 0
 ForAnyTask setup Then =
-    (g : Graph) (pats : List Pattern) (starts : List Micro) → AreUses setup.lib.now (choices_of_setup setup) setup.pin_groups.now → Then (task g pats setup.lib.now starts) (choices_of_setup setup)
+    (g : Graph) (pats : List Pattern) (starts : List Micro)
+    → AreUses setup.lib.now (choices_of_setup setup) setup.pin_groups.now
+    → Then (task g pats setup.lib.now starts) (choices_of_setup setup)
 
 -- a pin of the choice has a point in time that its group has not seen
 abbrev pub IsUnseenIn : View → ℕ → ℕ → Type 0
@@ -62,7 +65,10 @@ IsLookedAtIn at time n old new =
 -- so it is of each choice with a pin in the group
 abbrev pub IsGroupLookedAtIn : View → ℕ → ℕ → Queued → Queued → Type 0
 IsGroupLookedAtIn at time group old new =
-    ForAnyTask at.setup.now (λ s choices. IsGroupLookedAt s choices at.fronts.now.spots (IsUnseenIn at time) at.setup.now.pin_groups.now.members.classes at.setup.now.pin_groups.now.owners.items old new time group)
+    ForAnyTask at.setup.now
+    (λ s choices. IsGroupLookedAt s choices at.fronts.now.spots
+    (IsUnseenIn at time) at.setup.now.pin_groups.now.members.classes at.setup.now.pin_groups.now.owners.items old
+    new time group)
 
 -- an area for each group, and a tally for each choice
 abbrev pub AreTalliedIn : Setup → Seen → Type 0
@@ -79,7 +85,8 @@ IsStillSomewhere setup now spots w =
 -- so it is for each graph and patterns for which that held before
 abbrev pub WhereStill : Setup → ℕ → List Spot → Turns → (Task → List Choice → Type 0) → Type 0
 WhereStill setup now spots w Then =
-    (g : Graph) (pats : List Pattern) → IsStillFor (task_of setup g pats) (choices_of_setup setup) now spots w → Then (task_of setup g pats) (choices_of_setup setup)
+    (g : Graph) (pats : List Pattern) → IsStillFor (task_of setup g pats) (choices_of_setup setup) now spots w
+    → Then (task_of setup g pats) (choices_of_setup setup)
 
 -- the class that gained a point is one of those that have these least areas, and together these fell
 abbrev pub HaveFallen : List ℕ → List ℕ → Option ClassId → Type 0
@@ -88,7 +95,8 @@ HaveFallen old new gain = IfSome gain (λ class. (class.0 < length old) × (tota
 -- so it is for each graph and patterns whose choices these are
 abbrev pub WhereListed : List CellParts → List Micro → List ListedChoice → (Task → List Choice → Type 0) → Type 0
 WhereListed cells starts rows Then =
-    (g : Graph) (pats : List Pattern) → AreListedChoices (task g pats cells starts) (plain_rows rows) → Then (task g pats cells starts) (plain_rows rows)
+    (g : Graph) (pats : List Pattern) → AreListedChoices (task g pats cells starts) (plain_rows rows)
+    → Then (task g pats cells starts) (plain_rows rows)
 
 -- the choices stand at these classes, with cells of the library, each has its tally, and no point is later than now
 pub record IsReadyFor (j : Setup) (now : ℕ) (state : Seen) (fronts : FrontState) : Type 0 where
@@ -114,7 +122,8 @@ pub record MaySee (u : PinGroups) (state : Seen) (fronts : FrontState) (group : 
 -- the tallies of any choices with these groups are still theirs
 abbrev pub StayTallied : PinGroups → Seen → Seen → Type 0
 StayTallied u old new =
-    (cells : List CellParts) (xs : List Choice) → AreUses cells xs u → AreTallied cells xs u old → AreTallied cells xs u new
+    (cells : List CellParts) (xs : List Choice) → AreUses cells xs u → AreTallied cells xs u old
+    → AreTallied cells xs u new
 
 -- so it is while points are settled, at a time before which nothing waits or comes
 pub record IsUnderWay (j : Setup) (now : ℕ) (state : Seen) (fronts : FrontState) (coming looked : Queued) : Type 0 where
@@ -125,33 +134,41 @@ pub record IsUnderWay (j : Setup) (now : ℕ) (state : Seen) (fronts : FrontStat
   pub still : IsStillSomewhere j now fronts.spots (turns_in j coming looked)
 
 -- so much is kept in any case
-pub record IsKeptOf (j : Setup) (state : Seen) (fronts new_fronts : FrontState) (coming new_coming : Queued) : Type 0 where
+pub record IsKeptOf (j : Setup) (state : Seen) (fronts new_fronts : FrontState)
+    (coming new_coming : Queued) : Type 0 where
   pub horizon : new_coming.horizon ≡ coming.horizon
   pub count : length new_fronts.least ≡ length fronts.least
   pub tallied : AreTalliedIn j state
 
 -- no group comes any more by now, and all have seen what they came for
-pub record AreGroupsOver (j : Setup) (now : ℕ) (state : Seen) (spots : List Spot) (coming new_coming looked new_looked : Queued) : Type 0 where
+pub record AreGroupsOver (j : Setup) (now : ℕ) (state : Seen) (spots : List Spot)
+    (coming new_coming looked new_looked : Queued) : Type 0 where
   pub seen : AreSeen j.pin_groups.now state.areas.items spots new_coming
   pub over : (t g : ℕ) → Waits new_coming t g → now < t
-  pub still : WhereStill j now spots (turns_in j coming looked) (λ s choices. IsStillFor s choices now spots (turns_in j new_coming new_looked))
+  pub still : WhereStill j now spots (turns_in j coming looked)
+      (λ s choices. IsStillFor s choices now spots (turns_in j new_coming new_looked))
 
 -- the points still have choices that give them their areas
 abbrev pub StayBacked : Setup → ℕ → FrontState → FrontState → Queued → Queued → Type 0
 StayBacked setup now fronts new_fronts coming looked =
-    WhereStill setup now fronts.spots (turns_in setup coming looked) (λ s choices. AreBacked s choices fronts.held → AreBacked s choices new_fronts.held)
+    WhereStill setup now fronts.spots (turns_in setup coming looked)
+    (λ s choices. AreBacked s choices fronts.held → AreBacked s choices new_fronts.held)
 
 -- a class has gained a point at this time, or none has and none will
-pub record IsGainBy (j : Setup) (now : ℕ) (state : Seen) (fronts new_fronts : FrontState) (coming new_coming looked new_looked : Queued) (gain : Option ClassId) : Type 0 where
-  pub after : WhereStill j now fronts.spots (turns_in j coming looked) (λ s choices. IsAfter s choices now new_fronts.spots (turns_in j new_coming new_looked) gain)
+pub record IsGainBy (j : Setup) (now : ℕ) (state : Seen) (fronts new_fronts : FrontState)
+    (coming new_coming looked new_looked : Queued) (gain : Option ClassId) : Type 0 where
+  pub after : WhereStill j now fronts.spots (turns_in j coming looked)
+      (λ s choices. IsAfter s choices now new_fronts.spots (turns_in j new_coming new_looked) gain)
   pub seen : AreSeenAfter j.pin_groups.now state.areas.items new_fronts.spots new_coming now gain
   pub falls : HaveFallen fronts.least new_fronts.least gain
   pub backed : StayBacked j now fronts new_fronts coming looked
 
 -- the classes have all their points of this time
-pub record HaveGained (j : Setup) (now : ℕ) (state : Seen) (fronts new_fronts : FrontState) (coming new_coming looked new_looked : Queued) : Type 0 where
+pub record HaveGained (j : Setup) (now : ℕ) (state : Seen) (fronts new_fronts : FrontState)
+    (coming new_coming looked new_looked : Queued) : Type 0 where
   pub seen : AreSeen j.pin_groups.now state.areas.items new_fronts.spots new_coming
-  pub still : WhereStill j now fronts.spots (turns_in j coming looked) (λ s choices. IsAfter s choices now new_fronts.spots (turns_in j new_coming new_looked) None)
+  pub still : WhereStill j now fronts.spots (turns_in j coming looked)
+      (λ s choices. IsAfter s choices now new_fronts.spots (turns_in j new_coming new_looked) None)
   pub backed : StayBacked j now fronts new_fronts coming looked
 
 -- so have they of all times, and there are not too many, unless there were before
@@ -162,7 +179,9 @@ pub record HaveGainedAll (j : Setup) (fronts new_fronts : FrontState) (coming lo
 -- those choices wait up to this horizon that need no points of pins, whatever library they are of
 pub record IsBegun (starts : List Micro) (rows : List ListedChoice) (horizon : ℕ) (q : Queued) : Type 0 where
   pub horizon_is : q.horizon ≡ horizon
-  pub first : (g : Graph) (pats : List Pattern) (cells : List CellParts) → AreListedChoices (task g pats cells starts) (plain_rows rows) → AreFirst (task g pats cells starts) (plain_rows rows) q
+  pub first : (g : Graph) (pats : List Pattern) (cells : List CellParts)
+      → AreListedChoices (task g pats cells starts) (plain_rows rows)
+      → AreFirst (task g pats cells starts) (plain_rows rows) q
 
 -- the choices are those of some task, and those that need no points wait in a queue of this horizon
 pub record MayBegin (j : Setup) (horizon : ℕ) (looked : Queued) : Type 0 where
@@ -176,7 +195,8 @@ pub record HasNoPoints (fronts : FrontState) : Type 0 where
   pub held_none : fronts.held ≡ []
 
 -- the points of so many classes are settled up to the horizon, each with a choice, and they are not too many
-pub record HaveFronts (cells : List CellParts) (starts : List Micro) (rows : List ListedChoice) (classes horizon : ℕ) (fronts : FrontState) : Type 0 where
+pub record HaveFronts (cells : List CellParts) (starts : List Micro) (rows : List ListedChoice) (classes horizon : ℕ)
+    (fronts : FrontState) : Type 0 where
   pub count : classes ≡ length fronts.least
   pub few : length fronts.spots ≤ most_points
   pub settled : WhereListed cells starts rows (λ s choices. AreSettled s horizon choices fronts.spots)

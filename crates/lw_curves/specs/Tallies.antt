@@ -1,5 +1,6 @@
 -- What is known of each choice while points are found: no more than its area by what the groups of its pins have seen.
-use Rattle.std.specs.Prelude.{ℕ, ◌+◌, ◌-◌, ◌*◌, ◌^◌, ◌<◌, ◌≤◌, ◌≡◌, ◌≢◌, ◌⊎◌, min, List, length, Some, slice_get, slice_index_or}
+use Rattle.std.specs.Prelude.{ℕ, ◌+◌, ◌-◌, ◌*◌, ◌^◌, ◌<◌, ◌≤◌, ◌≡◌, ◌≢◌, ◌⊎◌, min, List, length, Some, slice_get}
+use Rattle.std.specs.Prelude.{slice_index_or}
 use Rattle.lw_genlib.specs.Cells.{CellParts}
 use Rattle.lw_curves.specs.declared.seen_areas.Seen.{Seen}
 use Rattle.lw_curves.specs.declared.tallies.Tally.{Tally}
@@ -39,26 +40,32 @@ pub record IsFirstTally (cells : List CellParts) (x : Choice) (t : Tally) : Type
 
 pub record AreFirstTallies (cells : List CellParts) (choices : List Choice) (tallies : List Tally) : Type 0 where
   pub one_each : length tallies ≡ length choices
-  pub each : (n : ℕ) (x : Choice) (t : Tally) → slice_get choices n ≡ Some x → slice_get tallies n ≡ Some t → IsFirstTally cells x t
+  pub each : (n : ℕ) (x : Choice) (t : Tally) → slice_get choices n ≡ Some x → slice_get tallies n ≡ Some t
+      → IsFirstTally cells x t
 
 -- the place of the first pin of a choice
 abbrev pub first_of : PinGroups → ℕ → ℕ
 first_of u n = slice_index_or u.firsts.items n 0
 
 -- no more than the area of the choice's cell and what the groups of its pins have seen together
-pub record IsTally (cells : List CellParts) (u : PinGroups) (seen : List ℕ) (n : ℕ) (x : Choice) (t : Tally) : Type 0 where
+pub record IsTally (cells : List CellParts) (u : PinGroups) (seen : List ℕ) (n : ℕ) (x : Choice)
+    (t : Tally) : Type 0 where
   pub class_is : t.class.0 ≡ x.class
   pub few : pin_count x.part ≤ 16
   pub low : bound_of t ≤ own_area cells x.part + sum_seen u.members.classes seen (first_of u n) (pin_count x.part)
 
-pub record AreTallies (cells : List CellParts) (choices : List Choice) (u : PinGroups) (seen : List ℕ) (tallies : List Tally) : Type 0 where
+pub record AreTallies (cells : List CellParts) (choices : List Choice) (u : PinGroups) (seen : List ℕ)
+    (tallies : List Tally) : Type 0 where
   pub one_each : length tallies ≡ length choices
-  pub each : (n : ℕ) (x : Choice) (t : Tally) → slice_get choices n ≡ Some x → slice_get tallies n ≡ Some t → IsTally cells u seen n x t
+  pub each : (n : ℕ) (x : Choice) (t : Tally) → slice_get choices n ≡ Some x → slice_get tallies n ≡ Some t
+      → IsTally cells u seen n x t
 
 -- the bound of a choice falls, if it has a tally
 pub record IsLowered (old new : List Tally) (number fall : ℕ) : Type 0 where
   pub one_each : length new ≡ length old
-  pub each : (n : ℕ) (t : Tally) → slice_get new n ≡ Some t → ((n ≡ number) × (o : Tally) × (slice_get old n ≡ Some o) × (t.class.0 ≡ o.class.0) × (bound_of t ≤ bound_of o - fall)) ⊎ ((n ≢ number) × (slice_get old n ≡ Some t))
+  pub each : (n : ℕ) (t : Tally) → slice_get new n ≡ Some t
+      → ((n ≡ number) × (o : Tally) × (slice_get old n ≡ Some o) × (t.class.0 ≡ o.class.0)
+      × (bound_of t ≤ bound_of o - fall)) ⊎ ((n ≢ number) × (slice_get old n ≡ Some t))
 
 -- what the group has seen falls by this much at most, and what others have does not
 pub record HasFallen (group fall : ℕ) (seen fallen : List ℕ) : Type 0 where

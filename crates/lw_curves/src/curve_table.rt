@@ -1,5 +1,6 @@
 // The points of each class as a curve.
-ghost use Rattle.std.specs.Prelude.{IfOk, IfSome, MatchOption, None, OnOk, Some, [], length, option_map, reverse, slice_get, slice_range, ℕ, ◌<◌, ◌≡◌, ◌≤◌};
+ghost use Rattle.std.specs.Prelude.{IfOk, IfSome, MatchOption, None, OnOk, Some, [], length};
+ghost use Rattle.std.specs.Prelude.{option_map, reverse, slice_get, slice_range, ℕ, ◌<◌, ◌≡◌, ◌≤◌};
 ghost use Rattle.lw_curves.specs.CurveTables.{IsStandAt, AreCurvesOf, IsTable};
 ghost use Rattle.lw_curves.specs.Lasts.{ArePointsRising, IsLastOf, IsRowAt};
 ghost use Rattle.lw_curves.specs.Points.{AreCurves, BoundCovers};

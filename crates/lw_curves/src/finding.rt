@@ -3,8 +3,10 @@ ghost use Rattle.std.specs.Prelude.{◌<◌, ◌≤◌, IfErr, IfOk, OnOk, lengt
 ghost use Rattle.lw_cost.specs.Least.{AreOfCells};
 ghost use Rattle.lw_choices.specs.Areas.{area_cost};
 ghost use Rattle.lw_curves.specs.CurveTables.{HaveWays};
-ghost use Rattle.lw_curves.specs.Setups.{AreListedSomewhere, HasNoPoints, HaveFronts, HaveFrontsIn, HaveFrontsOf, IsSetup, IsStopFor, IsStopOf, MayBegin};
-ghost use Rattle.lw_curves.specs.Points.{AreCurves, BoundCovers, IsWhy, most_points, point_count, time_limit};
+ghost use Rattle.lw_curves.specs.Setups.{AreListedSomewhere, HasNoPoints, HaveFronts, HaveFrontsIn};
+ghost use Rattle.lw_curves.specs.Setups.{HaveFrontsOf, IsSetup, IsStopFor, IsStopOf, MayBegin};
+ghost use Rattle.lw_curves.specs.Points.{AreCurves, BoundCovers, IsWhy, most_points, point_count};
+ghost use Rattle.lw_curves.specs.Points.{time_limit};
 ghost use Rattle.lw_choices.specs.Tasks.{task};
 ghost use Rattle.lw_choices.specs.Rows.{AreRowsFor};
 

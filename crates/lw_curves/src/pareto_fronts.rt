@@ -1,7 +1,9 @@
 // The points that were found so far: of each class the best ones by time and area.
 ghost use Rattle.std.specs.Prelude.{◌≡◌, ◌<◌, ◌≤◌, IfOk, IfSome, OnOk, OnErr, Some, length, map};
 ghost use Rattle.lw_curves.specs.Backing.{spot_in};
-ghost use Rattle.lw_curves.specs.Fronts.{AreFoundAt, ArePointsSame, CountsSpots, HasNoSpots, IsLeastSpot, IsLessOr, IsPlaceFor, IsPutTo, IsTried, MayJump, MayPut, MayTry, held_of, spots_of};
+ghost use Rattle.lw_curves.specs.Fronts.{AreFoundAt, ArePointsSame, CountsSpots, HasNoSpots};
+ghost use Rattle.lw_curves.specs.Fronts.{IsLeastSpot, IsLessOr, IsPlaceFor, IsPutTo, IsTried};
+ghost use Rattle.lw_curves.specs.Fronts.{MayJump, MayPut, MayTry, held_of, spots_of};
 ghost use Rattle.lw_curves.specs.CurveTables.{IsRowPushed};
 ghost use Rattle.lw_curves.specs.Settling.{Spot, spot, Has};
 

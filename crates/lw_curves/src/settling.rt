@@ -1,6 +1,7 @@
 // The points of classes, found by rising time.
 ghost use Rattle.std.specs.Prelude.{◌≡◌, ◌+◌, ◌<◌, ◌≤◌, ℕ, IfOk, MatchResult, OnOk, length};
-ghost use Rattle.lw_curves.specs.Setups.{HaveGained, HaveGainedAll, IsGainBy, IsKeptOf, IsUnderWay, WhereStill, turns_in};
+ghost use Rattle.lw_curves.specs.Setups.{HaveGained, HaveGainedAll, IsGainBy, IsKeptOf, IsUnderWay};
+ghost use Rattle.lw_curves.specs.Setups.{WhereStill, turns_in};
 ghost use Rattle.lw_queue.specs.Queues.{IsFirstOf, Waits};
 ghost use Rattle.lw_curves.specs.Settling.{AreGroupsAdded, AreSettledOr, IsLetWait};
 ghost use Rattle.lw_choices.specs.PinGroups.{AreGroups};
@@ -48,7 +49,8 @@ pub(crate) fn settle_at(
 ) -> Result<(), AllocError>
     requires { IsUnderWay setup.now time seen.old fronts.old coming.old queue.old }
     ensures kept { IsKeptOf setup.now seen.new fronts.old fronts.new coming.old coming.new }
-    ensures gained { OnOk result (HaveGained setup.now time seen.new fronts.old fronts.new coming.old
+    ensures gained { OnOk result
+        (HaveGained setup.now time seen.new fronts.old fronts.new coming.old
         coming.new queue.old queue.new) }
 {
     while let Some(class) = gain_at(setup, seen, fronts, coming, queue, time)? {
@@ -125,7 +127,8 @@ fn push_groups(
     requires are { AreGroups pin_groups.now }
     requires time { gain.time ≤ to.old.horizon }
     ensures horizon { to.new.horizon ≡ to.old.horizon }
-    ensures added { OnOk result (AreGroupsAdded pin_groups.now.links.classes pin_groups.now.delays.items
+    ensures added { OnOk result
+        (AreGroupsAdded pin_groups.now.links.classes pin_groups.now.delays.items
         class.0 gain.time to.old to.new) }
 {
     let _ = pin_groups.links.len();

@@ -5,7 +5,8 @@ ghost use Rattle.lw_genlib.specs.Cells.{CellParts};
 ghost use Rattle.lw_choices.specs.Choices.{Choice, IsOfLibrary};
 ghost use Rattle.lw_choices.specs.GroupChoices.{AreGroupChoices};
 ghost use Rattle.lw_choices.specs.Rows.{plain_part, plain_row, plain_rows};
-ghost use Rattle.lw_curves.specs.Tallies.{AreFirstTallies, AreTallies, HasFallen, IsBoundOf, IsFirstTally, IsLowered, bound_of};
+ghost use Rattle.lw_curves.specs.Tallies.{AreFirstTallies, AreTallies, HasFallen, IsBoundOf};
+ghost use Rattle.lw_curves.specs.Tallies.{IsFirstTally, IsLowered, bound_of};
 ghost use Rattle.lw_choices.specs.PinGroups.{AreUses};
 
 use lw_choices::{ListedChoice, MOST_AREA, PinGroups, Stand};

@@ -1,6 +1,8 @@
 // The groups that come at a time, and which of their choices wait from then on to be priced.
 ghost use Rattle.std.specs.Prelude.{◌≡◌, ◌<◌, ◌≤◌, IsFalse, IsTrue, OnOk, length};
-ghost use Rattle.lw_curves.specs.Setups.{AreGroupsOver, AreTalliedIn, GivesNoMoreIn, IsGroupLookedAtIn, IsLookedAtIn, IsReadyAt, IsReadyFor, IsUnderWay};
+ghost use Rattle.lw_curves.specs.Setups.{AreGroupsOver, AreTalliedIn, GivesNoMoreIn};
+ghost use Rattle.lw_curves.specs.Setups.{IsGroupLookedAtIn, IsLookedAtIn, IsReadyAt, IsReadyFor};
+ghost use Rattle.lw_curves.specs.Setups.{IsUnderWay};
 
 use crate::pareto_fronts::Fronts;
 use crate::seen_areas::{Seen, see};

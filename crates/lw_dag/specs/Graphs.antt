@@ -1,5 +1,6 @@
 -- Graphs of numbered nodes: the inputs are the first signals, and each node drives the next one.
-use Rattle.std.specs.Prelude.{ℕ, ◌+◌, ◌-◌, ◌^◌, ◌<◌, ◌≤◌, ◌≡◌, max, List, [], ◌∷◌, length, take, slice_index_or, Contains, All}
+use Rattle.std.specs.Prelude.{ℕ, ◌+◌, ◌-◌, ◌^◌, ◌<◌, ◌≤◌, ◌≡◌, max, List, [], ◌∷◌, length, take, slice_index_or}
+use Rattle.std.specs.Prelude.{Contains, All}
 
 -- how many signals there are at most, so that their numbers and heights fit in 32 bits
 abbrev pub most_signals : ℕ
@@ -21,7 +22,8 @@ pub record IsSmallGraph (inputs : ℕ) (nodes : List (List ℕ)) : Type 0 where
 -- From node j the signal is reached through fan-ins.
 pub data Leads (inputs : ℕ) (graph : List (List ℕ)) : ℕ → ℕ → Type 0 where
   one_step : {j s : ℕ} → Contains (fanins_at graph j) s → Leads inputs graph j s
-  then_path : {j s : ℕ} (k : ℕ) → Contains (fanins_at graph j) (inputs + k) → Leads inputs graph k s → Leads inputs graph j s
+  then_path : {j s : ℕ} (k : ℕ) → Contains (fanins_at graph j) (inputs + k) → Leads inputs graph k s
+      → Leads inputs graph j s
 
 -- the first node that leads to itself
 pub record IsFirst (inputs : ℕ) (graph : List (List ℕ)) (p : ℕ) : Type 0 where
@@ -53,7 +55,8 @@ pub record IsStuck (heights fanins : List ℕ) : Type 0 where
 pub record AreKnown (inputs : ℕ) (graph : List (List ℕ)) (heights : List ℕ) : Type 0 where
   pub one_each : length heights ≡ inputs + length graph
   pub given_ones : (s : ℕ) → s < inputs → height_at heights s ≡ 1
-  pub placed : (j : ℕ) → j < length graph → 0 < height_at heights (inputs + j) → IsPlaced heights (fanins_at graph j) (height_at heights (inputs + j))
+  pub placed : (j : ℕ) → j < length graph → 0 < height_at heights (inputs + j)
+      → IsPlaced heights (fanins_at graph j) (height_at heights (inputs + j))
 
 -- And where a node has none, neither has one of its fan-ins.
 pub record AreHeights (inputs : ℕ) (graph : List (List ℕ)) (heights : List ℕ) : Type 0 where
@@ -65,5 +68,6 @@ pub record IsOrdered (inputs : ℕ) (graph : List (List ℕ)) (heights order : L
   pub each : (j : ℕ) → j < length graph → 0 < height_at heights (inputs + j) → Contains order j
   pub known : All (λ j. 0 < height_at heights (inputs + j)) order
   pub nodes : All (λ j. j < length graph) order
-  pub behind : (k i : ℕ) → k < length order → Contains (fanins_at graph (slice_index_or order k 0)) (inputs + i) → Contains (take k order) i
+  pub behind : (k i : ℕ) → k < length order → Contains (fanins_at graph (slice_index_or order k 0)) (inputs + i)
+      → Contains (take k order) i
   pub once : (k : ℕ) → k < length order → Contains (take k order) (slice_index_or order k 0) → ⊥

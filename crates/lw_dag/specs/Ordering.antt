@@ -1,5 +1,6 @@
 -- Lists in the order of numbers that belong to their entries.
-use Rattle.std.specs.Prelude.{ℕ, ◌<◌, ◌≡◌, ◌==◌, max, List, [], ◌∷◌, map, filter, length, slice_index_or, Result, OnOk, OnErr}
+use Rattle.std.specs.Prelude.{ℕ, ◌<◌, ◌≡◌, ◌==◌, max, List, [], ◌∷◌, map, filter, length, slice_index_or, Result, OnOk}
+use Rattle.std.specs.Prelude.{OnErr}
 use Rattle.std.specs.List.Sorted.{IsPermutation}
 use Rattle.std.specs.List.{flat_map, range_with_len}
 use Rattle.lw_facts.specs.Sorting.{AreSortedFrom}

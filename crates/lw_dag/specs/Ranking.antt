@@ -36,17 +36,19 @@ pub record AreRanks (inputs : ℕ) (graph : List (List ℕ)) (ranks : List ℕ) 
   pub one_each : length ranks ≡ length graph
   pub falls : (x y : ℕ) → 0 < rank_at ranks x → Contains (fanins_at graph x) (inputs + y) → IsNotAbove ranks x y
 
--- While a rank is given to all that a node leads to and that has none: the fan-ins of a node have ranks, unless the node is still to be
--- looked at, or has that rank while the fan-in is still to be looked at.
+-- While a rank is given to all that a node leads to and that has none: the fan-ins of a node have ranks, unless the
+-- node is still to be looked at, or has that rank while the fan-in is still to be looked at.
 pub record IsRanking (inputs : ℕ) (graph : List (List ℕ)) (rank : ℕ) (ranks ready later : List ℕ) : Type 0 where
   pub one_each : length ranks ≡ length graph
   pub low : (x : ℕ) → rank_at ranks x ≤ rank
   pub nodes : (x : ℕ) → Contains ready x → (x < length graph) × (rank_at ranks x ≡ rank)
-  pub falls : (x y : ℕ) → 0 < rank_at ranks x → Contains (fanins_at graph x) (inputs + y) → IsNotAbove ranks x y ⊎ Contains ready x ⊎ ((rank_at ranks x ≡ rank) × Contains later (inputs + y))
+  pub falls : (x y : ℕ) → 0 < rank_at ranks x → Contains (fanins_at graph x) (inputs + y)
+      → IsNotAbove ranks x y ⊎ Contains ready x ⊎ ((rank_at ranks x ≡ rank) × Contains later (inputs + y))
 
 -- Signals were ranked: they need not be looked at any more, and there is no more to do than before.
 pub record AreRanked (inputs rank : ℕ) (later still : List ℕ) (old new : Ranking) : Type 0 where
-  pub ranking : (graph : List (List ℕ)) → IsRanking inputs graph rank old.ranks.items old.ready.items later → IsRanking inputs graph rank new.ranks.items new.ready.items still
+  pub ranking : (graph : List (List ℕ)) → IsRanking inputs graph rank old.ranks.items old.ready.items later
+      → IsRanking inputs graph rank new.ranks.items new.ready.items still
   pub less : 2 * unknown new.ranks.items + vec_len new.ready ≤ 2 * unknown old.ranks.items + vec_len old.ready
   pub len : vec_len new.ranks ≡ vec_len old.ranks
 

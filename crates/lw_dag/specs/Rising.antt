@@ -1,5 +1,6 @@
 -- While heights are being found.
-use Rattle.std.specs.Prelude.{ℕ, ◌+◌, ◌*◌, ◌<◌, ◌≤◌, ◌≡◌, ◌⊎◌, ◌++◌, ◌==◌, count_by, List, [], ◌∷◌, length, replicate, slice_index_or, slice_set, vec_len, Contains, All}
+use Rattle.std.specs.Prelude.{ℕ, ◌+◌, ◌*◌, ◌<◌, ◌≤◌, ◌≡◌, ◌⊎◌, ◌++◌, ◌==◌, count_by, List, [], ◌∷◌, length, replicate}
+use Rattle.std.specs.Prelude.{slice_index_or, slice_set, vec_len, Contains, All}
 use Rattle.lw_dag.specs.declared.levels.Levels.{Levels}
 use Rattle.lw_dag.specs.declared.levels.Search.{Search}
 use Rattle.lw_dag.specs.declared.graph.SmallGraph.{SmallGraph}
@@ -19,12 +20,14 @@ pub record IsHeld (waiting : List (List ℕ)) (fanins : List ℕ) (j : ℕ) : Ty
   pub among : Contains fanins signal
   pub there : Contains (waiting_at waiting signal) j
 
--- Each node that has no height waits for a fan-in, or is still to be looked at, and a signal that nodes wait for has no height, or is
--- still to be told to them.
-pub record IsRising (inputs : ℕ) (graph : List (List ℕ)) (heights : List ℕ) (waiting : List (List ℕ)) (ready later : List ℕ) : Type 0 where
+-- Each node that has no height waits for a fan-in, or is still to be looked at, and a signal that nodes wait for has no
+-- height, or is still to be told to them.
+pub record IsRising (inputs : ℕ) (graph : List (List ℕ)) (heights : List ℕ) (waiting : List (List ℕ))
+    (ready later : List ℕ) : Type 0 where
   pub known : AreKnown inputs graph heights
   pub lists : length waiting ≡ inputs + length graph
-  pub waits : (j : ℕ) → j < length graph → height_at heights (inputs + j) ≡ 0 → IsHeld waiting (fanins_at graph j) j ⊎ Contains later j
+  pub waits : (j : ℕ) → j < length graph → height_at heights (inputs + j) ≡ 0
+      → IsHeld waiting (fanins_at graph j) j ⊎ Contains later j
   pub served : (s : ℕ) → 0 < height_at heights s → Contains ready s ⊎ (waiting_at waiting s ≡ [])
   pub few : unknown heights ≤ length graph
   pub low : (s : ℕ) → height_at heights s + unknown heights ≤ 1 + length graph
@@ -36,7 +39,7 @@ pub record IsLevelling (inputs : ℕ) (graph : List (List ℕ)) (levels : Search
   pub rising : IsRising inputs graph levels.heights.items levels.waiting.items levels.ready.items later
   pub ordered : IsOrdered inputs graph levels.heights.items levels.order.items
 
--- the same of the search in a graph
+-- the search in a graph, while some nodes are still to be looked at
 abbrev pub IsLevellingIn : SmallGraph → Search → List ℕ → Type 0
 IsLevellingIn graph levels later = IsLevelling graph.inputs graph.nodes.now levels later
 
@@ -55,7 +58,8 @@ pub record IsUntouched (inputs nodes : ℕ) (levels : Search) : Type 0 where
 pub record WaitsFor (signal node : ℕ) (old new : Search) : Type 0 where
   pub heights : new.heights ≡ old.heights
   pub order : new.order ≡ old.order
-  pub waiting : new.waiting.items ≡ slice_set old.waiting.items signal (waiting_at old.waiting.items signal ++ node ∷ [])
+  pub waiting : new.waiting.items ≡ slice_set old.waiting.items signal
+      (waiting_at old.waiting.items signal ++ node ∷ [])
   pub ready : new.ready ≡ old.ready
 
 -- the signal has this height, the node is last in the order, and the signal is one of which others are to be told

@@ -1,9 +1,13 @@
 // The first node that leads to itself.
-ghost use Rattle.std.specs.Prelude.{◌≡◌, ◌+◌, ◌<◌, ◌≤◌, ◌↔◌, ℕ, List, [], ◌∷◌, false, length, vec_len, IsTrue, IfOk, IfSome, IfNone, OnOk, MatchOption, Contains, All};
-ghost use Rattle.lw_dag.specs.Graphs.{most_signals, IsGraph, height_at, AreHeights, IsStuck, IsFirst};
+ghost use Rattle.std.specs.Prelude.{◌≡◌, ◌+◌, ◌<◌, ◌≤◌, ◌↔◌, ℕ, List, [], ◌∷◌, false, length};
+ghost use Rattle.std.specs.Prelude.{vec_len, IsTrue, IfOk, IfSome, IfNone, OnOk, MatchOption};
+ghost use Rattle.std.specs.Prelude.{Contains, All};
+ghost use Rattle.lw_dag.specs.Graphs.{most_signals, IsGraph, height_at, AreHeights, IsStuck};
+ghost use Rattle.lw_dag.specs.Graphs.{IsFirst};
 ghost use Rattle.lw_dag.specs.Searching.{AreLookedAt};
 ghost use Rattle.lw_dag.specs.Ranking.{AreRanks};
-ghost use Rattle.lw_dag.specs.SmallGraphs.{AreHeightsOf, LacksHeight, LeadsToItself, IsOnCycle, AreAllHigh, IsLowAt};
+ghost use Rattle.lw_dag.specs.SmallGraphs.{AreHeightsOf, LacksHeight, LeadsToItself, IsOnCycle};
+ghost use Rattle.lw_dag.specs.SmallGraphs.{AreAllHigh, IsLowAt};
 
 use crate::graph::SmallGraph;
 use crate::levels::open_fanin;

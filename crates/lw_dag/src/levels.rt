@@ -1,7 +1,10 @@
 // Heights of signals, which are 1 more than their depths, and the nodes behind their fan-ins.
-ghost use Rattle.std.specs.Prelude.{◌≡◌, ◌+◌, ◌<◌, ◌≤◌, ◌++◌, [], length, drop, replicate, vec_len, IfOk, IfSome, IfNone, OnOk, IsTrue, false, Contains, All};
-ghost use Rattle.lw_dag.specs.Graphs.{most_signals, IsGraph, height_at, tallest, AreHeights, IsOrdered};
-ghost use Rattle.lw_dag.specs.Rising.{left_in, IsLevellingIn, IsUntouched, WaitsFor, IsRaised, HasSettled, AreNumbered, AreLevels};
+ghost use Rattle.std.specs.Prelude.{◌≡◌, ◌+◌, ◌<◌, ◌≤◌, ◌++◌, [], length, drop, replicate, vec_len};
+ghost use Rattle.std.specs.Prelude.{IfOk, IfSome, IfNone, OnOk, IsTrue, false, Contains, All};
+ghost use Rattle.lw_dag.specs.Graphs.{most_signals, IsGraph, height_at, tallest, AreHeights};
+ghost use Rattle.lw_dag.specs.Graphs.{IsOrdered};
+ghost use Rattle.lw_dag.specs.Rising.{left_in, IsLevellingIn, IsUntouched, WaitsFor, IsRaised};
+ghost use Rattle.lw_dag.specs.Rising.{HasSettled, AreNumbered, AreLevels};
 
 use crate::graph::SmallGraph;
 use crate::turning::empty_rows;

@@ -1,5 +1,6 @@
 // Ranks of nodes, by which most nodes that are on no cycle are told without a search.
-ghost use Rattle.std.specs.Prelude.{◌≡◌, ◌+◌, ◌-◌, ◌<◌, ℕ, List, [], ◌∷◌, length, vec_len, IsTrue, IfOk, OnOk, Contains, All};
+ghost use Rattle.std.specs.Prelude.{◌≡◌, ◌+◌, ◌-◌, ◌<◌, ℕ, List, [], ◌∷◌, length, vec_len, IsTrue};
+ghost use Rattle.std.specs.Prelude.{IfOk, OnOk, Contains, All};
 ghost use Rattle.lw_dag.specs.Ranking.{rank_at, AreRanked, AreRanks, AreRanksTo};
 
 use crate::graph::SmallGraph;

@@ -1,25 +1,16 @@
 -- Names that differ, and their places.
-use Rattle.std.proofs.Common.{ℕ, zero, suc, ◌||◌, ◌+◌, ◌-◌, ◌<◌, ◌≤◌, ◌≡◌, Bool, true, false, cond, List, [], ◌∷◌, ◌++◌, Option, Some, None, length, map, take, drop, min, get_or, slice_get, refl, ap, ap₂, sym, subst, ◌∙◌, arith}
+use Rattle.std.proofs.Common.{ℕ, ◌+◌, ◌-◌, ◌<◌, ◌≤◌, ◌≡◌, true, false, cond, List, [], ◌∷◌, ◌++◌, Option, Some, None, length, map, take, drop, min, get_or, slice_get, ap, ap₂, sym, subst, ◌∙◌, arith}
 use Rattle.std.specs.List.{Any, IsDistinct, list_any, position, position_or_len, slice_range}
 use Rattle.std.specs.Option.{option_map}
 use Rattle.std.specs.Prelude.{unwrap_or}
 use Rattle.std.specs.Str.{bytes_eq}
-use Rattle.std.proofs.lemmas.Bool.{false≢true}
+use Rattle.std.proofs.lemmas.Bool.{false≢true, false_from_ne_true}
 use Rattle.std.proofs.lemmas.List.{get_or-drop, get_or-take, length-drop, length-map, length-take, take_more}
 use Rattle.std.proofs.lemmas.List.Folds.{Any-from_list_any, list_any_at}
 use Rattle.std.proofs.lemmas.List.Quantifiers.{position-Some}
 use Rattle.std.proofs.lemmas.Option.{get_or_from_slice_get, same_Some, slice_get-get_or, slice_get-map, slice_get_within}
-use Rattle.lw_facts.proofs.Lists.{bytes_differ_turned, bytes_eq_is, differs_at, first_place, position_or_length}
+use Rattle.lw_facts.proofs.Lists.{bytes_eq_is, first_place, position_or_length, none_before}
 use Rattle.indexmap.specs.IndexSet.{insert_key}
-
--- a name is none of those before it
-none_before : (names : List (List ℕ)) (i : ℕ) (d : List ℕ) → IsDistinct bytes_eq names → i < length names → list_any (bytes_eq (get_or names i d)) (take i names) ≡ false
-unfolding IsDistinct
-none_before [] i d distinct below = absurd (omega arith)
-none_before (x ∷ xs) zero d distinct below = refl
-none_before (x ∷ xs) (suc i) d distinct below =
-    let inside : i < length xs = omega arith in
-    ap₂ (λ a b. a || b) (bytes_differ_turned x (get_or xs i d) (differs_at x xs i d distinct.0 inside)) (none_before xs i d distinct.1 inside)
 
 -- one more name
 pub keys_more : (names old new : List (List ℕ)) (i : ℕ) (key : List ℕ) → IsDistinct bytes_eq names → i < length names → key ≡ get_or names i key → old ≡ take i names → new ≡ insert_key bytes_eq old key → new ≡ take (i + 1) names
@@ -82,20 +73,16 @@ stands_at names from to name some = by (Any-from_list_any (bytes_eq name) (slice
         sym (in_part names from to (from + j) x (omega arith) (omega (arith, long, lt))) ∙ (ap (λ n. get_or (slice_range names from to) n x) back ∙ here) in
         (from + j, omega arith, omega (arith, long, lt), slice_get-get_or names (from + j) x inside ∙ ap Some (part ∙ sym (bytes_eq_is name x same)))
 
-false_unless : (b : Bool) → (b ≡ true → ⊥) → b ≡ false
-false_unless true never = absurd (never refl)
-false_unless false never = refl
-
 pub is_outside : (names : List (List ℕ)) (from to k : ℕ) (name : List ℕ) → IsDistinct bytes_eq names → position (bytes_eq name) names ≡ Some k → (from ≤ k → k < to → ⊥) → list_any (bytes_eq name) (slice_range names from to) ≡ false
 is_outside names from to k name distinct is out =
-    false_unless (list_any (bytes_eq name) (slice_range names from to)) (λ some. by (stands_at names from to name some))
+    false_from_ne_true (list_any (bytes_eq name) (slice_range names from to)) (λ some. by (stands_at names from to name some))
   where
     by : ((m : ℕ) × (from ≤ m) × (m < to) × (slice_get names m ≡ Some name)) → ⊥
     by (m, low, high, at) = let same = place_only names k m name distinct is at in out (omega arith) (omega arith)
 
 pub is_nowhere : (names : List (List ℕ)) (from to : ℕ) (name : List ℕ) → IsDistinct bytes_eq names → position (bytes_eq name) names ≡ None → list_any (bytes_eq name) (slice_range names from to) ≡ false
 is_nowhere names from to name distinct is =
-    false_unless (list_any (bytes_eq name) (slice_range names from to)) (λ some. by (stands_at names from to name some))
+    false_from_ne_true (list_any (bytes_eq name) (slice_range names from to)) (λ some. by (stands_at names from to name some))
   where
     by : ((m : ℕ) × (from ≤ m) × (m < to) × (slice_get names m ≡ Some name)) → ⊥
     by (m, low, high, at) = place_nowhere names m name distinct is at

@@ -3,6 +3,7 @@ use Rattle.std.proofs.Common.{ℕ, ◌+◌, ◌<◌, ◌≤◌, ◌≡◌, List,
 use Rattle.std.specs.Prelude.{◌==◌}
 use Rattle.std.proofs.lemmas.List.{length-map, map_more, take_all, take_more}
 use Rattle.std.proofs.lemmas.List.Elements.{All-map, All-push, Contains-append_left, Contains-push, Contains-push_cases}
+use Rattle.lw_net.proofs.Nets.{same_net}
 use Rattle.lw_facts.proofs.Lists.{contains_map}
 use Rattle.lw_frame.specs.Frames.{output_of}
 use Rattle.lw_pool.specs.declared.id.NetId.{NetId}
@@ -36,12 +37,6 @@ no_left one other kind name pairs none k m at at' = absurd (none k.0 at)
 pub no_right : (one other : Side) (kind : Kind) (name : List ℕ) (pairs : List Pair) → HasNoNet kind other name → Covers one other kind name pairs
 no_right one other kind name pairs none k m at at' = absurd (none m.0 at')
 
-abbrev net_of : ℕ → NetId
-net_of n = record { 0 = n }
-
-net_is : (a b : NetId) → a.0 ≡ b.0 → a ≡ b
-net_is a b e = ap net_of e
-
 module _ (one other : Side) (kind : Kind) (name : List ℕ) (old : List Pair) (left right : NetId) (first : IsOnlyNet kind one name left.0) (second : IsOnlyNet kind other name right.0) where
   abbrev it : Pair
   it = record { point = record { kind = kind; name = name }; left = left; right = right }
@@ -52,7 +47,7 @@ module _ (one other : Side) (kind : Kind) (name : List ℕ) (old : List Pair) (l
   pub covered : Covers one other kind name (old ++ it ∷ [])
   covered k m at at' =
       let P : NetId → NetId → Type 0 = λ a b. Contains (old ++ it ∷ []) (record { point = record { kind = kind; name = name }; left = a; right = b }) in
-      subst (λ a. P a m) (sym (net_is k left (first.only k.0 at))) (subst (λ b. P left b) (sym (net_is m right (second.only m.0 at'))) (Contains-push old it))
+      subst (λ a. P a m) (sym (same_net k left (first.only k.0 at))) (subst (λ b. P left b) (sym (same_net m right (second.only m.0 at'))) (Contains-push old it))
 
 -- the names that were gone through are covered
 pub more_covered : (one other : Side) (kind : Kind) (names : List (List ℕ)) (i : ℕ) (name : List ℕ) (old new : List Pair) → i < length names → name ≡ get_or names i name → Grows one other old new

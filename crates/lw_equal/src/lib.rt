@@ -9,9 +9,10 @@
 //! that tells the sides apart is looked at in both as they were read before it is believed.
 //!
 //! Modules, in order: the sides and their ports (`side`), where they are compared (`point`), what
-//! is answered (`answer`), names as sets (`known`), ports that only one side has (`ports`), pairs of
-//! nets (`pairing`), literals of cells (`cells`) and of sides (`placing`), looks at assignments
-//! (`looking`), decisions (`deciding`), and the whole (`comparing`). `lwequal` calls `compare`.
+//! is answered (`answer`), names as sets (`known`), ports that only one side has (`ports`), pairs
+//! of nets (`pairing`), literals of cells (`cells`) and of sides (`placing`), looks at assignments
+//! (`looking`), decisions (`deciding`), and the whole (`comparing`). The one definition to read is
+//! `IsAnswer` in `specs/Answers.antt`. `lw_equal_top` calls `compare`.
 #![tactic(auto)]
 
 mod answer;

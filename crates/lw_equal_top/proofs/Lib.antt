@@ -1,4 +1,3 @@
-pub mod Numerals
 pub mod Files
 pub mod Sided
 pub mod Values

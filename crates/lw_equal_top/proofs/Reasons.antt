@@ -1,5 +1,5 @@
 -- Why a comparison is refused, and what it comes to.
-use Rattle.std.proofs.Common.{inl, inr, ℕ, ◌≡◌, ◌≤◌, ◌<◌, ◌+◌, ◌∙◌, Bool, List, [], ◌∷◌, ◌++◌, length, map, take, get_or, slice_get, option_map, Option, Some, None, Result, Ok, Err, refl, ap, sym, subst, arith}
+use Rattle.std.proofs.Common.{inl, inr, ℕ, ◌≡◌, ◌≤◌, ◌<◌, ◌+◌, ◌∙◌, Bool, List, [], ◌∷◌, ◌++◌, length, map, take, get_or, slice_get, option_map, Option, Some, None, Ok, Err, refl, ap, sym, subst, arith}
 use Rattle.std.specs.Prelude.{is_some}
 use Rattle.std.proofs.lemmas.List.{length-map, take_more}
 use Rattle.std.proofs.lemmas.Option.{get_or_from_slice_get, slice_get-get_or, slice_get-map}
@@ -29,13 +29,6 @@ sooner told before mid now step fault.Unread le (inl rose) = inl (omega (arith, 
 sooner told before mid now step fault.Unread le (inr found) = inr found
 sooner told before mid now step fault.Memory le is = tt
 sooner told before mid now step other le is = is
-
--- a step that reads no file
-pub comes_at_once : {X A : Type 0} (view : X → A) (told : Option (List File)) (before now : ℕ) (step : FileStep A) (r : Result X FileFault) → file.Comes view step r → file.Reads view told before now step r
-comes_at_once view told before now step (Ok x) c = λ files is. c (bytes_of files)
-comes_at_once view told before now step (Err fault.Unread) c = absurd c
-comes_at_once view told before now step (Err fault.Memory) c = tt
-comes_at_once view told before now step (Err other) c = λ files is. c (bytes_of files)
 
 -- the library is refused
 pub cells_refused : (told : Option (List File)) (before now : ℕ) (word : Option (List ℕ)) (why : FileFault) → file.HasReason told before now (ReadsCells word) why → CellsRefused told before now word (library_refusal why)

@@ -1,14 +1,11 @@
 -- What was read can be compared.
-use Rattle.std.proofs.Common.{◌≡◌, ◌<◌, ℕ, Bool, true, false, List, [], ◌∷◌, length, get_or, map, take, slice_get, Some, refl, sym, ap, ◌∙◌, subst, subst₂, arith}
+use Rattle.std.proofs.Common.{◌≡◌, ◌<◌, ℕ, List, [], ◌∷◌, length, map, take, refl, sym, ap, ◌∙◌, subst, subst₂}
 use Rattle.std.specs.List.{IsDistinct}
 use Rattle.std.specs.Str.{bytes_eq}
 use Rattle.std.specs.Borrow.{Bor}
-use Rattle.std.proofs.lemmas.Map.Keys.{IsDistinct-from_apart}
-use Rattle.std.proofs.lemmas.Option.{slice_get-get_or}
-use Rattle.lw_facts.proofs.Lists.{bytes_eq_is, distinct_take}
+use Rattle.lw_facts.proofs.Lists.{distinct_take, distinct_of}
 use Rattle.lw_pool.specs.declared.id.NetId.{NetId}
 use Rattle.lw_pool.specs.declared.latch.Frame.{Frame}
-use Rattle.lw_laws.specs.Headline.{AreDifferent}
 use Rattle.lw_frame.specs.Frames.{Fits}
 use Rattle.lw_net.specs.Networks as net
 use Rattle.lw_netlist.specs.Netlists as netlist
@@ -37,20 +34,6 @@ port_names [] = refl
 port_names (port ∷ ports) = ap (λ names. port.name ∷ names) (port_names ports)
 
 -- Names that differ.
-
-apart : (x y : List ℕ) → (x ≡ y → ⊥) → bytes_eq x y ≡ false
-apart x y differ = by_test (bytes_eq x y) refl
-  where
-    by_test : (b : Bool) → bytes_eq x y ≡ b → b ≡ false
-    by_test true e = absurd (differ (bytes_eq_is x y e))
-    by_test false e = refl
-
-distinct : (xs : List (List ℕ)) → AreDifferent xs → IsDistinct bytes_eq xs
-distinct xs differ = IsDistinct-from_apart bytes_eq xs (λ i j d before within. apart (get_or xs i d) (get_or xs j d) (λ same.
-    let one = slice_get-get_or xs i d (omega (arith, before, within)) in
-    let other = slice_get-get_or xs j d within in
-    let is : i ≡ j = differ i j (get_or xs j d) (subst (λ (x : List ℕ). slice_get xs i ≡ Some x) same one) other in
-    omega (arith, is, before)))
 
 -- Networks.
 
@@ -91,8 +74,8 @@ module _ (cells : List CellParts) (mapped : Mapped) (is : IsReadNetlist cells ma
   netlist_logic : (logic : Logic) (frame : Bor Frame) → IsLogicOf cells (Netlist mapped) logic → frame.now ≡ mapped.frame → IsSide (record { logic = logic; frame = frame })
   netlist_logic (Rows n) frame same framed = absurd same
   netlist_logic (Cells n library) frame same framed = record {
-    inputs = subst (λ (p : netlist.NetlistParts). IsDistinct bytes_eq (InputsOf p)) (sym same.0) (distinct_take mapped.netlist.inputs mapped.netlist.names (distinct mapped.netlist.names named.names.nets_differ));
-    roots = subst (λ (p : netlist.NetlistParts). IsDistinct bytes_eq (PortsOf p)) (sym same.0) (distinct (PortsOf mapped.netlist) named.names.outputs_differ);
+    inputs = subst (λ (p : netlist.NetlistParts). IsDistinct bytes_eq (InputsOf p)) (sym same.0) (distinct_take mapped.netlist.inputs mapped.netlist.names (distinct_of mapped.netlist.names named.names.nets_differ));
+    roots = subst (λ (p : netlist.NetlistParts). IsDistinct bytes_eq (PortsOf p)) (sym same.0) (distinct_of (PortsOf mapped.netlist) named.names.outputs_differ);
     frame = subst₂ (λ (p : netlist.NetlistParts) (f : Frame). Fits f (InputsOf p) (PortsOf p)) (sym same.0) (sym framed) (subst (Fits mapped.frame (InputsOf mapped.netlist)) (sym same_ports) is.fits.frame);
     evaluated = rw (same.0, same.1) (is.over, is.few);
   }

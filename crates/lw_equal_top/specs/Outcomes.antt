@@ -1,5 +1,6 @@
 -- What a run comes to.
-use Rattle.std.specs.Prelude.{◌≡◌, ◌<◌, ◌≤◌, ℕ, Bool, true, ⊤, List, [], ◌∷◌, length, Option, Some, None, is_some, slice_index_or, slice_get, Result, Ok, Err, codes}
+use Rattle.std.specs.Prelude.{◌≡◌, ◌<◌, ◌≤◌, ℕ, Bool, true, ⊤, List, [], ◌∷◌, length, Option, Some, None, is_some}
+use Rattle.std.specs.Prelude.{slice_index_or, slice_get, Result, Ok, Err, codes}
 use Rattle.std.specs.Io.KnownBytes.{Appends}
 use Rattle.lw_io.specs.declared.file.File.{File}
 use Rattle.lw_io.specs.Causes.{Rose}
@@ -29,7 +30,8 @@ pub record AreSaid (c : Comparison) (files : Files) (cells : List CellParts) (so
   pub sources_are : AreRead (is_some c.library) cells c.files files sources
 
 -- These sources were read, where files are known, and this is a right answer for the first two of them.
-pub record IsResult (told : Option (List File)) (c : Comparison) (sources : List Source) (answer : Answer) : Type 0 where
+pub record IsResult (told : Option (List File)) (c : Comparison) (sources : List Source)
+    (answer : Answer) : Type 0 where
   pub cells : List CellParts
   pub said : (files : List File) → told ≡ Some files → AreSaid c (bytes_of files) cells sources
   pub right : IsAnswerFor cells sources answer
@@ -64,26 +66,30 @@ ComparesTo told before now c (Ok compared) = IsResult told c compared.sources.it
 ComparesTo told before now c (Err refusal) = HasReason told before now c refusal
 
 abbrev pub CanBeSaid : Compared → Type 0
-CanBeSaid compared = (0 < length compared.sources.items) × HasValues (names_in compared.sources.items) compared.outcome.answer
+CanBeSaid compared =
+    (0 < length compared.sources.items) × HasValues (names_in compared.sources.items) compared.outcome.answer
 
 abbrev pub IfSaid : Result Compared Refusal → Type 0
 IfSaid (Ok compared) = CanBeSaid compared
 IfSaid (Err refusal) = ⊤
 
 -- The files are compared or refused, and they stay.
-pub record Compares {F : Type 0} (told : F → Option (List File)) (faults : F → ℕ) (old new : F) (c : Comparison) (result : Result Compared Refusal) : Type 0 where
+pub record Compares {F : Type 0} (told : F → Option (List File)) (faults : F → ℕ) (old new : F) (c : Comparison)
+    (result : Result Compared Refusal) : Type 0 where
   pub files : told new ≡ told old
   pub later : faults old ≤ faults new
   pub comes : ComparesTo (told old) (faults old) (faults new) c result
   pub said : IfSaid result
 
 -- the whole text was taken, and the stream is finished
-pub record IsDone {O : Type 0} (taken : O → Option (List ℕ)) (is_finished : O → Bool) (old new : O) (text : List ℕ) : Type 0 where
+pub record IsDone {O : Type 0} (taken : O → Option (List ℕ)) (is_finished : O → Bool) (old new : O)
+    (text : List ℕ) : Type 0 where
   pub grown : Appends (taken old) (taken new) text
   pub finished : is_finished new ≡ true
 
 -- the stream failed, and a prefix of the text was taken
-pub record IsCutShort {O : Type 0} (taken : O → Option (List ℕ)) (faults : O → ℕ) (old new : O) (text : List ℕ) : Type 0 where
+pub record IsCutShort {O : Type 0} (taken : O → Option (List ℕ)) (faults : O → ℕ) (old new : O)
+    (text : List ℕ) : Type 0 where
   pub grown : AppendsPrefix (taken old) (taken new) text
   pub cause : Rose (faults old) (faults new)
 
@@ -115,18 +121,24 @@ IsTextFor told help text = text ≡ help_text
 IsTextFor told version text = text ≡ version_text
 IsTextFor told (comparing c) text = IsResultText told c text
 
--- A page was asked for and went out; or a right answer to the comparison went out; or the stream failed, and a prefix of such a text went
--- out; or there is a reason to refuse the comparison, and the stream is as it was.
-abbrev pub Meets : {O : Type 0} → Option (List File) → ℕ → ℕ → (O → Option (List ℕ)) → (O → Bool) → (O → ℕ) → O → O → Request → Ending → Type 0
+-- A page was asked for and went out; or a right answer to the comparison went out; or the stream failed, and a prefix
+-- of such a text went out; or there is a reason to refuse the comparison, and the stream is as it was.
+abbrev pub Meets : {O : Type 0} → Option (List File) → ℕ → ℕ → (O → Option (List ℕ)) → (O → Bool) → (O → ℕ) → O → O
+    → Request → Ending → Type 0
 Meets told before now taken is_finished faults old new help Told = IsDone taken is_finished old new help_text
 Meets told before now taken is_finished faults old new version Told = IsDone taken is_finished old new version_text
-Meets told before now taken is_finished faults old new (comparing c) (Answered compared) = IsResult told c compared.sources.items compared.outcome.answer × IsDone taken is_finished old new (answer_text (names_in compared.sources.items) compared.outcome.answer)
-Meets told before now taken is_finished faults old new (comparing c) (Refused refusal) = HasReason told before now c refusal × (new ≡ old)
-Meets told before now taken is_finished faults old new request WriteFault = (text : List ℕ) × IsTextFor told request text × IsCutShort taken faults old new text
+Meets told before now taken is_finished faults old new (comparing c) (Answered compared) =
+    IsResult told c compared.sources.items compared.outcome.answer
+    × IsDone taken is_finished old new (answer_text (names_in compared.sources.items) compared.outcome.answer)
+Meets told before now taken is_finished faults old new (comparing c) (Refused refusal) =
+    HasReason told before now c refusal × (new ≡ old)
+Meets told before now taken is_finished faults old new request WriteFault =
+    (text : List ℕ) × IsTextFor told request text × IsCutShort taken faults old new text
 Meets told before now taken is_finished faults old new request other = ⊥
 
 -- What a run that was asked for this came to; the files stay, and no count of faults falls.
-pub record Serves {O : Type 0} (told told' : Option (List File)) (before now : ℕ) (taken : O → Option (List ℕ)) (is_finished : O → Bool) (faults : O → ℕ) (old new : O) (request : Request) (ending : Ending) : Type 0 where
+pub record Serves {O : Type 0} (told told' : Option (List File)) (before now : ℕ) (taken : O → Option (List ℕ))
+    (is_finished : O → Bool) (faults : O → ℕ) (old new : O) (request : Request) (ending : Ending) : Type 0 where
   pub meets : Meets told before now taken is_finished faults old new request ending
   pub files : told' ≡ told
   pub read : before ≤ now

@@ -10,7 +10,13 @@ use Rattle.lw_equal_top.specs.Words as spec
 
 -- the request, without where its words lie in memory
 abbrev pub plain_comparison : Comparison → spec.Comparison
-plain_comparison c = record { library = option_map (λ word. word.now) c.library; tries = c.tries; counted = c.counted; files = map string_bytes c.files.now }
+plain_comparison c =
+    record {
+      library = option_map (λ word. word.now) c.library;
+      tries = c.tries;
+      counted = c.counted;
+      files = map string_bytes c.files.now;
+    }
 
 abbrev pub plain_request : Request → spec.Request
 plain_request Help = spec.help

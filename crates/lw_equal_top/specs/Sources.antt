@@ -61,7 +61,8 @@ ReadsSource known cells name = followed_by (gives (text_of name)) (HasSource kno
 
 -- the files with these names say these, one each, in order
 abbrev pub AreRead : Bool → List CellParts → List (List ℕ) → Files → List Source → Type 0
-AreRead known cells names files sources = AllZip (λ name source. ReadsSource known cells name files (Ok source)) names sources
+AreRead known cells names files sources =
+    AllZip (λ name source. ReadsSource known cells name files (Ok source)) names sources
 
 -- Sides.
 

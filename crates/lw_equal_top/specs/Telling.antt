@@ -1,5 +1,6 @@
 -- The lines for err.
-use Rattle.std.specs.Prelude.{ℕ, ◌-◌, Bool, List, [], ◌∷◌, ◌++◌, Option, Some, None, unwrap_or, slice_index_or, if◌then◌else◌, codes, decimal}
+use Rattle.std.specs.Prelude.{ℕ, ◌-◌, Bool, List, [], ◌∷◌, ◌++◌, Option, Some, None, unwrap_or, slice_index_or}
+use Rattle.std.specs.Prelude.{if◌then◌else◌, codes, decimal}
 use Rattle.lw_equal.specs.declared.answer.Counts.{Counts}
 use Rattle.lw_equal.specs.declared.answer.PortFault.{PortFault}
 use Rattle.lw_equal.specs.declared.answer.PortKind.{PortKind}
@@ -27,7 +28,8 @@ abbrev pub file_of : List (List ℕ) → ℕ → List ℕ
 file_of files number = word_at files (number - 1)
 
 abbrev pub port_text : List (List ℕ) → PortFault → List ℕ
-port_text files fault = named (file_of files fault.lacks) (kind_name fault.kind) fault.name ++ (named [] (codes ", which ") (file_of files fault.has) ++ codes " has")
+port_text files fault = named (file_of files fault.lacks) (kind_name fault.kind) fault.name
+    ++ (named [] (codes ", which ") (file_of files fault.has) ++ codes " has")
 
 -- Lines.
 

@@ -1,12 +1,13 @@
 -- The words of a request.
-use Rattle.std.specs.Prelude.{ℕ, ◌^◌, Bool, true, false, not, ◌&&◌, nat_le, nat_lt, nat_eq, List, [], ◌∷◌, length, Option, Some, None, Result, Ok, Err, if◌then◌else◌, codes}
+use Rattle.std.specs.Prelude.{ℕ, ◌^◌, Bool, true, false, not, ◌&&◌, nat_le, nat_lt, nat_eq, List, [], ◌∷◌, length}
+use Rattle.std.specs.Prelude.{Option, Some, None, Result, Ok, Err, if◌then◌else◌, codes}
 use Rattle.std.specs.List.{list_all, starts_with}
 use Rattle.std.specs.Char.{is_ascii_digit}
 use Rattle.std.specs.Str.{bytes_eq}
 use Rattle.std.specs.Str.Parse.{digits_value}
 
--- which networks are to be compared: the library of the mapped ones, the most conflicts of a search, whether counts are wanted, and the
--- files, of which the first two are compared
+-- which networks are to be compared: the library of the mapped ones, the most conflicts of a search, whether counts are
+-- wanted, and the files, of which the first two are compared
 pub record Comparison : Type 0 where
   pub library : Option (List ℕ)
   pub tries : ℕ
@@ -52,7 +53,12 @@ usual_tries = 1000
 abbrev pub compared : Option (List ℕ) → ℕ → Bool → List (List ℕ) → Option (List ℕ) → Result Request WordFault
 compared library tries counted words (Some word) = Err (dashed word)
 compared library tries counted words None =
-    if nat_le 2 (length words) then Ok (comparing (record { library = library; tries = tries; counted = counted; files = words })) else Err few
+    if nat_le 2 (length words) then Ok (comparing (record {
+      library = library;
+      tries = tries;
+      counted = counted;
+      files = words;
+    })) else Err few
 
 abbrev pub of_files : Option (List ℕ) → ℕ → Bool → List (List ℕ) → Result Request WordFault
 of_files library tries counted words = compared library tries counted words (first_dashed words)
@@ -61,7 +67,8 @@ of_files library tries counted words = compared library tries counted words (fir
 abbrev pub with_counts : Option (List ℕ) → ℕ → List (List ℕ) → Result Request WordFault
 with_counts library tries [] = of_files library tries false []
 with_counts library tries (option ∷ words) =
-    if bytes_eq option (codes "-s") then of_files library tries true words else of_files library tries false (option ∷ words)
+    if bytes_eq option (codes "-s") then of_files library tries true words else of_files library tries false
+    (option ∷ words)
 
 abbrev pub by_number : Option (List ℕ) → List ℕ → Option ℕ → List (List ℕ) → Result Request WordFault
 by_number library word None words = Err (numeral word)
@@ -86,7 +93,8 @@ behind_library (word ∷ words) = if is_file_word word then with_tries (Some wor
 -- `[-l LIB] [-n CONFLICTS] [-s] IN1 IN2 [MORE ..]`
 abbrev pub with_library : List (List ℕ) → Result Request WordFault
 with_library [] = with_tries None []
-with_library (option ∷ words) = if bytes_eq option (codes "-l") then behind_library words else with_tries None (option ∷ words)
+with_library (option ∷ words) =
+    if bytes_eq option (codes "-l") then behind_library words else with_tries None (option ∷ words)
 
 -- What the words ask for, or what is wrong with them: `-h`, `-v`, or a comparison.
 abbrev pub request_of : List (List ℕ) → Result Request WordFault

@@ -6,7 +6,8 @@
 //! each to a `source`: a network, or a netlist of the library's cells. `comparing` gives them to
 //! `lw_equal` as sides. `saying` writes the answer and `pages` has the help; `outcome` is the way
 //! from a request to what it came to, or to a refusal (`fault`). `telling` writes the line for err,
-//! and `top` does all of it. `lwequal` calls `run`.
+//! and `top` does all of it. The one definition to read is `IsTold` in `specs/Promises.antt`.
+//! `lwequal` calls `run`.
 #![tactic(auto)]
 
 mod comparing;

@@ -4,7 +4,8 @@ ghost use Rattle.std.specs.Io.KnownBytes.{Keeps};
 ghost use Rattle.lw_io.specs.Causes.{Rose};
 ghost use Rattle.lw_io.specs.Waitings.{IsTaken};
 ghost use Rattle.lw_equal_top.specs.Requests.{plain_comparison, plain_request};
-ghost use Rattle.lw_equal_top.specs.Outcomes.{CanBeSaid, Compares, IsAnsweredOr, IsToldOr, Serves, WritesOut, names_in};
+ghost use Rattle.lw_equal_top.specs.Outcomes.{CanBeSaid, Compares, IsAnsweredOr, IsToldOr, Serves};
+ghost use Rattle.lw_equal_top.specs.Outcomes.{WritesOut, names_in};
 ghost use Rattle.lw_equal_top.specs.Texts.{answer_text};
 
 use crate::comparing::compare_sources;
@@ -89,7 +90,8 @@ fn finished<O: Sink>(written: Result<(), Failed>, out: &mut O) -> bool
     ensures finished { IsTrue result → O.is_finished out.new ≡ true }
     ensures whole { IsTrue result → IsOk written }
     ensures later { O.faults out.old ≤ O.faults out.new }
-    ensures failed { (IsTrue result → ⊥) → IsOk written → Rose (O.faults out.old) (O.faults out.new) }
+    ensures failed { (IsTrue result → ⊥) → IsOk written →
+        Rose (O.faults out.old) (O.faults out.new) }
 {
     match written {
         Ok(()) => out.finish().is_ok(),

@@ -1,8 +1,10 @@
 // The files of a comparison.
-ghost use Rattle.std.specs.Prelude.{◌≡◌, ◌≤◌, ◌++◌, ◌&&◌, ◌∷◌, [], All, length, map, string_bytes, option_map, IfOk, OnOk};
+ghost use Rattle.std.specs.Prelude.{◌≡◌, ◌≤◌, ◌++◌, ◌&&◌, ◌∷◌, [], All, length, map, string_bytes};
+ghost use Rattle.std.specs.Prelude.{option_map, IfOk, OnOk};
 ghost use Rattle.lw_words.specs.Limits.{most_bytes};
 ghost use Rattle.lw_files.specs.Reading.{Comes, ReadsFile};
-ghost use Rattle.lw_equal_top.specs.Sources.{is_gate, has_gates, HasSource, HasNetwork, HasNetlist, ReadsSource, ReadsCells, IsSource};
+ghost use Rattle.lw_equal_top.specs.Sources.{is_gate, has_gates, HasSource, HasNetwork, HasNetlist};
+ghost use Rattle.lw_equal_top.specs.Sources.{ReadsSource, ReadsCells, IsSource};
 ghost use Rattle.lw_equal_top.specs.Reading.{ReadsCellsOf, ReadsSources};
 
 use crate::fault::Refusal;

@@ -1,7 +1,9 @@
 // The texts for out.
 ghost use Rattle.std.specs.Prelude.{◌≡◌, length};
 ghost use Rattle.lw_io.specs.Writers.{Writes};
-ghost use Rattle.lw_equal_top.specs.Texts.{HasValues, answer_text, difference_text, kind_text, point_line, point_text, undecided_text, value_line, value_text, values_text};
+ghost use Rattle.lw_equal_top.specs.Texts.{HasValues, answer_text, difference_text, kind_text};
+ghost use Rattle.lw_equal_top.specs.Texts.{point_line, point_text, undecided_text, value_line};
+ghost use Rattle.lw_equal_top.specs.Texts.{value_text, values_text};
 
 use lw_equal::{Answer, Difference, Kind, Point};
 use lw_io::{Sink, Writer};

@@ -2,7 +2,9 @@
 ghost use Rattle.std.specs.Prelude.{◌≡◌, [], map, string_bytes, option_map, unwrap_or};
 ghost use Rattle.lw_io.specs.Waitings.{IsTaken};
 ghost use Rattle.lw_io.specs.Writers.{Writes};
-ghost use Rattle.lw_equal_top.specs.Telling.{comparison_line, counts_text, ending_line, file_of, kind_name, port_text, refusal_text, word_at, word_text, words_line};
+ghost use Rattle.lw_equal_top.specs.Telling.{comparison_line, counts_text, ending_line, file_of};
+ghost use Rattle.lw_equal_top.specs.Telling.{kind_name, port_text, refusal_text, word_at};
+ghost use Rattle.lw_equal_top.specs.Telling.{word_text, words_line};
 ghost use Rattle.lw_equal_top.specs.Requests.{plain_comparison, plain_fault, plain_request};
 
 use crate::fault::Refusal;

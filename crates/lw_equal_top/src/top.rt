@@ -3,8 +3,10 @@ ghost use Rattle.std.specs.Prelude.{◌≡◌, ◌≤◌, ◌↔◌, List, Some,
 ghost use Rattle.lw_io.specs.declared.file.File.{File};
 ghost use Rattle.lw_io.specs.Files.{bytes_of};
 ghost use Rattle.lw_equal_top.specs.Words.{Comparison, request_of};
-ghost use Rattle.lw_equal_top.specs.Promises.{AreEqualFiles, AsksToCompare, DifferAsWritten, IsTold};
-ghost use Rattle.lw_equal_top.specs.Statuses.{answer_status, ending_status, file_status, refusal_status};
+ghost use Rattle.lw_equal_top.specs.Promises.{AreEqualFiles, AsksToCompare, DifferAsWritten};
+ghost use Rattle.lw_equal_top.specs.Promises.{IsTold};
+ghost use Rattle.lw_equal_top.specs.Statuses.{answer_status, ending_status, file_status};
+ghost use Rattle.lw_equal_top.specs.Statuses.{refusal_status};
 
 use crate::fault::Refusal;
 use crate::outcome::{Ending, serve};
@@ -27,17 +29,18 @@ pub fn run<F: Shelf, O: Sink, E: Sink>(
     out: &mut O,
     err: &mut E,
 ) -> u8
-    // At 0, over known files and where a comparison was asked for, the first two files say networks,
-    // or netlists of the library's cells, that have the same inputs, outputs and latches, and one
-    // value at each output and at whatever a latch reads, under every assignment of inputs and
-    // latches' outputs. A control is compared where both latches of a name have one. Kinds and
+    // At 0, over known files and where a comparison was asked for, the first two files say
+    // networks, or netlists of the library's cells, that have the same inputs, outputs and latches,
+    // and one value at each output and at whatever a latch reads, under every assignment of inputs
+    // and latches' outputs. A control is compared where both latches of a name have one. Kinds and
     // initial values of latches are not compared, nor is a control that only one of both has.
     ensures equal { (files : List File) (c : Comparison) → F.files shelf.old ≡ Some files →
-        AsksToCompare (map string_bytes words.now) c → result ≡ 0 → AreEqualFiles c (bytes_of files) }
+        AsksToCompare (map string_bytes words.now) c → result ≡ 0 →
+        AreEqualFiles c (bytes_of files) }
 
-    // At 1, over known files, both have the same inputs, outputs and latches, and the text that went
-    // out names such a place, and an assignment under which the two have different values there,
-    // each evaluated as it was read.
+    // At 1, over known files, both have the same inputs, outputs and latches, and the text that
+    // went out names such a place, and an assignment under which the two have different values
+    // there, each evaluated as it was read.
     ensures differ { (files : List File) → F.files shelf.old ≡ Some files → result ≡ 1 →
         DifferAsWritten (map string_bytes words.now) (bytes_of files) O.taken O.is_finished out.old
         out.new }
@@ -46,9 +49,9 @@ pub fn run<F: Shelf, O: Sink, E: Sink>(
     ensures words { (result ≡ 11) ↔ IsErr (request_of (map string_bytes words.now)) }
 
     // What the status says is what happened: the answer, which is right, or a page went out; or the
-    // stream failed, and a prefix of such a text went out; or there is the reason to refuse that the
-    // line on `err` gives, and nothing went out. At 2 the answer names places, and at each other
-    // place both have one value under every assignment.
+    // stream failed, and a prefix of such a text went out; or there is the reason to refuse that
+    // the line on `err` gives, and nothing went out. At 2 the answer names places, and at each
+    // other place both have one value under every assignment.
     ensures told { IsTold (F.files shelf.old) (F.faults shelf.old) (F.faults shelf.new) O.taken
         O.is_finished O.faults out.old out.new E.taken E.faults err.old err.new
         (request_of (map string_bytes words.now)) result }

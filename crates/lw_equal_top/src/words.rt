@@ -1,6 +1,8 @@
 // The words of a request.
 ghost use Rattle.std.specs.Prelude.{◌≡◌, Some, None, map, string_bytes, option_map};
-ghost use Rattle.lw_equal_top.specs.Words.{is_file_word, first_dashed, is_numeral, number_of, of_files, with_counts, with_number, with_tries, behind_library, with_library, request_of};
+ghost use Rattle.lw_equal_top.specs.Words.{is_file_word, first_dashed, is_numeral, number_of};
+ghost use Rattle.lw_equal_top.specs.Words.{of_files, with_counts, with_number, with_tries};
+ghost use Rattle.lw_equal_top.specs.Words.{behind_library, with_library, request_of};
 ghost use Rattle.lw_equal_top.specs.Requests.{asked};
 
 use crate::request::{Comparison, Request, WordFault};

@@ -1,7 +1,7 @@
 -- What is found for the classes, one after another.
 use Rattle.std.proofs.Common.{ℕ, ◌+◌, ◌≡◌, ◌⊎◌, inl, inr, List, [], ◌∷◌, ◌++◌, length, Option, Some, None, slice_get, slice_index_or, sym, ◌∙◌, subst, subst₂, arith}
 use Rattle.std.proofs.lemmas.List.{length_push}
-use Rattle.lw_facts.proofs.Lists.{get_push_cases}
+use Rattle.lw_facts.proofs.Lists.{get_last_cases}
 use Rattle.lw_pool.specs.declared.id.NetId.{NetId}
 use Rattle.lw_laws.specs.Graphs.{Graph}
 use Rattle.lw_laws.specs.Costs.{Cost}
@@ -30,9 +30,9 @@ module _ (g : Graph) (cost : Cost) (pats : List Pattern) (marks : List (Option M
   pub choices_more : (count : ℕ) (all : List (Option Match)) (found : Option Match) → IsClassChoice g cost pats marks count found → AreChoicesBelow count all → AreChoicesBelow (count + 1) (all ++ found ∷ [])
   choices_more count all found is are = record {
     many = let long = length_push all found in omega (arith, long, are.many);
-    each = λ c x at. by_place c x (get_push_cases all found c x at);
+    each = λ c x at. by_place c x (get_last_cases all found c x at);
   }
     where
-      by_place : (c : ℕ) (x : Option Match) → (slice_get all c ≡ Some x) ⊎ ((c ≡ length all) × (found ≡ x)) → IsClassChoice g cost pats marks c x
+      by_place : (c : ℕ) (x : Option Match) → (slice_get all c ≡ Some x) ⊎ ((c ≡ length all) × (x ≡ found)) → IsClassChoice g cost pats marks c x
       by_place c x (inl at) = are.each c x at
-      by_place c x (inr (last, same)) = subst₂ (λ (d : ℕ) (y : Option Match). IsClassChoice g cost pats marks d y) (sym (last ∙ are.many)) same is
+      by_place c x (inr (last, same)) = subst₂ (λ (d : ℕ) (y : Option Match). IsClassChoice g cost pats marks d y) (sym (last ∙ are.many)) (sym same) is

@@ -1,7 +1,7 @@
 -- Gates of chosen matches, one after another.
 use Rattle.std.proofs.Common.{ℕ, ◌+◌, ◌<◌, ◌≡◌, ◌⊎◌, inl, inr, List, [], ◌∷◌, ◌++◌, length, Some, slice_get, get_or, take, map, ap, sym, ◌∙◌, subst, arith, length-append}
 use Rattle.std.proofs.lemmas.Option.{same_Some, slice_get_within, get_or_from_slice_get}
-use Rattle.lw_facts.proofs.Lists.{get_push_cases}
+use Rattle.lw_facts.proofs.Lists.{get_last_cases}
 use Rattle.lw_pool.specs.declared.id.ClassId.{ClassId}
 use Rattle.lw_pool.specs.declared.name.Name.{Name}
 use Rattle.lw_laws.specs.Covers.{Pattern}
@@ -21,15 +21,15 @@ module _ (pats : List Pattern) (nets : Nets) (inputs : ℕ) (chosen : List Chose
   pub gates_one_more : (j : ℕ) (x : Chosen) (gate : Gate) (gates : List Gate) → slice_get chosen j ≡ Some x → IsGateOf pats nets (inputs + j) x gate → AreFirstGates pats nets inputs chosen j gates → AreFirstGates pats nets inputs chosen (j + 1) (gates ++ gate ∷ [])
   gates_one_more j x gate gates at is are = record {
     one_each = let added = length-append gates (gate ∷ []) in let before = are.one_each in omega arith;
-    each = λ k y other here there. by_place k y other here (get_push_cases gates gate k other there);
+    each = λ k y other here there. by_place k y other here (get_last_cases gates gate k other there);
   }
     where
-      by_place : (k : ℕ) (y : Chosen) (other : Gate) → slice_get chosen k ≡ Some y → (slice_get gates k ≡ Some other) ⊎ ((k ≡ length gates) × (gate ≡ other)) → IsGateOf pats nets (inputs + k) y other
+      by_place : (k : ℕ) (y : Chosen) (other : Gate) → slice_get chosen k ≡ Some y → (slice_get gates k ≡ Some other) ⊎ ((k ≡ length gates) × (other ≡ gate)) → IsGateOf pats nets (inputs + k) y other
       by_place k y other here (inl old) = are.each k y other here old
       by_place k y other here (inr (last, same)) =
           let place : k ≡ j = last ∙ are.one_each in
           let chosen_one : x ≡ y = same_Some x y (sym at ∙ (ap (λ i. slice_get chosen i) (sym place) ∙ here)) in
-          subst (λ i. IsGateOf pats nets (inputs + i) y other) (sym place) (subst (λ z. IsGateOf pats nets (inputs + j) z other) chosen_one (subst (λ z. IsGateOf pats nets (inputs + j) x z) same is))
+          subst (λ i. IsGateOf pats nets (inputs + i) y other) (sym place) (subst (λ z. IsGateOf pats nets (inputs + j) z other) chosen_one (subst (λ z. IsGateOf pats nets (inputs + j) x z) (sym same) is))
 
   pub gates_all : (count : ℕ) (gates : List Gate) → count ≡ length chosen → AreFirstGates pats nets inputs chosen count gates → AreGatesOf pats nets inputs chosen gates
   gates_all count gates all are = record { one_each = are.one_each ∙ all; each = are.each }

@@ -20,7 +20,8 @@ use Rattle.lw_extract.specs.Covers.{AreFit}
 abbrev pub HaveNetsAt : Graph → List ℕ → List ClassId → Type 0
 HaveNetsAt g gates classes = All (λ (class : ClassId). (net : ℕ) × IsNetOf g gates class.0 net) classes
 
--- The ports fit the graph. The list has matches in order at classes of the graph, and each output's class is an input's or a match's.
+-- The ports fit the graph. The list has matches in order at classes of the graph, and each output's class is an input's
+-- or a match's.
 pub record CanAssemble (g : Graph) (pats : List Pattern) (ports : Ports) (chosen : List Chosen) : Type 0 where
   pub fit : AreFit g ports
   pub pin_counts : List ℕ
@@ -28,12 +29,15 @@ pub record CanAssemble (g : Graph) (pats : List Pattern) (ports : Ports) (chosen
   pub within : All (λ (x : Chosen). x.class.0 < length g.pairs) chosen
   pub roots : HaveNetsAt g (chosen_classes chosen) ports.roots
 
--- The netlist that matches make, in their order. Nets have the names of the inputs, of the first output of their class, or n1, n2 and so
--- on; the outputs are at their roots' nets.
-pub record IsAssembled (g : Graph) (pats : List Pattern) (ports : Ports) (chosen : List Chosen) (cover : Cover) : Type 0 where
+-- The netlist that matches make, in their order. Nets have the names of the inputs, of the first output of their class,
+-- or n1, n2 and so on; the outputs are at their roots' nets.
+pub record IsAssembled (g : Graph) (pats : List Pattern) (ports : Ports) (chosen : List Chosen)
+    (cover : Cover) : Type 0 where
   pub classes : numbers cover.classes ≡ chosen_classes chosen
   pub made : IsMadeOf g pats (plain_matches chosen) (plain cover.netlist)
   pub model : cover.netlist.model ≡ ports.model
   pub names : cover.netlist.names ≡ net_names ports.inputs ports.outputs (numbers ports.roots) (numbers cover.classes)
   pub output_names : map (λ (port : Port). port.name) cover.netlist.outputs ≡ ports.outputs
-  pub outputs : AllZip (λ (root : ClassId) (port : Port). IsNetOf g (numbers cover.classes) root.0 port.net.0) ports.roots cover.netlist.outputs
+  pub outputs : AllZip
+      (λ (root : ClassId) (port : Port). IsNetOf g (numbers cover.classes) root.0 port.net.0) ports.roots
+      cover.netlist.outputs

@@ -1,5 +1,6 @@
 -- The needed classes with their chosen matches, and how they are found from the highest down.
-use Rattle.std.specs.Prelude.{ℕ, ◌≡◌, All, IsSome, List, length, map, MatchOption, None, Option, Some, slice_get, slice_index_or}
+use Rattle.std.specs.Prelude.{ℕ, ◌≡◌, All, IsSome, List, length, map, MatchOption, None, Option, Some, slice_get}
+use Rattle.std.specs.Prelude.{slice_index_or}
 use Rattle.lw_pool.specs.declared.id.ClassId.{ClassId}
 use Rattle.lw_laws.specs.Graphs.{Graph}
 use Rattle.lw_laws.specs.Costs.{Cost}
@@ -29,15 +30,18 @@ RootsHaveMarks marks roots = All (λ (root : ClassId). IsSome (slice_index_or ma
 
 -- the match is the chosen one of the class
 abbrev pub IsChoice : Graph → Cost → List Pattern → List (Option Mark) → ℕ → Match → Type 0
-IsChoice g cost pats marks c found = (p : Pattern) × IsChosen g cost pats (labels marks) (heights marks) c (plain_match found) p
+IsChoice g cost pats marks c found =
+    (p : Pattern) × IsChosen g cost pats (labels marks) (heights marks) c (plain_match found) p
 
 -- what is found for a class: its chosen match, and nothing if the class is an input's or has no mark
 abbrev pub IsClassChoice : Graph → Cost → List Pattern → List (Option Mark) → ℕ → Option Match → Type 0
 IsClassChoice g cost pats marks c found =
-    MatchOption found ((IsLeafClass g c → ⊥) → slice_index_or marks c None ≡ None) (λ m. (IsLeafClass g c → ⊥) × IsChoice g cost pats marks c m)
+    MatchOption found ((IsLeafClass g c → ⊥) → slice_index_or marks c None ≡ None)
+    (λ m. (IsLeafClass g c → ⊥) × IsChoice g cost pats marks c m)
 
 -- what is found for the classes of the graph, in the order of their numbers
-pub record AreClassChoices (g : Graph) (cost : Cost) (pats : List Pattern) (marks : List (Option Mark)) (all : List (Option Match)) : Type 0 where
+pub record AreClassChoices (g : Graph) (cost : Cost) (pats : List Pattern) (marks : List (Option Mark))
+    (all : List (Option Match)) : Type 0 where
   pub one_each : length all ≡ length g.pairs
   pub each : (c : ℕ) (found : Option Match) → slice_get all c ≡ Some found → IsClassChoice g cost pats marks c found
 
@@ -52,6 +56,7 @@ abbrev pub plain_matches : List Chosen → List Gated
 plain_matches chosen = map plain_chosen chosen
 
 -- the classes with a gate, in order, each with its chosen match
-pub record AreChosen (g : Graph) (cost : Cost) (pats : List Pattern) (marks : List (Option Mark)) (roots : List ClassId) (chosen : List Chosen) : Type 0 where
+pub record AreChosen (g : Graph) (cost : Cost) (pats : List Pattern) (marks : List (Option Mark)) (roots : List ClassId)
+    (chosen : List Chosen) : Type 0 where
   pub gate_classes : AreGateClasses g cost pats (labels marks) (heights marks) (numbers roots) (chosen_classes chosen)
   pub each : (j : ℕ) (x : Chosen) → slice_get chosen j ≡ Some x → IsChoice g cost pats marks x.class.0 x.found

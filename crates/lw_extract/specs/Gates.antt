@@ -13,9 +13,11 @@ pub record IsGateOf (pats : List Pattern) (nets : Nets) (net : ℕ) (x : Chosen)
   pub out : gate.out.0 ≡ net
 
 -- a gate for each match, in order
-pub record AreGatesOf (pats : List Pattern) (nets : Nets) (inputs : ℕ) (chosen : List Chosen) (gates : List Gate) : Type 0 where
+pub record AreGatesOf (pats : List Pattern) (nets : Nets) (inputs : ℕ) (chosen : List Chosen)
+    (gates : List Gate) : Type 0 where
   pub one_each : length gates ≡ length chosen
-  pub each : (j : ℕ) (x : Chosen) (gate : Gate) → slice_get chosen j ≡ Some x → slice_get gates j ≡ Some gate → IsGateOf pats nets (inputs + j) x gate
+  pub each : (j : ℕ) (x : Chosen) (gate : Gate) → slice_get chosen j ≡ Some x → slice_get gates j ≡ Some gate
+      → IsGateOf pats nets (inputs + j) x gate
 
 -- each of the classes has a net
 abbrev pub HaveNets : Nets → List ClassId → Type 0

@@ -35,12 +35,16 @@ pub record IsInnerClass (g : Graph) (c : ℕ) : Type 0 where
 -- where the class has a mark, what is found is its chosen match
 abbrev pub FindsChoice : {C : Type 0} → (C → Cost) → Job C → ℕ → Option Match → Type 0
 FindsChoice costs job c result =
-    (mark : Mark) → slice_index_or job.marks.now c None ≡ Some mark → (found : Match) × (result ≡ Some found) × IsChoice job.graph.now (costs job.cost.now) job.pats.now job.marks.now c found
+    (mark : Mark) → slice_index_or job.marks.now c None ≡ Some mark
+    → (found : Match) × (result ≡ Some found) × IsChoice job.graph.now
+    (costs job.cost.now) job.pats.now job.marks.now c found
 
 -- the classes with a gate, in order, each with its chosen match
 abbrev pub AreJobChoices : {C : Type 0} → (C → Cost) → Job C → List Chosen → Type 0
-AreJobChoices costs job chosen = AreChosen job.graph.now (costs job.cost.now) job.pats.now job.marks.now job.ports.now.roots chosen
+AreJobChoices costs job chosen =
+    AreChosen job.graph.now (costs job.cost.now) job.pats.now job.marks.now job.ports.now.roots chosen
 
 -- the cover that the labels give
 abbrev pub IsJobCover : {C : Type 0} → (C → Cost) → Job C → Cover → Type 0
-IsJobCover costs job made = IsCoverBy job.graph.now (costs job.cost.now) job.pats.now job.lib.now job.marks.now job.ports.now made
+IsJobCover costs job made =
+    IsCoverBy job.graph.now (costs job.cost.now) job.pats.now job.lib.now job.marks.now job.ports.now made

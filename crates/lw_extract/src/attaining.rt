@@ -60,7 +60,7 @@ fn class_choices<C: Cost>(
         job.now.pats.now job.now.marks.now all.items) }
 {
     let nets = input_nets(alloc, job.graph)?;
-    let mut tops = Tops::new(job.pats, job.cost, bounds);
+    let mut tops = Tops::new(alloc, job.pats, job.cost, bounds)?;
     let mut all = Vec::new(alloc);
     for number in 0..job.graph.classes() {
         all.push(class_choice(job, bounds, &mut tops, &nets, ClassId(number)))?;

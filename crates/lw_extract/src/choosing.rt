@@ -1,7 +1,8 @@
 // The classes that are needed, each with its chosen match.
 ghost use Rattle.std.specs.Prelude.{IfOk, reverse};
 ghost use Rattle.lw_match.specs.Cutting.{AreKnown};
-ghost use Rattle.lw_extract.specs.Jobs.{AreJobBounds, AreJobChoices, AreJobLabels, CanCover, FindsChoice, IsInnerClass};
+ghost use Rattle.lw_extract.specs.Jobs.{AreJobBounds, AreJobChoices, AreJobLabels, CanCover};
+ghost use Rattle.lw_extract.specs.Jobs.{FindsChoice, IsInnerClass};
 ghost use Rattle.lw_extract.specs.Orders.{AreByHeight};
 ghost use Rattle.lw_extract.specs.Nets.{AreInputNets};
 
@@ -63,7 +64,7 @@ fn choose_down<C: Cost>(
 {
     let roots = job.ports.roots.as_slice();
     let mut needed = needed_by(alloc, roots, job.graph.classes() as usize)?;
-    let mut tops = Tops::new(job.pats, job.cost, bounds);
+    let mut tops = Tops::new(alloc, job.pats, job.cost, bounds)?;
     let mut chosen = Vec::new(alloc);
     for place in places.iter().rev() {
         let class = place.class;

@@ -1,5 +1,6 @@
 // The netlist that labels give to some outputs.
-ghost use Rattle.std.specs.Prelude.{◌≡◌, ◌<◌, ◌^◌, ◌↔◌, ℕ, All, IfOk, IfSome, IsSome, None, Err, length, slice_index_or, MatchOption};
+ghost use Rattle.std.specs.Prelude.{◌≡◌, ◌<◌, ◌^◌, ◌↔◌, ℕ, All, IfOk, IfSome, IsSome, None, Err};
+ghost use Rattle.std.specs.Prelude.{length, slice_index_or, MatchOption};
 ghost use Rattle.lw_bounds.specs.Bounds.{BoundsFit, AreBounds};
 ghost use Rattle.lw_extract.specs.declared.fault.ExtractFault.TheVariants.{NoCover};
 ghost use Rattle.lw_extract.specs.Covers.{AreFit, AreLibraryLabels, IsCoverBy, IsFirstUncovered};

@@ -1,6 +1,8 @@
 -- Facts about lists.
+use Rattle.std.proofs.lemmas.Map.Keys.{IsDistinct-from_apart}
+use Rattle.std.proofs.lemmas.Bool.{false_from_ne_true, false≢true}
 use Rattle.lw_facts.proofs.Numbers.{capped_more, times_ten_spread}
-use Rattle.std.proofs.Common.{All, Bool, Contains, IsTrue, List, None, Option, Some, [], ap, arith, cond, drop, false, get_or, inl, inr, length, map, min, not, refl, replicate, reverse, slice_get, slice_index_or, subst, suc, suc-add, sym, take, true, zero, zero-add, ℕ, ◌&&◌, ◌*◌, ◌++◌, ◌+◌, ◌-◌, ◌<◌, ◌^◌, ◌∙◌, ◌∷◌, ◌≡◌, ◌≤◌, ◌⊎◌}
+use Rattle.std.proofs.Common.{All, Bool, Contains, IsTrue, List, None, Option, Some, [], ap, arith, cond, drop, false, get_or, inl, inr, length, map, min, not, refl, replicate, reverse, slice_get, slice_index_or, subst, suc, suc-add, sym, take, true, zero, zero-add, ℕ, ◌&&◌, ◌*◌, ◌++◌, ◌+◌, ◌-◌, ◌<◌, ◌^◌, ◌∙◌, ◌∷◌, ◌≡◌, ◌≤◌, ◌⊎◌, ap₂, ◌||◌}
 use Rattle.std.proofs.Math.Nat.{pow-succ'}
 use Rattle.std.proofs.lemmas.Bool.Decides.{same_from_decides}
 use Rattle.std.proofs.lemmas.Grind.{common_steps}
@@ -8,13 +10,13 @@ use Rattle.std.proofs.lemmas.Int.Digits.{digits_value_more}
 use Rattle.std.proofs.lemmas.List.{drop-append-le, get_or-map, get_or-reverse, get_or-take, length-drop, length-map, length-reverse, length-take, take-append-le}
 use Rattle.std.proofs.lemmas.List.Elements.{All-take}
 use Rattle.std.proofs.lemmas.List.Sums.{AllPass-from_list_all, list_all-from_AllPass, prefix_len-le-length}
-use Rattle.std.proofs.lemmas.Option.{get_or_from_slice_get, none-some, same_Some, slice_get-get_or, slice_get_within}
+use Rattle.std.proofs.lemmas.Option.{get_or_from_slice_get, none-some, slice_get-get_or, slice_get_within, same_Some}
 use Rattle.std.proofs.lemmas.Slice.Eq.{bytes_eq-Decides}
 use Rattle.std.proofs.lemmas.Str.{digit_value_digit}
 use Rattle.std.specs.Char.{digit_value, is_ascii_digit}
 use Rattle.std.specs.Cmp.Lexicographic.{bytes_decides}
 use Rattle.std.specs.Int.{IsInRange}
-use Rattle.std.specs.List.{AllByRecursion, AllByRecursion as Each, IsDistinct, list_all, position, position_or_len, range_with_len, slice_range}
+use Rattle.std.specs.List.{AllByRecursion, AllByRecursion as Each, IsDistinct, list_all, position, position_or_len, range_with_len, slice_range, list_any}
 use Rattle.std.specs.Prelude.{unwrap_or}
 use Rattle.std.specs.Str.{bytes_eq}
 use Rattle.std.specs.Str.Parse.{digits_value, digits_value_after}
@@ -102,6 +104,10 @@ bytes_eq_is xs ys e = (bytes_eq-Decides xs ys).0 e
 pub bytes_eq_same : (xs ys : List ℕ) → xs ≡ ys → bytes_eq xs ys ≡ true
 bytes_eq_same xs ys e = (bytes_eq-Decides xs ys).1 e
 
+-- what is not equal is told apart
+pub bytes_differ : (x y : List ℕ) → (x ≡ y → ⊥) → bytes_eq x y ≡ false
+bytes_differ x y differ = false_from_ne_true (bytes_eq x y) (λ same. differ (bytes_eq_is x y same))
+
 pub bytes_eq_turned : (x y : List ℕ) → bytes_eq x y ≡ bytes_eq y x
 bytes_eq_turned x y = same_from_decides (bytes_eq x y) (bytes_eq y x) (bytes_decides x y) (let d = bytes_decides y x in (λ e. sym (d.0 e), λ e. d.1 (sym e)))
 
@@ -113,6 +119,43 @@ pub differs_at : (x : List ℕ) (ys : List (List ℕ)) (k : ℕ) (e : List ℕ) 
 differs_at x [] k e all lt = absurd (omega arith)
 differs_at x (y ∷ ys) zero e all lt = all.0
 differs_at x (y ∷ ys) (suc k) e all lt = differs_at x ys k e all.1 (omega arith)
+
+-- a name is none of those before it
+pub none_before : (names : List (List ℕ)) (i : ℕ) (d : List ℕ) → IsDistinct bytes_eq names → i < length names → list_any (bytes_eq (get_or names i d)) (take i names) ≡ false
+unfolding IsDistinct
+none_before [] i d distinct below = absurd (omega arith)
+none_before (x ∷ xs) zero d distinct below = refl
+none_before (x ∷ xs) (suc i) d distinct below =
+    let inside : i < length xs = omega arith in
+    ap₂ (λ a b. a || b) (bytes_differ_turned x (get_or xs i d) (differs_at x xs i d distinct.0 inside)) (none_before xs i d distinct.1 inside)
+
+-- the same, for a list that is given in two parts
+pub none_among : (xs : List (List ℕ)) (x : List ℕ) (rest : List (List ℕ)) → IsDistinct bytes_eq (xs ++ x ∷ rest) → list_any (bytes_eq x) xs ≡ false
+unfolding IsDistinct
+none_among [] x rest d = refl
+none_among (y ∷ xs) x rest d = ap₂ (λ a b. a || b) (bytes_differ_turned y x (middle xs d.0)) (none_among xs x rest d.1)
+  where
+    middle : (zs : List (List ℕ)) → Each (λ z. bytes_eq y z ≡ false) (zs ++ x ∷ rest) → bytes_eq y x ≡ false
+    middle [] each = each.0
+    middle (z ∷ zs) each = middle zs each.1
+
+-- names of which no two are one
+pub distinct_of : (xs : List (List ℕ)) → ((i j : ℕ) (name : List ℕ) → slice_get xs i ≡ Some name → slice_get xs j ≡ Some name → i ≡ j) → IsDistinct bytes_eq xs
+distinct_of xs differ = IsDistinct-from_apart bytes_eq xs (λ i j d before within. bytes_differ (get_or xs i d) (get_or xs j d) (λ same.
+    let one = slice_get-get_or xs i d (omega (arith, before, within)) in
+    let other = slice_get-get_or xs j d within in
+    let is : i ≡ j = differ i j (get_or xs j d) (subst (λ (x : List ℕ). slice_get xs i ≡ Some x) same one) other in
+    omega (arith, is, before)))
+
+-- a new name put at the end
+pub distinct_push : (names : List (List ℕ)) (name : List ℕ) → IsDistinct bytes_eq names → list_any (bytes_eq name) names ≡ false → IsDistinct bytes_eq (names ++ name ∷ [])
+unfolding IsDistinct
+distinct_push [] name distinct is = (tt, tt)
+distinct_push (x ∷ xs) name distinct is = by_test (bytes_eq name x) refl is (distinct_push xs name distinct.1)
+  where
+    by_test : (b : Bool) → bytes_eq name x ≡ b → (b || list_any (bytes_eq name) xs) ≡ false → (list_any (bytes_eq name) xs ≡ false → IsDistinct bytes_eq (xs ++ name ∷ [])) → IsDistinct bytes_eq ((x ∷ xs) ++ name ∷ [])
+    by_test true e now rest = absurd (false≢true (sym now))
+    by_test false e now rest = (all_append_names (λ y. bytes_eq x y ≡ false) xs (name ∷ []) distinct.0 (bytes_differ_turned name x e, tt), rest now)
 
 pub first_position : (x : List ℕ) (xs : List (List ℕ)) → position_or_len (bytes_eq x) (x ∷ xs) ≡ 0
 first_position x xs = grind (arith, bytes_eq_same x x refl)
@@ -142,12 +185,10 @@ get_right (z ∷ xs) ys k x e = rw suc-add (get_right xs ys k x e)
 pub at_contained : {X : Type 0} (xs : List X) (k : ℕ) (x : X) → slice_get xs k ≡ Some x → Contains xs x
 at_contained xs k x e = (k, slice_get_within xs k x e, get_or_from_slice_get xs k x x e)
 
--- an element of a list with one more
-pub get_push_cases : {X : Type 0} (xs : List X) (y : X) (i : ℕ) (x : X) → slice_get (xs ++ y ∷ []) i ≡ Some x → (slice_get xs i ≡ Some x) ⊎ ((i ≡ length xs) × (y ≡ x))
-get_push_cases [] y zero x e = inr (refl, same_Some y x e)
-get_push_cases [] y (suc i) x e = absurd (none-some x e)
-get_push_cases (z ∷ xs) y zero x e = inl e
-get_push_cases (z ∷ xs) y (suc i) x e = elim (get_push_cases xs y i x e) [ inl f ↦ inl f | inr (s, f) ↦ inr (ap suc s, f) ]
+-- what holds of the entry at each place holds of all
+pub all_by_place : {A : Type 0} (P : A → Type 0) (xs : List A) → ((j : ℕ) (x : A) → slice_get xs j ≡ Some x → P x) → AllByRecursion P xs
+all_by_place P [] h = tt
+all_by_place P (x ∷ xs) h = (h zero x refl, all_by_place P xs (λ j. h (suc j)))
 
 -- an element at a place of a list
 pub contained_at : {X : Type 0} (xs : List X) (x : X) → Contains xs x → (k : ℕ) × (slice_get xs k ≡ Some x)
@@ -226,6 +267,7 @@ pub get_last : {X : Type 0} (xs : List X) (x : X) → slice_get (xs ++ x ∷ [])
 get_last [] x = refl
 get_last (z ∷ xs) x = get_last xs x
 
+-- an entry of a list with one more is one of the list, or the last
 pub get_last_cases : {X : Type 0} (xs : List X) (y : X) (b : ℕ) (x : X) → slice_get (xs ++ y ∷ []) b ≡ Some x → (slice_get xs b ≡ Some x) ⊎ ((b ≡ length xs) × (x ≡ y))
 get_last_cases [] y zero x e = inr (refl, cc)
 get_last_cases [] y (suc b) x e = cc
@@ -240,6 +282,17 @@ contained_in_map f [] y (k, lt, e) = absurd (omega arith)
 contained_in_map f (x ∷ xs) y (zero, lt, e) = (x, (0, omega arith, refl), e)
 contained_in_map f (x ∷ xs) y (suc k, lt, e) =
     let (z, (j, l, d), s) = contained_in_map f xs y (k, omega arith, e) in (z, (suc j, omega arith, d), s)
+
+-- an entry of a map
+pub record IsImage {A B : Type 0} (f : A → B) (xs : List A) (j : ℕ) (y : B) : Type 0 where
+  pub from : A
+  pub at : slice_get xs j ≡ Some from
+  pub is : f from ≡ y
+
+pub image_at : {A B : Type 0} (f : A → B) (xs : List A) (j : ℕ) (y : B) → slice_get (map f xs) j ≡ Some y → IsImage f xs j y
+image_at f [] j y e = absurd (none-some y e)
+image_at f (x ∷ xs) zero y e = record { from = x; at = refl; is = same_Some (f x) y e }
+image_at f (x ∷ xs) (suc j) y e = let i = image_at f xs j y e in record { from = i.from; at = i.at; is = i.is }
 
 pub index_at : (xs : List ℕ) (k c : ℕ) → slice_get xs k ≡ Some c → slice_index_or xs k 0 ≡ c
 index_at [] k c e = cc

@@ -16,7 +16,7 @@ module _ {X A : Type 0} (view : X → A) (told : Option (List File)) (before now
   reason Memory c = tt
   reason other c = λ files is. c (bytes_of files)
 
-  comes : (r : Result X FileFault) → Comes view step r → Reads view told before now step r
+  pub comes : (r : Result X FileFault) → Comes view step r → Reads view told before now step r
   comes (Ok x) c = λ files is. c (bytes_of files)
   comes (Err e) c = reason e c
 

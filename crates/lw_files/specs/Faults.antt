@@ -1,7 +1,8 @@
 -- The text and the exit status of each fault of a file.
 use Rattle.std.specs.Prelude.{ℕ, List, ◌++◌, codes, decimal}
 use Rattle.lw_files.specs.declared.fault.FileFault.{FileFault}
-use Rattle.lw_files.specs.declared.fault.FileFault.TheVariants.{Unread, TooLong, Library, Network, Undefined, Cycle, Mapped, Twice, Undriven, NetCycle, Memory}
+use Rattle.lw_files.specs.declared.fault.FileFault.TheVariants.{Unread, TooLong, Library, Network, Undefined, Cycle}
+use Rattle.lw_files.specs.declared.fault.FileFault.TheVariants.{Mapped, Twice, Undriven, NetCycle, Memory}
 use Rattle.lw_files.specs.Kinds.{blif_text, lib_text, mapped_kind_text}
 
 -- a line of a file breaks the rule of this text

@@ -1,5 +1,6 @@
 -- What a call that reads a file answers.
-use Rattle.std.specs.Prelude.{◌≡◌, ◌⊎◌, ℕ, ◌<◌, ◌≤◌, List, ◌++◌, length, Option, Some, Result, Ok, Err, Bool, IsTrue, IfSome, MatchOption, vec_len}
+use Rattle.std.specs.Prelude.{◌≡◌, ◌⊎◌, ℕ, ◌<◌, ◌≤◌, List, ◌++◌, length, Option, Some, Result, Ok, Err, Bool, IsTrue}
+use Rattle.std.specs.Prelude.{IfSome, MatchOption, vec_len}
 use Rattle.std.specs.Global.{Vec}
 use Rattle.std.specs.Option.{ForSome}
 use Rattle.std.specs.Io.KnownBytes.{Consumes, IsAtEnd}
@@ -29,7 +30,9 @@ pub record StaysOpen (told told' : Option (List File)) (before now : ℕ) (open_
 
 -- the text is all that was left of a file, or it is none where that was too long
 pub record IsTextLeft (left : Option (List ℕ)) (text : Option (Vec ℕ)) : Type 0 where
-  pub whole : ForSome left (λ bytes. MatchOption text (most_bytes < length bytes) (λ (v : Vec ℕ). (length bytes ≤ most_bytes) × (v.items ≡ bytes)))
+  pub whole : ForSome left
+      (λ bytes. MatchOption text (most_bytes < length bytes)
+      (λ (v : Vec ℕ). (length bytes ≤ most_bytes) × (v.items ≡ bytes)))
   pub few : IfSome text (λ (v : Vec ℕ). vec_len v ≤ most_bytes)
 
 -- Over known files the step has this outcome.
@@ -38,7 +41,8 @@ Known told step outcome = (files : List File) → told ≡ Some files → step (
 
 -- Why a file is refused: it was not read because the count of faults rose, or because known files lack it.
 abbrev pub HasReason : {A : Type 0} → Option (List File) → ℕ → ℕ → FileStep A → FileFault → Type 0
-HasReason told before now step Unread = Rose before now ⊎ ((files : List File) × (told ≡ Some files) × step (bytes_of files) (Err Unread))
+HasReason told before now step Unread =
+    Rose before now ⊎ ((files : List File) × (told ≡ Some files) × step (bytes_of files) (Err Unread))
 -- running out of memory needs no reason
 HasReason told before now step Memory = Unit {0}
 HasReason told before now step other = Known told step (Err other)
@@ -49,13 +53,14 @@ Reads view told before now step (Ok x) = Known told step (Ok (view x))
 Reads view told before now step (Err e) = HasReason told before now step e
 
 -- A call that reads one file: what it answers is what the step says. The files stay.
-pub record ReadsFile {X A : Type 0} (view : X → A) {F : Type 0} (told : F → Option (List File)) (faults : F → ℕ) (old new : F) (step : FileStep A) (result : Result X FileFault) : Type 0 where
+pub record ReadsFile {X A : Type 0} (view : X → A) {F : Type 0} (told : F → Option (List File)) (faults : F → ℕ)
+    (old new : F) (step : FileStep A) (result : Result X FileFault) : Type 0 where
   pub files : told new ≡ told old
   pub later : faults old ≤ faults new
   pub reads : Reads view (told old) (faults old) (faults new) step result
 
--- What a text says is what the step says, whatever the files; running out of memory needs no reason, and it is no fault of the text that its
--- file was not read or is too long.
+-- What a text says is what the step says, whatever the files; running out of memory needs no reason, and it is no fault
+-- of the text that its file was not read or is too long.
 abbrev pub Comes : {X A : Type 0} → (X → A) → FileStep A → Result X FileFault → Type 0
 Comes view step (Ok x) = (files : Files) → step files (Ok (view x))
 Comes view step (Err Memory) = Unit {0}

@@ -1,5 +1,6 @@
 -- What a file says: its text, and what the text means or why it means nothing.
-use Rattle.std.specs.Prelude.{◌≡◌, ℕ, true, false, nat_le, List, length, Option, Some, None, Result, Ok, Err, if◌then◌else◌}
+use Rattle.std.specs.Prelude.{◌≡◌, ℕ, true, false, nat_le, List, length, Option, Some, None, Result, Ok, Err}
+use Rattle.std.specs.Prelude.{if◌then◌else◌}
 use Rattle.lw_words.specs.Limits.{most_bytes}
 use Rattle.lw_words.specs.Lines.{LogicalLine, logical_lines}
 use Rattle.lw_genlib.specs.declared.fault.LibFault.TheVariants as lib_fault
@@ -14,7 +15,8 @@ use Rattle.lw_mapped.specs.declared.closing.Mapped.{Mapped as MappedParts}
 use Rattle.lw_mapped.specs.declared.fault.MappedFault.TheVariants as mapped_fault
 use Rattle.lw_mapped.specs.Unmapped.{IsUnmapped}
 use Rattle.lw_files.specs.declared.fault.FileFault.{FileFault}
-use Rattle.lw_files.specs.declared.fault.FileFault.TheVariants.{Unread, TooLong, Library, Network, Undefined, Cycle, Mapped, Twice, Undriven, NetCycle}
+use Rattle.lw_files.specs.declared.fault.FileFault.TheVariants.{Unread, TooLong, Library, Network, Undefined, Cycle}
+use Rattle.lw_files.specs.declared.fault.FileFault.TheVariants.{Mapped, Twice, Undriven, NetCycle}
 use Rattle.lw_files.specs.Steps.{Files, StepTo, gives, followed_by}
 
 -- a step that reads a file
@@ -44,7 +46,8 @@ HasCells bytes files (Ok cells) = library_of (lines_in bytes) ≡ Ok cells
 HasCells bytes files (Err (Library line kind)) = library_of (lines_in bytes) ≡ Err (lib_fault.Line line kind)
 HasCells bytes files (Err other) = ⊥
 
--- The model of the text, or the first line that breaks a rule, or else the signal that nothing drives or that reaches itself.
+-- The model of the text, or the first line that breaks a rule, or else the signal that nothing drives or that reaches
+-- itself.
 abbrev pub HasModel : List ℕ → FileStep Parsed
 HasModel bytes files (Ok model) = IsBlifNetwork (lines_in bytes) (Ok model)
 HasModel bytes files (Err (Network line kind)) = IsBlifNetwork (lines_in bytes) (Err (fault.Line line kind))
@@ -52,14 +55,18 @@ HasModel bytes files (Err (Undefined name)) = IsBlifNetwork (lines_in bytes) (Er
 HasModel bytes files (Err (Cycle name)) = IsBlifNetwork (lines_in bytes) (Err (fault.Whole (whole.Cycle name)))
 HasModel bytes files (Err other) = ⊥
 
--- The netlist of the text by these cells, with what stands around it and its certificate, or the first line that breaks a rule, or else
--- the fault of the netlist as a whole.
+-- The netlist of the text by these cells, with what stands around it and its certificate, or the first line that breaks
+-- a rule, or else the fault of the netlist as a whole.
 abbrev pub HasMapped : List CellParts → List ℕ → FileStep MappedParts
 HasMapped cells bytes files (Ok mapped) = IsUnmapped cells (marked_lines_in bytes) (Ok mapped)
-HasMapped cells bytes files (Err (Mapped line kind)) = IsUnmapped cells (marked_lines_in bytes) (Err (mapped_fault.Line line kind))
-HasMapped cells bytes files (Err (Twice name)) = IsUnmapped cells (marked_lines_in bytes) (Err (mapped_fault.Whole (netlist.Twice name)))
-HasMapped cells bytes files (Err (Undriven name)) = IsUnmapped cells (marked_lines_in bytes) (Err (mapped_fault.Whole (netlist.Undriven name)))
-HasMapped cells bytes files (Err (NetCycle name)) = IsUnmapped cells (marked_lines_in bytes) (Err (mapped_fault.Whole (netlist.Cycle name)))
+HasMapped cells bytes files (Err (Mapped line kind)) =
+    IsUnmapped cells (marked_lines_in bytes) (Err (mapped_fault.Line line kind))
+HasMapped cells bytes files (Err (Twice name)) =
+    IsUnmapped cells (marked_lines_in bytes) (Err (mapped_fault.Whole (netlist.Twice name)))
+HasMapped cells bytes files (Err (Undriven name)) =
+    IsUnmapped cells (marked_lines_in bytes) (Err (mapped_fault.Whole (netlist.Undriven name)))
+HasMapped cells bytes files (Err (NetCycle name)) =
+    IsUnmapped cells (marked_lines_in bytes) (Err (mapped_fault.Whole (netlist.Cycle name)))
 HasMapped cells bytes files (Err other) = ⊥
 
 abbrev pub ReadsLibrary : List ℕ → FileStep (List CellParts)

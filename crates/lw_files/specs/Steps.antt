@@ -15,4 +15,5 @@ gives f files r = f files ≡ r
 
 -- A step and then the next one: the first hands a value on, or it refuses.
 abbrev pub followed_by : {E A B : Type 0} → StepTo E A → (A → StepTo E B) → StepTo E B
-followed_by {E} {A} first next files r = ((x : A) × first files (Ok x) × next x files r) ⊎ ((e : E) × first files (Err e) × (Err e ≡ r))
+followed_by {E} {A} first next files r =
+    ((x : A) × first files (Ok x) × next x files r) ⊎ ((e : E) × first files (Err e) × (Err e ≡ r))

@@ -21,6 +21,9 @@
 //!   one;
 //! * piece: some bytes of a text, at most 4096 where it is read or cut into lines;
 //! * put: to write through a `Writer`, which keeps a failure of its sink until its end.
+//!
+//! The one definition to read is `Reads` in `specs/Reading.antt`. `lw_top` and `lw_equal_top` call
+//! these.
 #![tactic(auto)]
 
 mod fault;

@@ -3,7 +3,8 @@ ghost use Rattle.std.specs.Prelude.{◌≡◌, ◌≤◌, length, IfOk, IfErr, I
 ghost use Rattle.lw_io.specs.Causes.{Rose};
 ghost use Rattle.lw_files.specs.Steps.{gives};
 ghost use Rattle.lw_files.specs.Sources.{text_of};
-ghost use Rattle.lw_files.specs.declared.reading.ReadError.TheVariants.{Failed as ReadFailed, Memory as OutOfMemory};
+ghost use Rattle.lw_files.specs.declared.reading.ReadError.TheVariants.{Failed as ReadFailed};
+ghost use Rattle.lw_files.specs.declared.reading.ReadError.TheVariants.{Memory as OutOfMemory};
 ghost use Rattle.lw_files.specs.Reading.{ReadsPiece, StaysOpen, IsTextLeft, ReadsFile};
 
 use crate::FileFault;

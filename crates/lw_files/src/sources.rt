@@ -1,7 +1,8 @@
 // What files say.
 ghost use Rattle.std.specs.Prelude.{◌≤◌, length, IfOk};
 ghost use Rattle.lw_blif.specs.BlifNetworks.{IsModel};
-ghost use Rattle.lw_files.specs.Sources.{HasCells, HasModel, HasMapped, ReadsLibrary, ReadsModel, ReadsMapped};
+ghost use Rattle.lw_files.specs.Sources.{HasCells, HasModel, HasMapped, ReadsLibrary, ReadsModel};
+ghost use Rattle.lw_files.specs.Sources.{ReadsMapped};
 ghost use Rattle.lw_files.specs.Reading.{Comes, ReadsFile};
 ghost use Rattle.lw_files.specs.Read.{IsReadNetlist};
 ghost use Rattle.lw_words.specs.Limits.{most_bytes};

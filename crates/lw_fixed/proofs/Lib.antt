@@ -2,7 +2,8 @@ mod Values
 mod Points
 mod Verdicts
 mod Zeros
+pub mod Numerals
 pub mod Shapes
-mod Six
+pub mod Six
 mod Written
 pub mod Texts

@@ -1,5 +1,5 @@
 -- Six decimals, and what is left of them without zeros at their end.
-use Rattle.std.proofs.Common.{ℕ, ◌+◌, ◌-◌, ◌*◌, ◌^◌, ◌<◌, ◌≤◌, ◌≡◌, true, List, [], ◌∷◌, length, drop, sym, ap, ◌∙◌, arith, rules}
+use Rattle.std.proofs.Common.{ℕ, ◌+◌, ◌-◌, ◌*◌, ◌^◌, ◌<◌, ◌≤◌, ◌≡◌, true, List, [], ◌∷◌, length, drop, sym, ap, ◌∙◌, arith, rules, ◌++◌, ◌&&◌, take, replicate}
 use Rattle.std.specs.Prelude.{decimal}
 use Rattle.std.specs.List.{list_all}
 use Rattle.std.specs.Char.{is_ascii_digit, digit_value}
@@ -9,7 +9,10 @@ use Rattle.std.proofs.lemmas.Str.{digit_value_digit}
 use Rattle.std.proofs.lemmas.Str.Parse.{IsNumeralModel, numerals_by_value, digits_value_short}
 use Rattle.std.proofs.lemmas.Fmt.{length-decimal-le, digits_decimal, digits_value-decimal}
 use Rattle.std.proofs.lemmas.Bool.Decides.{nat_tests}
-use Rattle.lw_facts.proofs.Lists.{digits_value_split, digit_at}
+use Rattle.std.proofs.lemmas.List.{length-take}
+use Rattle.std.proofs.lemmas.List.Folds.{list_all-append}
+use Rattle.lw_fixed.specs.Decimals.{value_of_decimals}
+use Rattle.lw_facts.proofs.Lists.{digits_value_split, digit_at, digits_take}
 use Rattle.lw_fixed.specs.Printed.{six_decimals}
 
 -- digits and their value, in this crate's words
@@ -59,3 +62,10 @@ module _ (r : ℕ) (below : r < 1000000) where
 
   pub six_decimals_are : IsSix (six_decimals r)
   six_decimals_are = six_of (decimal (1000000 + r)) seven digits value
+
+-- what stands behind a point is less than a unit
+pub below_one : (part : List ℕ) → list_all is_ascii_digit part ≡ true → value_of_decimals part < 1000000
+unfolding value_of_decimals
+below_one part all =
+    let padded : list_all is_ascii_digit (part ++ replicate 6 48) ≡ true = list_all-append is_ascii_digit part (replicate 6 48) ∙ ap (λ b. b && true) all in
+    digits_value_short own (take 6 (part ++ replicate 6 48)) 6 (digits_take 6 (part ++ replicate 6 48) padded) (omega (arith, length-take 6 (part ++ replicate 6 48)))

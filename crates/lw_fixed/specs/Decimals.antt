@@ -1,5 +1,6 @@
 -- What a text means as a decimal: a number of millionths, or the first rule that it breaks.
-use Rattle.std.specs.Prelude.{ℕ, ◌+◌, ◌*◌, ◌^◌, Bool, not, ◌&&◌, ◌||◌, ◌==◌, nat_lt, nat_le, nat_eq, List, [], ◌∷◌, ◌++◌, length, take, drop, replicate, Result, Ok, Err, if◌then◌else◌, codes}
+use Rattle.std.specs.Prelude.{ℕ, ◌+◌, ◌*◌, ◌^◌, Bool, not, ◌&&◌, ◌||◌, ◌==◌, nat_lt, nat_le, nat_eq, List, [], ◌∷◌}
+use Rattle.std.specs.Prelude.{◌++◌, length, take, drop, replicate, Result, Ok, Err, if◌then◌else◌, codes}
 use Rattle.std.specs.List.{before_first, after_first, list_all, list_any, starts_with}
 use Rattle.std.specs.Char.{is_ascii_digit}
 use Rattle.std.specs.Str.Parse.{digits_value}
@@ -39,7 +40,8 @@ decimals text = after_first is_point (without_sign text)
 
 -- digits alone, one at least
 abbrev pub has_digits : List ℕ → List ℕ → Bool
-has_digits whole part = list_all is_ascii_digit whole && list_all is_ascii_digit part && nat_lt 0 (length whole + length part)
+has_digits whole part =
+    list_all is_ascii_digit whole && list_all is_ascii_digit part && nat_lt 0 (length whole + length part)
 
 abbrev pub is_decimal : List ℕ → Bool
 is_decimal text = has_digits (whole_part text) (decimals text)

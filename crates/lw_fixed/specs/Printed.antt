@@ -1,5 +1,6 @@
 -- The one text that is printed for a number of millionths.
-use Rattle.std.specs.Prelude.{ℕ, ◌+◌, ◌-◌, ◌/◌, ◌%◌, ◌<◌, ◌≡◌, ◌≢◌, ◌==◌, IsTrue, List, [], ◌∷◌, ◌++◌, length, take, drop, decimal, slice_index}
+use Rattle.std.specs.Prelude.{ℕ, ◌+◌, ◌-◌, ◌/◌, ◌%◌, ◌<◌, ◌≡◌, ◌≢◌, ◌==◌, IsTrue, List, [], ◌∷◌, ◌++◌, length, take}
+use Rattle.std.specs.Prelude.{drop, decimal, slice_index}
 use Rattle.std.specs.List.{suffix_len, list_all}
 use Rattle.std.specs.Char.{is_ascii_digit}
 use Rattle.lw_fixed.specs.Decimals.{one_unit}

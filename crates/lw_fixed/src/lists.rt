@@ -26,6 +26,7 @@ impl Micros {
         Micros { items }
     }
 
+    /// The times, in order.
     pub fn as_slice(&self) -> &[Micro]
         ensures { result.now ≡ self.now }
     {

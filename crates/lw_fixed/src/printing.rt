@@ -1,4 +1,5 @@
-ghost use Rattle.std.specs.Prelude.{◌≡◌, ◌≤◌, ◌+◌, ◌-◌, ◌/◌, ◌%◌, ◌==◌, ◌∷◌, ◌++◌, take, drop, length, decimal};
+ghost use Rattle.std.specs.Prelude.{◌≡◌, ◌≤◌, ◌+◌, ◌-◌, ◌/◌, ◌%◌, ◌==◌, ◌∷◌, ◌++◌, take, drop};
+ghost use Rattle.std.specs.Prelude.{length, decimal};
 ghost use Rattle.std.specs.List.{suffix_len};
 ghost use Rattle.lw_fixed.specs.Decimals.{one_unit};
 ghost use Rattle.lw_fixed.specs.Printed.{decimal_text, six_decimals};

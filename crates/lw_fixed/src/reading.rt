@@ -1,6 +1,7 @@
 ghost use Rattle.std.specs.Prelude.{◌≡◌, ◌≤◌, ◌<◌, ◌*◌, ◌&&◌, nat_lt, length, IfOk};
 ghost use Rattle.std.specs.List.{before_first, after_first, position, position_or_len};
-ghost use Rattle.lw_fixed.specs.Decimals.{one_unit, most_units, decimal_of, is_negative, without_sign, is_point};
+ghost use Rattle.lw_fixed.specs.Decimals.{one_unit, most_units, decimal_of, is_negative};
+ghost use Rattle.lw_fixed.specs.Decimals.{without_sign, is_point};
 
 use crate::digits::{capped_value, has_digits, is_finer, value_of_decimals};
 use crate::micro::UNIT;

@@ -1,10 +1,10 @@
 -- The And of forms that are not true, differ and don't clash.
-use Rattle.std.proofs.Common.{◌≡◌, ◌+◌, ◌*◌, ◌<◌, ◌≤◌, ℕ, zero, suc, Bool, true, false, leb, List, [], ◌∷◌, length, map, take, drop, refl, ap, sym, ◌∙◌, arith, leb-true, leb-false, length-drop}
+use Rattle.std.proofs.Common.{◌≡◌, ◌<◌, ◌≤◌, ℕ, zero, suc, Bool, true, false, leb, List, [], ◌∷◌, length, map, take, drop, refl, ap, sym, ◌∙◌, arith, leb-true, leb-false, length-drop}
 use Rattle.std.proofs.lemmas.Bool.{le-leb}
 use Rattle.std.proofs.lemmas.List.{length-map}
 use Rattle.lw_laws.specs.Forms.{Form, and_of, kept, has_clash, runs, runs_within, joined, joined_many, conjunction}
 use Rattle.lw_laws.specs.Forms.Form.{true_form, not_form}
-use Rattle.lw_laws.proofs.Normal.{conjunction_step, kept_are_distinct, take_sub, drop_sub}
+use Rattle.lw_laws.proofs.Normal.{conjunction_step, kept_are_distinct, take_sub, drop_sub, run_count}
 use Rattle.lw_laws.proofs.Sublists.{distinct_sub, clash_sub, kept_distinct}
 use Rattle.lw_form.specs.Conjunctions.{AreClean}
 
@@ -81,15 +81,5 @@ module _ (width : ℕ) (wide : 2 ≤ width) where
       not_leb true e = let le = leb-true (length (f ∷ fs)) width e in absurd (omega arith)
       not_leb false e = refl
 
-  run_count : (n : ℕ) (fs : List Form) → 2 * length (runs_within n width fs) ≤ length fs + 2
-  run_count zero fs = omega arith
-  run_count (suc n) fs = by_test (leb (length fs) width) refl (run_count n (drop width fs)) where
-    by_test : (t : Bool) → leb (length fs) width ≡ t → 2 * length (runs_within n width (drop width fs)) ≤ length (drop width fs) + 2 → 2 * length (elim t as (λ x. List (List Form)) [ true ↦ fs ∷ [] | false ↦ take width fs ∷ runs_within n width (drop width fs) ]) ≤ length fs + 2
-    by_test true s ih = omega arith
-    by_test false s ih =
-        let more = leb-false (length fs) width s in
-        let left = length-drop width fs in
-        omega arith
-
   pub fewer_runs : (fs : List Form) → width < length fs → length (map (conjunction width) (runs width fs)) < length fs
-  fewer_runs fs lt = let e = length-map (runs width fs) (conjunction width) in let c = run_count (length fs) fs in omega arith
+  fewer_runs fs lt = let e = length-map (runs width fs) (conjunction width) in let c = run_count width wide (length fs) fs in omega arith

@@ -2,7 +2,7 @@
 use Rattle.std.proofs.Common.{◌≡◌, ◌≢◌, ◌+◌, ◌*◌, ◌/◌, ◌<◌, ◌≤◌, ◌⊎◌, inl, inr, ℕ, zero, suc, Bool, true, false, List, [], ◌∷◌, ◌++◌, length, map, Option, Some, slice_get, refl, ap, ap₂, sym, ◌∙◌, subst, arith}
 use Rattle.std.specs.List.{AllByRecursion, list_any}
 use Rattle.std.proofs.lemmas.List.{length-map}
-use Rattle.std.proofs.lemmas.Bool.{or_parts, or_from}
+use Rattle.std.proofs.lemmas.Bool.{or_parts, or_from, both_ways}
 use Rattle.lw_pool.specs.Numbers.{most_signals}
 use Rattle.lw_laws.specs.Networks.{Node, Network, IsInOrder, AreValues}
 use Rattle.lw_laws.specs.Forms.{Form, FormList, items, form_list, same_form, is_among, complement, form_value}
@@ -22,7 +22,7 @@ use Rattle.lw_laws.proofs.Equality.{same_form_refl, form_list-items}
 use Rattle.lw_laws.proofs.FormTruth.{signals_agree}
 use Rattle.lw_laws.proofs.Listed.{occurring_is_listing, true_and_inputs_first}
 use Rattle.lw_laws.proofs.Lists.{slice_get_some}
-use Rattle.lw_laws.proofs.Numbers.{slice_get_map, slice_get_map_back, number_is, number_of, numbers_injective, sign_two}
+use Rattle.lw_laws.proofs.Numbers.{slice_get_map, slice_get_map_back, number_is, number_of, numbers_injective, sign_two, occurs_sign}
 use Rattle.lw_laws.proofs.NumberValues.{numbers_have_values, value_of_number}
 use Rattle.lw_laws.proofs.NetValues.{sops_are_values}
 use Rattle.lw_form.specs.Kept.{HaveValues, AreApart, AreAndOperands, AreInOrder, AreForms}
@@ -48,10 +48,6 @@ form_decided (and_form fs) true_form z e = cc
 form_decided (and_form fs) (not_form h) z e = inr (ap not_form (sym e))
 form_decided (and_form fs) (and_form hs) z e = inl e
 
-not_both : (t : Bool) → t ≡ true → t ≡ false → ⊥
-not_both true p q = cc
-not_both false p q = cc
-
 module _ (o : Listing) (is : IsListing o) where
   abbrev N : Form → ℕ
   N f = number o.bases f
@@ -69,19 +65,16 @@ module _ (o : Listing) (is : IsListing o) where
       inside : (x : Option Form) (f h : Form) → x ≡ Some f → x ≡ Some h → f ≡ h
       inside x f h d e = cc
 
-  base_sign_of : (f : Form) → IsListed o f → sign_of (base_form f) ≡ 0
-  base_sign_of f (b, e) = is.signs b (base_form f) e
-
   apart_one : (f : Form) (fs : List Form) → IsListed o f → AllByRecursion (IsListed o) fs → is_among f fs ≡ false → is_among (complement f) fs ≡ false → AllByRecursion (λ h. N f / 2 ≢ h / 2) (map N fs)
   apart_one f [] of a nf nc = tt
   apart_one f (h ∷ fs) of (oh, a) nf nc =
       let p = or_parts (same_form f h) (is_among f fs) nf in
       let q = or_parts (same_form (complement f) h) (is_among (complement f) fs) nc in
-      (λ same. absurd (differ p.0 q.0 (form_decided f h (base_sign_of f of) (one_base f h of oh same))), apart_one f fs of a p.1 q.1)
+      (λ same. absurd (differ p.0 q.0 (form_decided f h (occurs_sign o is f of) (one_base f h of oh same))), apart_one f fs of a p.1 q.1)
     where
       differ : same_form f h ≡ false → same_form (complement f) h ≡ false → (f ≡ h) ⊎ (h ≡ complement f) → ⊥
-      differ p q (inl e) = not_both (same_form f h) (subst (λ g. same_form f g ≡ true) e (same_form_refl f)) p
-      differ p q (inr e) = not_both (same_form (complement f) h) (subst (λ g. same_form (complement f) g ≡ true) (sym e) (same_form_refl (complement f))) q
+      differ p q (inl e) = both_ways (same_form f h) p (subst (λ g. same_form f g ≡ true) e (same_form_refl f))
+      differ p q (inr e) = both_ways (same_form (complement f) h) q (subst (λ g. same_form (complement f) g ≡ true) (sym e) (same_form_refl (complement f)))
 
   -- the place 0 is that of true
   not_true : (f : Form) → IsListed o f → slice_get o.bases 0 ≡ Some true_form → same_form f true_form ≡ false → same_form (not_form true_form) f ≡ false → 0 < N f / 2
@@ -93,8 +86,8 @@ module _ (o : Listing) (is : IsListing o) where
         absurd (which (form_decided true_form f refl (sym (one_base f true_form of (0, first) (e ∙ sym t)))))
       where
         which : (true_form ≡ f) ⊎ (f ≡ complement true_form) → ⊥
-        which (inl s) = not_both (same_form f true_form) (subst (λ g. same_form g true_form ≡ true) s refl) nt
-        which (inr s) = not_both (same_form (not_form true_form) f) (subst (λ g. same_form (not_form true_form) g ≡ true) (sym s) refl) nn
+        which (inl s) = both_ways (same_form f true_form) nt (subst (λ g. same_form g true_form ≡ true) s refl)
+        which (inr s) = both_ways (same_form (not_form true_form) f) nn (subst (λ g. same_form (not_form true_form) g ≡ true) (sym s) refl)
 
   clash_later : (f : Form) (all fs : List Form) → list_any (λ g. is_among (complement g) all) (f ∷ fs) ≡ false → is_among (complement f) all ≡ false
   clash_later f all fs e = (or_parts (is_among (complement f) all) (list_any (λ g. is_among (complement g) all) fs) e).0

@@ -4,6 +4,7 @@ pub mod FactoringSteps
 pub mod Finished
 pub mod Joining
 pub mod KeptForms
+pub mod LinkedForms
 pub mod ListedForms
 pub mod Numbers
 pub mod Parts

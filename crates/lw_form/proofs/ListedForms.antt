@@ -2,7 +2,7 @@
 use Rattle.std.proofs.Common.{◌≡◌, ◌≢◌, ◌+◌, ◌-◌, ◌*◌, ◌/◌, ◌%◌, ◌^◌, ◌==◌, ◌<◌, ◌≤◌, ◌⊎◌, inl, inr, ℕ, zero, suc, Bool, true, false, cond, leb, leb-true, pow-suc, if◌then◌else◌, List, [], ◌∷◌, ◌++◌, length, map, drop, replicate, Some, Result, Ok, Err, IfErr, slice_get, get_or, refl, ap, ap₂, sym, ◌∙◌, subst, arith}
 use Rattle.std.specs.List.{AllByRecursion}
 use Rattle.std.specs.Result.{IsErrAnd}
-use Rattle.std.proofs.lemmas.Bool.{le-leb}
+use Rattle.std.proofs.lemmas.Bool.{le-leb, cases_eq}
 use Rattle.std.proofs.lemmas.List.{length-map, map-append, get_or_append_left, at_drop_more, drop_all, length_push}
 use Rattle.std.proofs.lemmas.Option.{slice_get-get_or, get_or_from_slice_get, slice_get_within}
 use Rattle.lw_facts.proofs.Lists.{drop_get, all_front, all_last, get_left, get_last, get_last_cases}
@@ -82,18 +82,9 @@ module _ (forms : List Form) (listed places new_listed new_places : List ℕ) (b
   put_listed = subst (λ l. IsListed forms l new_places) (sym grown) (record {
     within = λ k x e. within k x (get_last_cases listed b k x e);
     placed = λ k x e. placed k x (get_last_cases listed b k x e);
-    back = λ x ne. back x ne (same_or x b);
+    back = λ x ne. back x ne (cases_eq x b);
     few = let l = length_push listed b in omega arith;
   }) where
-    same_or : (x y : ℕ) → (x ≡ y) ⊎ (x ≢ y)
-    same_or zero zero = inl refl
-    same_or zero (suc y) = inr (λ e. absurd (omega arith))
-    same_or (suc x) zero = inr (λ e. absurd (omega arith))
-    same_or (suc x) (suc y) = next (same_or x y) where
-      next : (x ≡ y) ⊎ (x ≢ y) → (suc x ≡ suc y) ⊎ (suc x ≢ suc y)
-      next (inl e) = inl (ap suc e)
-      next (inr ne) = inr (λ e. ne (omega arith))
-
     within : (k x : ℕ) → (slice_get listed k ≡ Some x) ⊎ ((k ≡ length listed) × (x ≡ b)) → x < length forms
     within k x (inl e) = is.within k x e
     within k x (inr (e, s)) = let l = lt in omega arith

@@ -29,11 +29,11 @@ picked_none old new ids goal i rest below ne is so_far =
     ap (λ l. l ++ picked (drop (i + 1) ids) (rest / 2)) is ∙ (picked_next old ids i rest below 0 e ∙ so_far)
 
 -- the operands whose bits are not set
-abbrev unpicked : List ℕ → ℕ → List ℕ
+abbrev pub unpicked : List ℕ → ℕ → List ℕ
 unpicked [] mask = []
 unpicked (f ∷ fs) mask = if mask % 2 == 1 then unpicked fs (mask / 2) else f ∷ unpicked fs (mask / 2)
 
-cut_by : (fs : List ℕ) (mask : ℕ) → IsCut fs (picked fs mask) (unpicked fs mask)
+pub cut_by : (fs : List ℕ) (mask : ℕ) → IsCut fs (picked fs mask) (unpicked fs mask)
 cut_by [] mask = cut_none
 cut_by (f ∷ fs) mask = by_test (mask % 2 == 1) (cut_by fs (mask / 2)) where
   by_test : (t : Bool) → IsCut fs (picked fs (mask / 2)) (unpicked fs (mask / 2)) → IsCut (f ∷ fs) (if t then f ∷ picked fs (mask / 2) else picked fs (mask / 2)) (if t then unpicked fs (mask / 2) else f ∷ unpicked fs (mask / 2))

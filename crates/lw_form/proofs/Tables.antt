@@ -5,7 +5,7 @@ use Rattle.std.specs.Str.{bytes_eq}
 use Rattle.std.proofs.lemmas.List.{get_or_append_left, length_push}
 use Rattle.std.proofs.lemmas.Option.{slice_get-get_or, slice_get_within}
 use Rattle.std.proofs.lemmas.Slice.Eq.{bytes_eq-Decides}
-use Rattle.std.proofs.lemmas.Bool.{or_right}
+use Rattle.std.proofs.lemmas.Bool.{or_right, both_ways}
 use Rattle.lw_facts.proofs.Lists.{get_left, get_last, get_last_cases}
 use Rattle.lw_facts.proofs.Tests.{same_tests}
 use Rattle.indexmap.specs.IndexSet.{insert_key}
@@ -261,10 +261,7 @@ one_made forms f are lt z new = record {
   sign b g (inr (e, s)) = ap sign_of s ∙ z
 
   other : (b : ℕ) (g : Form) → slice_get forms b ≡ Some g → g ≡ f → ⊥
-  other b g e s = both (is_among f forms) (place_among f forms b (e ∙ ap Some s)) new where
-    both : (t : Bool) → t ≡ true → t ≡ false → ⊥
-    both true p q = cc
-    both false p q = cc
+  other b g e s = both_ways (is_among f forms) new (place_among f forms b (e ∙ ap Some s))
 
   place : (a b : ℕ) (g : Form) → (slice_get forms a ≡ Some g) ⊎ ((a ≡ length forms) × (g ≡ f)) → (slice_get forms b ≡ Some g) ⊎ ((b ≡ length forms) × (g ≡ f)) → a ≡ b
   place a b g (inl d) (inl e) = are.once a b g d e

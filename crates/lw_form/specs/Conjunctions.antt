@@ -24,7 +24,8 @@ numbers_clash fs = list_any (λ h. 1 == h) fs || list_any (λ f. list_any (λ h.
 -- What one step of an And makes: its number, or fewer forms with the same And.
 abbrev pub IsStep : ℕ → Table → Table → List ℕ → Step → Type 0
 IsStep width old new forms (Done form) = IsMadeAs old new form (conjunction width (forms_at (made old) forms))
-IsStep width old new forms (Again groups) = (fs : List Form) × AreMadeAs old new groups.items fs × (conjunction width fs ≡ conjunction width (forms_at (made old) forms)) × (length groups.items < length forms)
+IsStep width old new forms (Again groups) = (fs : List Form) × AreMadeAs old new groups.items fs
+    × (conjunction width fs ≡ conjunction width (forms_at (made old) forms)) × (length groups.items < length forms)
 
 -- no form is true, or stands twice, or with its complement
 pub record AreClean (fs : List Form) : Type 0 where

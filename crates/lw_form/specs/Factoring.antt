@@ -1,5 +1,6 @@
 -- The tasks of factoring some rows, without recursion.
-use Rattle.std.specs.Prelude.{ℕ, ◌+◌, ◌*◌, ◌/◌, ◌<◌, ◌≤◌, ◌≡◌, Bool, Option, Some, None, List, [], ◌∷◌, ◌++◌, map, length}
+use Rattle.std.specs.Prelude.{ℕ, ◌+◌, ◌*◌, ◌/◌, ◌<◌, ◌≤◌, ◌≡◌, Bool, Option, Some, None, List, [], ◌∷◌, ◌++◌, map}
+use Rattle.std.specs.Prelude.{length}
 use Rattle.std.specs.List.{AllByRecursion}
 use Rattle.lw_laws.specs.Forms.{Form, conjunction, disjunction}
 use Rattle.lw_laws.specs.Signals as laws
@@ -40,7 +41,8 @@ outcome width fs [] done = done
 outcome width fs (factor_rows rows ∷ tasks) done = outcome width fs tasks (factored width fs rows ∷ done)
 outcome width fs (join_under l ∷ tasks) [] = []
 outcome width fs (join_under l ∷ tasks) (r ∷ []) = []
-outcome width fs (join_under l ∷ tasks) (r ∷ q ∷ done) = outcome width fs tasks (disjunction width (conjunction width (l ∷ q ∷ []) ∷ r ∷ []) ∷ done)
+outcome width fs (join_under l ∷ tasks) (r ∷ q ∷ done) =
+    outcome width fs tasks (disjunction width (conjunction width (l ∷ q ∷ []) ∷ r ∷ []) ∷ done)
 
 -- rows have a sign for each fan-in, and forms were made
 abbrev pub TaskFits : ℕ → ℕ → Task → Type 0
@@ -48,7 +50,8 @@ TaskFits count columns (Factor rows) = HaveColumns columns rows.items
 TaskFits count columns (Join l) = l / 2 < count
 
 -- The tasks lead to these forms.
-pub record IsWorking (width : ℕ) (fs : List Form) (fanins : List ℕ) (now : Table) (tasks : List Task) (done : List ℕ) (goal : List Form) : Type 0 where
+pub record IsWorking (width : ℕ) (fs : List Form) (fanins : List ℕ) (now : Table) (tasks : List Task) (done : List ℕ)
+    (goal : List Form) : Type 0 where
   pub fanins_below : AreBelow (length (made now)) fanins
   pub fanins_are : forms_at (made now) fanins ≡ fs
   pub done_below : AreBelow (length (made now)) done
@@ -75,7 +78,9 @@ weights (t ∷ tasks) = weight t + weights tasks
 
 -- the task is done: the tasks lead to the same forms, and less is left to do
 pub record DoesTask (of : Fanins) (old new : Table) (before after : Work) (task : Task) : Type 0 where
-  pub working : (fs goal : List Form) → IsWorking of.maker.now.width fs of.forms.now old (before.tasks.items ++ task ∷ []) before.done.items goal → IsWorking of.maker.now.width fs of.forms.now new after.tasks.items after.done.items goal
+  pub working : (fs goal : List Form) → IsWorking of.maker.now.width fs of.forms.now old
+      (before.tasks.items ++ task ∷ []) before.done.items goal
+      → IsWorking of.maker.now.width fs of.forms.now new after.tasks.items after.done.items goal
   pub less : weights after.tasks.items < weights before.tasks.items + weight task
   pub more : HasMore (made old) (made new)
 
@@ -87,6 +92,8 @@ pub record CanJoin (table : Table) (l : ℕ) (done : List ℕ) : Type 0 where
 
 -- they are joined, whatever the fan-ins
 pub record Joins (width : ℕ) (old new : Table) (before after : Work) (literal : ℕ) : Type 0 where
-  pub working : (fanins : List ℕ) (fs goal : List Form) → IsWorking width fs fanins old (before.tasks.items ++ Join literal ∷ []) before.done.items goal → IsWorking width fs fanins new after.tasks.items after.done.items goal
+  pub working : (fanins : List ℕ) (fs goal : List Form)
+      → IsWorking width fs fanins old (before.tasks.items ++ Join literal ∷ []) before.done.items goal
+      → IsWorking width fs fanins new after.tasks.items after.done.items goal
   pub same : weights after.tasks.items ≡ weights before.tasks.items
   pub more : HasMore (made old) (made new)

@@ -1,5 +1,6 @@
 -- What a list of occurring forms keeps, over the numbers of forms.
-use Rattle.std.specs.Prelude.{ℕ, ◌+◌, ◌*◌, ◌/◌, ◌^◌, ◌<◌, ◌≤◌, ◌≡◌, ◌≢◌, Bool, false, List, [], ◌∷◌, map, length, Some, slice_get}
+use Rattle.std.specs.Prelude.{ℕ, ◌+◌, ◌*◌, ◌/◌, ◌^◌, ◌<◌, ◌≤◌, ◌≡◌, ◌≢◌, Bool, false, List, [], ◌∷◌, map, length, Some}
+use Rattle.std.specs.Prelude.{slice_get}
 use Rattle.std.specs.List.{AllByRecursion}
 use Rattle.lw_pool.specs.Numbers.{most_signals}
 use Rattle.lw_laws.specs.NumberedForms.{Base, NumberedForms, AreNumberedForms}
@@ -21,7 +22,8 @@ pub record AreAndOperands (fs : List ℕ) : Type 0 where
 pub record AreInOrder (forms : NumberedForms) : Type 0 where
   pub first : slice_get forms.bases 0 ≡ Some base_true
   pub inputs : (i : ℕ) → i < forms.inputs → slice_get forms.bases (i + 1) ≡ Some (base_input i)
-  pub later : (b : ℕ) → forms.inputs < b → b < length forms.bases → (fs : List ℕ) × (slice_get forms.bases b ≡ Some (base_and fs))
+  pub later : (b : ℕ) → forms.inputs < b → b < length forms.bases
+      → (fs : List ℕ) × (slice_get forms.bases b ≡ Some (base_and fs))
 
 -- The nets come with two forms each, and those of an input are the input.
 pub record AreNets (forms : NumberedForms) : Type 0 where
@@ -31,8 +33,8 @@ pub record AreNets (forms : NumberedForms) : Type 0 where
   pub input_sops : (i : ℕ) → i < forms.inputs → slice_get forms.sops i ≡ Some (2 * (i + 1))
   pub input_facs : (i : ℕ) → i < forms.inputs → slice_get forms.facs i ≡ Some (2 * (i + 1))
 
--- The operands of a listed And are listed before it, and so is the And of each of its parts; the base forms differ; both forms of each
--- net are listed, and have one value.
+-- The operands of a listed And are listed before it, and so is the And of each of its parts; the base forms differ;
+-- both forms of each net are listed, and have one value.
 pub record AreForms (forms : NumberedForms) : Type 0 where
   pub numbered : AreNumberedForms forms
   pub few : length forms.bases ≤ most_bases
@@ -52,11 +54,13 @@ pub record HaveValues (forms : NumberedForms) (x : ℕ → Bool) (values : List 
 -- these are the values of the base forms where every input is false
 pub record AreSamples (forms : NumberedForms) (samples : List Bool) : Type 0 where
   pub one_each : length samples ≡ length forms.bases
-  pub are : (value : ℕ → Bool) → AreNumberedValues forms (λ i. false) value → (b : ℕ) → b < length forms.bases → slice_get samples b ≡ Some (value (2 * b))
+  pub are : (value : ℕ → Bool) → AreNumberedValues forms (λ i. false) value → (b : ℕ) → b < length forms.bases
+      → slice_get samples b ≡ Some (value (2 * b))
 
 -- the base form is an And, and the mask names some of its operands
 abbrev pub HasPart : NumberedForms → ℕ → ℕ → Type 0
-HasPart forms b mask = (fs : List ℕ) × (slice_get forms.bases b ≡ Some (base_and fs)) × (1 ≤ mask) × (mask < 2 ^ length fs)
+HasPart forms b mask =
+    (fs : List ℕ) × (slice_get forms.bases b ≡ Some (base_and fs)) × (1 ≤ mask) × (mask < 2 ^ length fs)
 
 -- how many inputs there are, and what the list keeps
 pub record CountsInputs (forms : NumberedForms) (n : ℕ) : Type 0 where

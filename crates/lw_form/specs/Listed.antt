@@ -1,5 +1,6 @@
 -- The list of base forms as places in a table, and the steps by which a form is added to it.
-use Rattle.std.specs.Prelude.{ℕ, ◌+◌, ◌/◌, ◌<◌, ◌≤◌, ◌≡◌, ◌≢◌, List, [], ◌∷◌, ◌++◌, map, length, Some, slice_get, slice_index_or, Result, OnOk, IfErr}
+use Rattle.std.specs.Prelude.{ℕ, ◌+◌, ◌/◌, ◌<◌, ◌≤◌, ◌≡◌, ◌≢◌, List, [], ◌∷◌, ◌++◌, map, length, Some, slice_get}
+use Rattle.std.specs.Prelude.{slice_index_or, Result, OnOk, IfErr}
 use Rattle.lw_laws.specs.Forms.{Form, FormList, items}
 use Rattle.lw_laws.specs.Forms.Form.{var_form, true_form, not_form, and_form}
 use Rattle.lw_laws.specs.Forms.FormList.{no_forms, more_forms}
@@ -109,12 +110,15 @@ pub record IsAdding (now : Table) (listed places : List ℕ) (steps : List Step)
 -- the step is taken: the steps that are left lead to the same list, and less is left to do
 pub record TakesStep (old new : Table) (before after : Listing) (steps left : List Step) (step : Step) : Type 0 where
   pub more : HasMore (made old) (made new)
-  pub adding : (goal : List Form) → IsAdding old before.listed.items before.places.items (steps ++ step ∷ []) goal → IsAdding new after.listed.items after.places.items left goal
-  pub less : steps_size (plain_steps (made new) left) < step_size (plain_step (made old) step) + steps_size (plain_steps (made old) steps)
+  pub adding : (goal : List Form) → IsAdding old before.listed.items before.places.items (steps ++ step ∷ []) goal
+      → IsAdding new after.listed.items after.places.items left goal
+  pub less : steps_size (plain_steps (made new) left) < step_size (plain_step (made old) step) + steps_size
+      (plain_steps (made old) steps)
 
 -- a fault of a step is one of the list to which the steps lead
 abbrev pub IsStepFault : Table → Listing → List Step → Step → FormFault → Type 0
-IsStepFault table listing steps step fault = (goal : List Form) → IsAdding table listing.listed.items listing.places.items (steps ++ step ∷ []) goal → IsTooLong goal fault
+IsStepFault table listing steps step fault = (goal : List Form)
+    → IsAdding table listing.listed.items listing.places.items (steps ++ step ∷ []) goal → IsTooLong goal fault
 
 -- a base form that wasn't listed is listed
 pub record IsNewlyListed (b : ℕ) (before after : Listing) : Type 0 where
@@ -134,7 +138,8 @@ pub record ListsTo (old new : Table) (listing : Listing) (goal : List Form) : Ty
   pub bases : bases_of (made new) listing.listed.items ≡ goal
 
 -- At `Ok` this list is reached, while more forms were made; else it is too long, or there is no memory.
-pub record Lists (result : Result (Unit {0}) FormFault) (old new : Table) (listing : Listing) (goal : List Form) : Type 0 where
+pub record Lists (result : Result (Unit {0}) FormFault) (old new : Table) (listing : Listing)
+    (goal : List Form) : Type 0 where
   pub listed : OnOk result (ListsTo old new listing goal)
   pub fault : IfErr result (IsTooLong goal)
 
@@ -143,16 +148,21 @@ abbrev pub CanTake : Table → Listing → List Step → Type 0
 CanTake table listing steps = (goal : List Form) × IsAdding table listing.listed.items listing.places.items steps goal
 
 -- At `Ok` the step is taken; else there is a fault of the step.
-pub record Steps (result : Result (Unit {0}) FormFault) (old new : Table) (before after : Listing) (steps left : List Step) (step : Step) : Type 0 where
+pub record Steps (result : Result (Unit {0}) FormFault) (old new : Table) (before after : Listing)
+    (steps left : List Step) (step : Step) : Type 0 where
   pub taken : OnOk result (TakesStep old new before after steps left step)
   pub fault : IfErr result (IsStepFault old before steps step)
 
 -- the steps for the operands of an And come first
 pub record PutsOperands (ids : List ℕ) (before after : List Step) : Type 0 where
-  pub steps : (forms : List Form) → plain_steps forms after ≡ map (plain_step forms) (adds ids) ++ plain_steps forms before
-  pub fit : (count : ℕ) → AreBelow count ids → AllByRecursion (StepFits count) before → AllByRecursion (StepFits count) after
+  pub steps : (forms : List Form) → plain_steps forms after ≡ map (plain_step forms) (adds ids)
+      ++ plain_steps forms before
+  pub fit : (count : ℕ) → AreBelow count ids → AllByRecursion (StepFits count) before
+      → AllByRecursion (StepFits count) after
 
 -- and then that for its parts
 pub record PutsAnd (b : ℕ) (ids : List ℕ) (before after : List Step) : Type 0 where
-  pub steps : (forms : List Form) → plain_steps forms after ≡ map (plain_step forms) (adds ids) ++ plain_step forms (Parts b) ∷ plain_steps forms before
-  pub fit : (count : ℕ) → b < count → AreBelow count ids → AllByRecursion (StepFits count) before → AllByRecursion (StepFits count) after
+  pub steps : (forms : List Form) → plain_steps forms after ≡ map (plain_step forms) (adds ids)
+      ++ plain_step forms (Parts b) ∷ plain_steps forms before
+  pub fit : (count : ℕ) → b < count → AreBelow count ids → AllByRecursion (StepFits count) before
+      → AllByRecursion (StepFits count) after

@@ -32,7 +32,9 @@ pub record AreListed (now : Table) (listed places sops facs : List ℕ) (signals
 
 -- Node j has fan-ins among the nets before its own, where there were so many nets before, and a sign for each.
 abbrev pub AreNodes : ℕ → List Node → Type 0
-AreNodes count nodes = (j : ℕ) (node : Node) → slice_get nodes j ≡ Some node → All (λ (net : NetId). net.0 < count + j) node.fanins × All (λ (row : List ℕ). length row ≡ length node.fanins) node.rows
+AreNodes count nodes = (j : ℕ) (node : Node) → slice_get nodes j ≡ Some node
+    → All (λ (net : NetId). net.0 < count + j) node.fanins
+    × All (λ (row : List ℕ). length row ≡ length node.fanins) node.rows
 
 -- these are the sum of products and the factored form of some rows
 pub record AreBothForms (of : Fanins) (old new : Table) (rows : List (List (Option Bool))) (s f : ℕ) : Type 0 where
@@ -41,7 +43,8 @@ pub record AreBothForms (of : Fanins) (old new : Table) (rows : List (List (Opti
 
 -- these are the signals of the nets so far
 abbrev pub HasSignals : Occurring → List Signal → Type 0
-HasSignals all signals = AreListed all.table all.listing.listed.items all.listing.places.items all.sops.items all.facs.items signals
+HasSignals all signals =
+    AreListed all.table all.listing.listed.items all.listing.places.items all.sops.items all.facs.items signals
 
 -- a net can be added with these forms
 pub record CanAddNet (all : Occurring) (s f : ℕ) : Type 0 where
@@ -67,7 +70,8 @@ pub record AddsSignals (old new : Occurring) (add : List Signal → List Signal)
 
 -- a fault where they are added
 abbrev pub IsSignalFault : Occurring → (List Signal → List Signal) → FormFault → Type 0
-IsSignalFault old add fault = (signals : List Signal) → HasSignals old signals → IsTooLong (add_signals (add signals) (true_form ∷ [])) fault
+IsSignalFault old add fault =
+    (signals : List Signal) → HasSignals old signals → IsTooLong (add_signals (add signals) (true_form ∷ [])) fault
 
 -- no net has been added, and there are so many inputs
 pub record HasNoNets (inputs : ℕ) (all : Occurring) : Type 0 where

@@ -1,5 +1,6 @@
 -- Numbers of forms in the list, made of their numbers in the table.
-use Rattle.std.specs.Prelude.{ℕ, zero, suc, ◌+◌, ◌*◌, ◌/◌, ◌%◌, ◌^◌, ◌<◌, ◌≡◌, List, [], ◌∷◌, map, length, Some, slice_get}
+use Rattle.std.specs.Prelude.{ℕ, zero, suc, ◌+◌, ◌*◌, ◌/◌, ◌%◌, ◌^◌, ◌<◌, ◌≡◌, List, [], ◌∷◌, map, length, Some}
+use Rattle.std.specs.Prelude.{slice_get}
 use Rattle.lw_laws.specs.Listings.{Listing}
 use Rattle.lw_laws.specs.Forms.{Form}
 use Rattle.lw_laws.specs.Forms.Form.{var_form, true_form}
@@ -21,7 +22,8 @@ ArePlaced places (f ∷ fs) = (place_of places (f / 2) < 2 ^ 31) × ArePlaced pl
 abbrev pub IsBaseOf : List Form → List ℕ → ℕ → laws.Base → Type 0
 IsBaseOf forms places b base_true = slice_get forms b ≡ Some true_form
 IsBaseOf forms places b (base_input i) = slice_get forms b ≡ Some (var_form i)
-IsBaseOf forms places b (base_and ns) = (ids : List ℕ) × (slice_get forms b ≡ Some (spelled forms ids)) × AreBelow (length forms) ids × (ns ≡ map (renumber places) ids)
+IsBaseOf forms places b (base_and ns) = (ids : List ℕ) × (slice_get forms b ≡ Some (spelled forms ids))
+    × AreBelow (length forms) ids × (ns ≡ map (renumber places) ids)
 
 -- the places name the base forms of a listing
 abbrev pub AreOfListing : List Form → List ℕ → Type 0

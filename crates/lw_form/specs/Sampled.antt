@@ -5,7 +5,8 @@ use Rattle.lw_laws.specs.NumberedForms as laws
 use Rattle.lw_laws.specs.NumberedForms.Base.{base_true, base_input, base_and}
 
 abbrev pub sample_value : List Bool → ℕ → Bool
-sample_value samples f = if f % 2 == 0 then slice_index_or samples (f / 2) false else not (slice_index_or samples (f / 2) false)
+sample_value samples f =
+    if f % 2 == 0 then slice_index_or samples (f / 2) false else not (slice_index_or samples (f / 2) false)
 
 abbrev pub sample_base : List Bool → laws.Base → Bool
 sample_base samples base_true = true

@@ -1,5 +1,7 @@
--- The forms that were made so far, each once, and their numbers: base form b is form 2b, and its complement form 2b + 1.
-use Rattle.std.specs.Prelude.{ℕ, zero, suc, ◌+◌, ◌/◌, ◌^◌, ◌<◌, ◌≤◌, ◌≡◌, List, [], ◌∷◌, ◌++◌, map, length, Some, slice_get}
+-- The forms that were made so far, each once, and their numbers: base form b is form 2b, and its complement form 2b +
+-- 1.
+use Rattle.std.specs.Prelude.{ℕ, zero, suc, ◌+◌, ◌/◌, ◌^◌, ◌<◌, ◌≤◌, ◌≡◌, List, [], ◌∷◌, ◌++◌, map, length, Some}
+use Rattle.std.specs.Prelude.{slice_get}
 use Rattle.lw_laws.specs.Forms.{Form, and_of}
 use Rattle.lw_laws.specs.Forms.Form.{var_form, true_form, not_form, and_form}
 use Rattle.lw_laws.specs.Listings.{sign_of}

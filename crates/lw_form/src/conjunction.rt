@@ -1,8 +1,10 @@
 // The And of forms, over numbers of a table.
 ghost use Rattle.std.specs.Prelude.{◌≡◌, ◌==◌, ◌≤◌, ℕ, map, length, bit_xor, List, IfOk};
 ghost use Rattle.std.specs.List.{list_any};
-ghost use Rattle.lw_laws.specs.Forms.{conjunction as and_of_forms, disjunction as or_of_forms, runs};
-ghost use Rattle.lw_form.specs.Conjunctions.{kept_numbers, numbers_clash, IsStep, CanBeCombined, CanBeGrouped, CanBeOneAnd};
+ghost use Rattle.lw_laws.specs.Forms.{conjunction as and_of_forms, disjunction as or_of_forms};
+ghost use Rattle.lw_laws.specs.Forms.{runs};
+ghost use Rattle.lw_form.specs.Conjunctions.{kept_numbers, numbers_clash, IsStep, CanBeCombined};
+ghost use Rattle.lw_form.specs.Conjunctions.{CanBeGrouped, CanBeOneAnd};
 ghost use Rattle.lw_form.specs.Limits.{most_operands};
 ghost use Rattle.lw_form.specs.Tables.{made, forms_at, AreBelow, IsMadeAs, AreMadeAs};
 

@@ -1,8 +1,11 @@
 // Factored forms, over numbers of a table.
-ghost use Rattle.std.specs.Prelude.{◌≡◌, ◌<◌, ◌≤◌, ◌++◌, [], ◌∷◌, List, not, map, filter, length, is_some, IfOk, OnOk};
+ghost use Rattle.std.specs.Prelude.{◌≡◌, ◌<◌, ◌≤◌, ◌++◌, [], ◌∷◌, List, not, map, filter, length};
+ghost use Rattle.std.specs.Prelude.{is_some, IfOk, OnOk};
 ghost use Rattle.lw_laws.specs.Forms.{Form};
-ghost use Rattle.lw_laws.specs.Signals.{factored as factored_form, count_having, has, cleared, most_common, shared_literal};
-ghost use Rattle.lw_form.specs.Factoring.{plain_literal, plain_choice, CanJoin, DoesTask, IsWorking, Joins};
+ghost use Rattle.lw_laws.specs.Signals.{factored as factored_form, count_having, has, cleared};
+ghost use Rattle.lw_laws.specs.Signals.{most_common, shared_literal};
+ghost use Rattle.lw_form.specs.Factoring.{plain_literal, plain_choice, CanJoin, DoesTask};
+ghost use Rattle.lw_form.specs.Factoring.{IsWorking, Joins};
 ghost use Rattle.lw_form.specs.Products.{AreRowsOver};
 ghost use Rattle.lw_form.specs.Tables.{made, forms_at, IsMadeAs};
 
@@ -97,7 +100,8 @@ pub(crate) fn have_shared(rows: &[Row], columns: usize) -> bool
 // Puts a row on its side of the cut.
 fn put(cut: &mut Cut, row: Row, literal: Literal) -> Result<(), AllocError>
     ensures having { OnOk result (cut.new.having.items ≡ cut.old.having.items
-        ++ map (cleared (plain_literal literal)) (filter (has (plain_literal literal)) (row ∷ []))) }
+        ++ map (cleared (plain_literal literal))
+        (filter (has (plain_literal literal)) (row ∷ []))) }
     ensures others { OnOk result (cut.new.others.items ≡ cut.old.others.items
         ++ filter (λ r. not (has (plain_literal literal) r)) (row ∷ [])) }
 {
@@ -114,7 +118,8 @@ fn put(cut: &mut Cut, row: Row, literal: Literal) -> Result<(), AllocError>
 // Cuts rows by a literal.
 fn cut_by(alloc: Global, rows: Vec<Row>, literal: Literal) -> Result<Cut, AllocError>
     ensures having { IfOk result (λ cut. cut.having.items
-        ≡ map (cleared (plain_literal literal)) (filter (has (plain_literal literal)) rows.items)) }
+        ≡ map (cleared (plain_literal literal))
+        (filter (has (plain_literal literal)) rows.items)) }
     ensures others { IfOk result (λ cut. cut.others.items
         ≡ filter (λ r. not (has (plain_literal literal) r)) rows.items) }
 {

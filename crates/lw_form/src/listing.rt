@@ -2,7 +2,9 @@
 ghost use Rattle.std.specs.Prelude.{◌≡◌, ◌/◌, ◌^◌, ◌<◌, ◌++◌, [], ◌∷◌, ℕ, length, IfOk, OnOk};
 ghost use Rattle.lw_laws.specs.Occurring.{appended, append_part, append_parts, sublists, add_form};
 ghost use Rattle.lw_laws.specs.SignalValues.{form_of};
-ghost use Rattle.lw_form.specs.Listed.{base_at, bases_of, place_of, operands_of, CanTake, IsEmptyListing, IsListed, IsNewlyListed, Lists, PutsAnd, PutsOperands, Steps};
+ghost use Rattle.lw_form.specs.Listed.{base_at, bases_of, place_of, operands_of, CanTake};
+ghost use Rattle.lw_form.specs.Listed.{IsEmptyListing, IsListed, IsNewlyListed, Lists, PutsAnd};
+ghost use Rattle.lw_form.specs.Listed.{PutsOperands, Steps};
 ghost use Rattle.lw_form.specs.Limits.{most_bases};
 ghost use Rattle.lw_form.specs.Tables.{made, forms_at, AreBelow};
 

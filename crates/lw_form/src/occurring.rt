@@ -1,15 +1,18 @@
 // The forms of the nets of a network, and the list of what occurs in them.
-ghost use Rattle.std.specs.Prelude.{◌≡◌, ◌<◌, ◌≤◌, ◌++◌, [], ◌∷◌, List, map, length, All, IfOk, IfErr, OnOk, slice_index_or};
+ghost use Rattle.std.specs.Prelude.{◌≡◌, ◌<◌, ◌≤◌, ◌++◌, [], ◌∷◌, List, map, length, All, IfOk};
+ghost use Rattle.std.specs.Prelude.{IfErr, OnOk, slice_index_or};
 ghost use Rattle.lw_pool.specs.Numbers.{most_signals, net_number};
 ghost use Rattle.lw_net.specs.Plain.{plain, plain_node};
 ghost use Rattle.lw_net.specs.Signs.{asked};
 ghost use Rattle.lw_laws.specs.Forms.Form.{true_form};
 ghost use Rattle.lw_laws.specs.Mapped.{forms_of};
 ghost use Rattle.lw_laws.specs.Occurring.{add_signals, appended, occurring_forms};
-ghost use Rattle.lw_laws.specs.Signals.{Signal, signal_of_node, signals_after, input_signals, signals_of};
+ghost use Rattle.lw_laws.specs.Signals.{Signal, signal_of_node, signals_after, input_signals};
+ghost use Rattle.lw_laws.specs.Signals.{signals_of};
 ghost use Rattle.lw_form.specs.Limits.{most_operands};
 ghost use Rattle.lw_form.specs.Listed.{base_at, HasListed, IsTooLong};
-ghost use Rattle.lw_form.specs.Nets.{signal_at, AddsSignals, AreBothForms, CanAddNet, CanAddNode, CanAddNodes, HasNoNets, HasSignals, IsSignalFault};
+ghost use Rattle.lw_form.specs.Nets.{signal_at, AddsSignals, AreBothForms, CanAddNet, CanAddNode};
+ghost use Rattle.lw_form.specs.Nets.{CanAddNodes, HasNoNets, HasSignals, IsSignalFault};
 ghost use Rattle.lw_form.specs.Products.{AreRowsOver};
 ghost use Rattle.lw_form.specs.Tables.{made};
 

@@ -1,5 +1,6 @@
 // The listed forms by their numbers in the list.
-ghost use Rattle.std.specs.Prelude.{◌≡◌, ◌/◌, ◌^◌, ◌<◌, ◌≤◌, ℕ, List, Some, slice_get, map, length, IfOk};
+ghost use Rattle.std.specs.Prelude.{◌≡◌, ◌/◌, ◌^◌, ◌<◌, ◌≤◌, ℕ, List, Some, slice_get, map, length};
+ghost use Rattle.std.specs.Prelude.{IfOk};
 ghost use Rattle.lw_laws.specs.Numbering.{numbered_base};
 ghost use Rattle.lw_form.specs.Bases.{plain_base};
 ghost use Rattle.lw_form.specs.Limits.{most_operands};

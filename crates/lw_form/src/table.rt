@@ -1,4 +1,5 @@
-ghost use Rattle.std.specs.Prelude.{◌≡◌, ◌<◌, ◌≤◌, [], length, Some, slice_get, IfOk, IfNone, IfSome, OnOk};
+ghost use Rattle.std.specs.Prelude.{◌≡◌, ◌<◌, ◌≤◌, [], length, Some, slice_get, IfOk, IfNone};
+ghost use Rattle.std.specs.Prelude.{IfSome, OnOk};
 ghost use Rattle.lw_pool.specs.Numbers.{most_signals};
 
 use crate::FormIds;

@@ -1,30 +1,20 @@
 -- The starts that arrival lines say are below a million units.
-use Rattle.std.proofs.Common.{ℕ, zero, suc, ◌+◌, ◌*◌, ◌<◌, ◌≡◌, max, Bool, true, false, not, ◌&&◌, List, [], ◌∷◌, ◌++◌, length, map, take, cond, reverse, Option, Some, None, Result, Ok, Err, if◌then◌else◌, refl, ap, sym, ◌∙◌, subst, arith}
+use Rattle.std.proofs.Common.{ℕ, zero, suc, ◌+◌, ◌*◌, ◌<◌, ◌≡◌, max, Bool, true, false, not, ◌&&◌, List, [], ◌∷◌, ◌++◌, length, map, cond, reverse, Option, Some, None, Result, Ok, Err, if◌then◌else◌, refl, sym, subst, arith}
 use Rattle.std.specs.Prelude.{All, nat_le, nat_lt, replicate, filter, unwrap_or}
 use Rattle.std.specs.List.{AllByRecursion, list_all}
 use Rattle.std.specs.Char.{is_ascii_digit}
 use Rattle.std.proofs.lemmas.Bool.{leb-false}
-use Rattle.std.proofs.lemmas.List.{length-take, reverse-append}
+use Rattle.std.proofs.lemmas.List.{reverse-append}
 use Rattle.std.proofs.lemmas.List.Elements.{All-from_recursion}
-use Rattle.std.proofs.lemmas.List.Folds.{list_all-append}
-use Rattle.std.proofs.lemmas.Str.Parse.{digits_value_short}
-use Rattle.lw_facts.proofs.Lists.{digits_take}
+use Rattle.lw_fixed.proofs.Six.{below_one}
 use Rattle.lw_facts.proofs.Tests.{second_of_three}
 use Rattle.lw_fixed.specs.declared.micro.Micro.{Micro}
 use Rattle.lw_fixed.specs.declared.fault.DecimalFault.{DecimalFault}
 use Rattle.lw_fixed.specs.declared.fault.DecimalFault.TheVariants.{Shape, Large, Fine, Negative}
-use Rattle.lw_fixed.specs.Decimals.{decimal_of, is_decimal, whole_part, decimals, units_of, value_of_decimals, is_finer, is_negative, millionths_of}
-use Rattle.lw_frame.proofs.GoodWords.{numerals}
+use Rattle.lw_fixed.specs.Decimals.{decimal_of, is_decimal, whole_part, decimals, units_of, is_finer, is_negative, millionths_of}
 use Rattle.lw_frame.specs.Starts.{Arrival, start_at, start_said, is_named, is_for_all, first_start, last_start, at_once, start_of, starts_of, IsEarly}
 
 -- Decimals
-
-part_below : (part : List ℕ) → list_all is_ascii_digit part ≡ true → value_of_decimals part < 1000000
-unfolding value_of_decimals
-part_below part all =
-    let long = length-take 6 (part ++ replicate 6 48) in
-    let padded : list_all is_ascii_digit (part ++ replicate 6 48) ≡ true = list_all-append is_ascii_digit part (replicate 6 48) ∙ ap (λ b. b && true) all in
-    digits_value_short numerals (take 6 (part ++ replicate 6 48)) 6 (digits_take 6 (part ++ replicate 6 48) padded) (omega arith)
 
 pub decimal_below : (text : List ℕ) (units : ℕ) (m : Micro) → decimal_of text units ≡ Ok m → m.0 < units * 1000000
 unfolding decimal_of
@@ -38,7 +28,7 @@ decimal_below text units m e = by_tests (is_decimal text) (nat_le units (units_o
     by_tests true false false false s l e =
         let same : ◌≡◌ {A = Micro} (record { 0 = millionths_of text }) m = cc in
         let whole : units_of text < units = leb-false units (units_of text) l in
-        let part = part_below (decimals text) (second_of_three (list_all is_ascii_digit (whole_part text)) (list_all is_ascii_digit (decimals text)) (nat_lt 0 (length (whole_part text) + length (decimals text))) s) in
+        let part = below_one (decimals text) (second_of_three (list_all is_ascii_digit (whole_part text)) (list_all is_ascii_digit (decimals text)) (nat_lt 0 (length (whole_part text) + length (decimals text))) s) in
         subst (λ (k : Micro). k.0 < units * 1000000) same (omega arith)
 
 pub said_early : (rise fall : List ℕ) (m : Micro) → start_said rise fall ≡ Ok m → IsEarly m

@@ -1,5 +1,6 @@
 -- The inputs and the roots of a circuit's combinational part.
-use Rattle.std.specs.Prelude.{ℕ, ◌≡◌, ◌≤◌, not, List, [], ◌∷◌, ◌++◌, length, map, filter, take, drop, if◌then◌else◌, codes}
+use Rattle.std.specs.Prelude.{ℕ, ◌≡◌, ◌≤◌, not, List, [], ◌∷◌, ◌++◌, length, map, filter, take, drop, if◌then◌else◌}
+use Rattle.std.specs.Prelude.{codes}
 use Rattle.std.specs.List.{flat_map}
 use Rattle.std.specs.Str.{bytes_eq}
 use Rattle.lw_pool.specs.declared.latch.Latch.{Latch}
@@ -29,7 +30,8 @@ root_names outputs latches = each_once (outputs ++ flat_map read_by latches)
 
 -- The frame of a circuit with these inputs, outputs, of which a later one of the same name is skipped, and latches.
 abbrev pub frame_of : List (List ℕ) → List (List ℕ) → List Latch → Frame
-frame_of inputs outputs latches = record { inputs = length inputs; outputs = length (each_once outputs); latches = latches }
+frame_of inputs outputs latches =
+    record { inputs = length inputs; outputs = length (each_once outputs); latches = latches }
 
 -- the names of the inputs of its combinational part
 abbrev pub input_names : List (List ℕ) → List Latch → List (List ℕ)

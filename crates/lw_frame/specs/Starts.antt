@@ -1,12 +1,14 @@
 -- The times at which the inputs of a circuit arrive.
-use Rattle.std.specs.Prelude.{ℕ, ◌≡◌, ◌*◌, ◌<◌, max, Bool, true, false, List, [], ◌∷◌, ◌++◌, length, map, filter, reverse, replicate, drop, All, Option, Some, None, unwrap_or, Result, Ok, Err}
+use Rattle.std.specs.Prelude.{ℕ, ◌≡◌, ◌*◌, ◌<◌, max, Bool, true, false, List, [], ◌∷◌, ◌++◌, length, map, filter}
+use Rattle.std.specs.Prelude.{reverse, replicate, drop, All, Option, Some, None, unwrap_or, Result, Ok, Err}
 use Rattle.std.specs.Str.{bytes_eq}
 use Rattle.lw_fixed.specs.declared.micro.Micro.{Micro}
 use Rattle.lw_fixed.specs.declared.fault.DecimalFault.{DecimalFault}
 use Rattle.lw_fixed.specs.Decimals.{one_unit, given_units, decimal_of}
 use Rattle.lw_pool.specs.declared.latch.Frame.{Frame}
 
--- What an arrival line says: the start of the input of this name, or, without a name, that of each input that has no line of its own.
+-- What an arrival line says: the start of the input of this name, or, without a name, that of each input that has no
+-- line of its own.
 pub record Arrival : Type 0 where
   pub named : Option (List ℕ)
   pub start : Micro
@@ -19,7 +21,8 @@ start_at (Ok rise) (Ok fall) = Ok (record { 0 = max rise.0 fall.0 })
 start_at (Ok rise) (Err fault) = Err fault
 start_at (Err fault) fall = Err fault
 
--- The start that the words for the rise and for the fall say, in decimals of fewer than a million units, or the first fault of the two.
+-- The start that the words for the rise and for the fall say, in decimals of fewer than a million units, or the first
+-- fault of the two.
 unfoldable pub start_said : List ℕ → List ℕ → Result Micro DecimalFault
 start_said rise fall = start_at (decimal_of rise given_units) (decimal_of fall given_units)
 
@@ -46,9 +49,11 @@ at_once = record { 0 = 0 }
 
 -- The start of an input: by the last line of its own, else by the last line for all, else 0.
 abbrev pub start_of : List Arrival → List ℕ → Micro
-start_of arrivals name = unwrap_or (last_start (is_named name) arrivals) (unwrap_or (last_start is_for_all arrivals) at_once)
+start_of arrivals name =
+    unwrap_or (last_start (is_named name) arrivals) (unwrap_or (last_start is_for_all arrivals) at_once)
 
--- The starts of the inputs of a combinational part: of the circuit's own, and then of so many latch outputs, which no line touches.
+-- The starts of the inputs of a combinational part: of the circuit's own, and then of so many latch outputs, which no
+-- line touches.
 abbrev pub starts_of : List Arrival → List (List ℕ) → ℕ → List Micro
 starts_of arrivals inputs latches = map (start_of arrivals) inputs ++ replicate latches at_once
 

@@ -1,4 +1,5 @@
-ghost use Rattle.std.specs.Prelude.{◌≡◌, ◌+◌, ◌++◌, [], ◌∷◌, List, ℕ, None, Some, All, length, drop, replicate, IfOk, OnOk};
+ghost use Rattle.std.specs.Prelude.{◌≡◌, ◌+◌, ◌++◌, [], ◌∷◌, List, ℕ, None, Some, All, length};
+ghost use Rattle.std.specs.Prelude.{drop, replicate, IfOk, OnOk};
 ghost use Rattle.std.specs.Option.{ForSome};
 ghost use Rattle.std.specs.Str.{bytes_eq};
 ghost use Rattle.indexmap.specs.IndexMap.{get};
@@ -17,7 +18,8 @@ pub struct Arrivals {
     own: IndexMap<Name, Micro>,
     // What the last line for all inputs says.
     every: Option<Micro>,
-    ghost own_early: { (name : List ℕ) (start : Time) → get bytes_eq own name ≡ Some start → IsEarly start },
+    ghost own_early: { (name : List ℕ) (start : Time) → get bytes_eq own name ≡ Some start →
+        IsEarly start },
     ghost every_early: { ForSome every IsEarly },
 }
 

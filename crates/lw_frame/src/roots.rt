@@ -31,7 +31,8 @@ fn add(alloc: Global, names: &mut IndexSet<Name>, name: &Name) -> Result<(), All
 
 // Adds what a latch reads.
 fn add_read(alloc: Global, names: &mut IndexSet<Name>, latch: &Latch) -> Result<(), AllocError>
-    ensures { OnOk result (names.new.keys ≡ insert_all bytes_eq names.old.keys (read_by latch.now)) }
+    ensures { OnOk result
+        (names.new.keys ≡ insert_all bytes_eq names.old.keys (read_by latch.now)) }
 {
     add(alloc, names, &latch.input)?;
     if let Some(control) = control_among(latch.rest.as_slice()) {

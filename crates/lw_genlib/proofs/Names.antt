@@ -1,7 +1,7 @@
 -- The names of cells, which differ, and their places.
 use Rattle.std.proofs.Common.{◌≡◌, ℕ, zero, suc, ◌+◌, ◌<◌, ◌≤◌, Bool, true, false, not, ◌||◌, cond, List, [], ◌∷◌, ◌++◌, length, map, take, get_or, Some, None, refl, sym, ap, ap₂, ◌∙◌, arith, slice_get, unwrap_or, nat_lt}
 use Rattle.std.specs.Prelude.{sum_by, Contains}
-use Rattle.std.specs.List.{list_any, IsDistinct, AllByRecursion, position, position_or_len}
+use Rattle.std.specs.List.{list_any, IsDistinct, position, position_or_len}
 use Rattle.std.specs.Str.{bytes_eq}
 use Rattle.std.proofs.lemmas.List.{take_more, get_or-map, map_push, length-map}
 use Rattle.std.proofs.lemmas.List.Quantifiers.{position-Some}
@@ -9,23 +9,9 @@ use Rattle.std.proofs.lemmas.List.Folds.{list_any_at}
 use Rattle.std.proofs.lemmas.List.Sums.{sum_by-cons, prefix_len_is}
 use Rattle.std.proofs.lemmas.Option.{slice_get-get_or}
 use Rattle.std.proofs.lemmas.Bool.{false≢true, lt-ltb, le-ltb}
-use Rattle.lw_facts.proofs.Lists.{bytes_eq_is, bytes_eq_same, bytes_differ_turned}
+use Rattle.lw_facts.proofs.Lists.{bytes_eq_is, bytes_eq_same, none_before}
 use Rattle.indexmap.specs.IndexSet.{insert_key}
 use Rattle.lw_genlib.specs.Cells.{CellParts, IsLibrary, Key, bytes_of, names_of, form_count}
-
--- a name is none of those before it
-pub none_before : (names : List (List ℕ)) (i : ℕ) (d : List ℕ) → IsDistinct bytes_eq names → i < length names → list_any (bytes_eq (get_or names i d)) (take i names) ≡ false
-unfolding IsDistinct
-none_before [] i d distinct below = absurd (omega arith)
-none_before (x ∷ xs) zero d distinct below = refl
-none_before (x ∷ xs) (suc i) d distinct below =
-    let inside : i < length xs = omega arith in
-    ap₂ (λ a b. a || b) (bytes_differ_turned x (get_or xs i d) (at_place xs i d distinct.0 inside)) (none_before xs i d distinct.1 inside)
-  where
-    at_place : (ys : List (List ℕ)) (k : ℕ) (e : List ℕ) → AllByRecursion (λ y. bytes_eq x y ≡ false) ys → k < length ys → bytes_eq x (get_or ys k e) ≡ false
-    at_place [] k e all lt = absurd (omega arith)
-    at_place (y ∷ ys) zero e all lt = all.0
-    at_place (y ∷ ys) (suc k) e all lt = at_place ys k e all.1 (omega arith)
 
 -- a test of the bytes of keys
 any_bytes : (q : List ℕ) (keys : List Key) → list_any (λ (key : Key). bytes_eq q key.items) keys ≡ list_any (bytes_eq q) (map bytes_of keys)

@@ -1,14 +1,11 @@
 -- Numbers of libraries are below a million.
-use Rattle.std.proofs.Common.{ℕ, ◌+◌, ◌*◌, ◌≡◌, ◌<◌, Bool, true, false, not, ◌&&◌, cond, List, ◌++◌, length, take, refl, ap, ◌∙◌, subst, arith, Result, Ok, Err, length-take, rules}
-use Rattle.std.specs.Prelude.{replicate, nat_le, nat_lt}
+use Rattle.std.proofs.Common.{ℕ, ◌+◌, ◌*◌, ◌≡◌, ◌<◌, Bool, true, false, not, ◌&&◌, cond, List, length, refl, ap, subst, arith, Result, Ok, Err}
+use Rattle.std.specs.Prelude.{nat_le, nat_lt}
 use Rattle.std.specs.List.{list_all}
 use Rattle.std.specs.Char.{is_ascii_digit}
-use Rattle.std.specs.Str.Parse.{digits_value}
-use Rattle.std.proofs.lemmas.Str.Parse.{IsNumeralModel, numerals_by_value, digits_value_short}
-use Rattle.std.proofs.lemmas.List.Folds.{list_all-append}
 use Rattle.std.proofs.lemmas.Bool.{leb-false}
+use Rattle.lw_fixed.proofs.Six.{below_one}
 use Rattle.lw_facts.proofs.Tests.{second_of_three}
-use Rattle.lw_facts.proofs.Lists.{digits_take}
 use Rattle.lw_fixed.specs.declared.micro.Micro.{Micro}
 use Rattle.lw_fixed.specs.declared.fault.DecimalFault.TheVariants.{Shape, Large, Fine, Negative}
 use Rattle.lw_fixed.specs.Decimals.{decimal_of, value_of_decimals, decimals, units_of, whole_part, is_decimal, is_finer, is_negative, millionths_of}
@@ -18,15 +15,6 @@ use Rattle.lw_genlib.specs.declared.fault.LibKind.TheVariants.{PhaseWord, Expect
 use Rattle.lw_genlib.specs.declared.pin.Field.{Field}
 use Rattle.lw_genlib.specs.declared.pin.Field.TheVariants.{Phase, Load, MostLoad, Rise, RiseUnused, Fall, FallUnused}
 use Rattle.lw_genlib.specs.Entries.{number_of, in_library, larger, delay_behind, is_phase, is_like_number}
-
-own : IsNumeralModel (λ ds. list_all is_ascii_digit ds ≡ true) (digits_value 10)
-own = numerals_by_value _ (search rules)
-
-below_one : (part : List ℕ) → list_all is_ascii_digit part ≡ true → value_of_decimals part < 1000000
-unfolding value_of_decimals
-below_one part all =
-    let padded : list_all is_ascii_digit (part ++ replicate 6 48) ≡ true = list_all-append is_ascii_digit part (replicate 6 48) ∙ ap (λ b. b && true) all in
-    digits_value_short own (take 6 (part ++ replicate 6 48)) 6 (digits_take 6 (part ++ replicate 6 48) padded) (omega (arith, length-take 6 (part ++ replicate 6 48)))
 
 got : Result Micro LibKind → ℕ
 got (Ok m) = m.0

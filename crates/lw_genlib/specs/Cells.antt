@@ -1,5 +1,6 @@
 -- Cells and libraries: what they are seen as, and what their types keep.
-use Rattle.std.specs.Prelude.{ℕ, ◌+◌, ◌*◌, ◌<◌, ◌≤◌, ◌≡◌, ◌==◌, Bool, not, ◌||◌, false, IsTrue, List, [], ◌∷◌, length, map, sum_by, All, Contains}
+use Rattle.std.specs.Prelude.{ℕ, ◌+◌, ◌*◌, ◌<◌, ◌≤◌, ◌≡◌, ◌==◌, Bool, not, ◌||◌, false, IsTrue, List, [], ◌∷◌, length}
+use Rattle.std.specs.Prelude.{map, sum_by, All, Contains}
 use Rattle.std.specs.List.{IsDistinct, list_all, list_any}
 use Rattle.std.specs.Str.{bytes_eq}
 use Rattle.std.specs.Global.{Vec}

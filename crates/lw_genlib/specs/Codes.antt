@@ -1,5 +1,6 @@
 -- Expressions are told apart by the steps that spell them.
-use Rattle.std.specs.Prelude.{ℕ, zero, suc, ◌+◌, ◌-◌, ◌≡◌, true, false, List, [], ◌∷◌, ◌++◌, length, take, drop, map, refl}
+use Rattle.std.specs.Prelude.{ℕ, zero, suc, ◌+◌, ◌-◌, ◌≡◌, true, false, List, [], ◌∷◌, ◌++◌, length, take, drop, map}
+use Rattle.std.specs.Prelude.{refl}
 use Rattle.std.specs.Coded.{Coded, code_by, coded×, coded_ℕ, coded_list}
 use Rattle.std.proofs.Common.{ap, ap₂, sym, ◌∙◌, append_assoc, append-nil, length-append, arith}
 use Rattle.std.proofs.lemmas.List.{take_at, drop_at}
@@ -10,7 +11,8 @@ use Rattle.lw_genlib.specs.declared.op.ExprOp.{ExprOp}
 use Rattle.lw_genlib.specs.declared.op.ExprOp.TheVariants.{Const, Pin, Not, And, Or}
 use Rattle.lw_fixed.specs.declared.micro.Micro.{Micro}
 use Rattle.lw_genlib.specs.Cells.{CellParts}
-use Rattle.lw_genlib.specs.Postfix.{part_count, postfix, postfixes, arity, exprs_of, first_expr, expr_by, stepped, run, tree_of}
+use Rattle.lw_genlib.specs.Postfix.{part_count, postfix, postfixes, arity, exprs_of, first_expr, expr_by, stepped, run}
+use Rattle.lw_genlib.specs.Postfix.{tree_of}
 
 module _ {A : Type 0} (by : ExprOp → List A → A) where
   -- the value of an expression, by what each step makes of the values of its operands
@@ -28,10 +30,12 @@ module _ {A : Type 0} (by : ExprOp → List A → A) where
 
   pub length_meanings : (es : Exprs) → length (meanings es) ≡ part_count es
   length_meanings no_exprs = refl
-  length_meanings (more_exprs e es) = let others : length (meanings es) ≡ part_count es = length_meanings es in omega arith
+  length_meanings (more_exprs e es) =
+      let others : length (meanings es) ≡ part_count es = length_meanings es in omega arith
 
   -- a step that takes just the last values
-  pub stepped_last : (op : ExprOp) (before values : List A) → length values ≡ arity op → stepped by op (before ++ values) ≡ before ++ by op values ∷ []
+  pub stepped_last : (op : ExprOp) (before values : List A) → length values ≡ arity op
+      → stepped by op (before ++ values) ≡ before ++ by op values ∷ []
   stepped_last op before values takes =
       let size : length (before ++ values) ≡ length before + length values = length-append before values in
       let left : length (before ++ values) - arity op ≡ length before = omega arith in
@@ -41,25 +45,32 @@ module _ {A : Type 0} (by : ExprOp → List A → A) where
 
   -- the steps of an expression put its value behind the others
   mutual
-    pub run_postfix : (e : Expr) (rest : List ExprOp) (before : List A) → run by (postfix e ++ rest) before ≡ run by rest (before ++ meaning e ∷ [])
-    run_postfix (expr_const b) rest before = ap (run by rest) (ap (stepped by (Const b)) (sym (append-nil before)) ∙ stepped_last (Const b) before [] refl)
-    run_postfix (expr_pin k) rest before = ap (run by rest) (ap (stepped by (Pin k)) (sym (append-nil before)) ∙ stepped_last (Pin k) before [] refl)
+    pub run_postfix : (e : Expr) (rest : List ExprOp) (before : List A)
+        → run by (postfix e ++ rest) before ≡ run by rest (before ++ meaning e ∷ [])
+    run_postfix (expr_const b) rest before =
+        ap (run by rest) (ap (stepped by (Const b)) (sym (append-nil before)) ∙ stepped_last (Const b) before [] refl)
+    run_postfix (expr_pin k) rest before =
+        ap (run by rest) (ap (stepped by (Pin k)) (sym (append-nil before)) ∙ stepped_last (Pin k) before [] refl)
     run_postfix (expr_not e) rest before =
         ap (λ ops. run by ops before) (append_assoc (postfix e) (Not ∷ []) rest)
         ∙ (run_postfix e (Not ∷ rest) before ∙ ap (run by rest) (stepped_last Not before (meaning e ∷ []) refl))
     run_postfix (expr_and es) rest before =
         ap (λ ops. run by ops before) (append_assoc (postfixes es) (And (part_count es) ∷ []) rest)
-        ∙ (run_postfixes es (And (part_count es) ∷ rest) before ∙ ap (run by rest) (stepped_last (And (part_count es)) before (meanings es) (length_meanings es)))
+        ∙ (run_postfixes es (And (part_count es) ∷ rest) before
+        ∙ ap (run by rest) (stepped_last (And (part_count es)) before (meanings es) (length_meanings es)))
     run_postfix (expr_or es) rest before =
         ap (λ ops. run by ops before) (append_assoc (postfixes es) (Or (part_count es) ∷ []) rest)
-        ∙ (run_postfixes es (Or (part_count es) ∷ rest) before ∙ ap (run by rest) (stepped_last (Or (part_count es)) before (meanings es) (length_meanings es)))
+        ∙ (run_postfixes es (Or (part_count es) ∷ rest) before
+        ∙ ap (run by rest) (stepped_last (Or (part_count es)) before (meanings es) (length_meanings es)))
 
-    pub run_postfixes : (es : Exprs) (rest : List ExprOp) (before : List A) → run by (postfixes es ++ rest) before ≡ run by rest (before ++ meanings es)
+    pub run_postfixes : (es : Exprs) (rest : List ExprOp) (before : List A)
+        → run by (postfixes es ++ rest) before ≡ run by rest (before ++ meanings es)
     run_postfixes no_exprs rest before = ap (run by rest) (sym (append-nil before))
     run_postfixes (more_exprs e es) rest before =
         ap (λ ops. run by ops before) (append_assoc (postfix e) (postfixes es) rest)
         ∙ (run_postfix e (postfixes es ++ rest) before
-        ∙ (run_postfixes es rest (before ++ meaning e ∷ []) ∙ ap (run by rest) (append_assoc before (meaning e ∷ []) (meanings es))))
+        ∙ (run_postfixes es rest (before ++ meaning e ∷ [])
+        ∙ ap (run by rest) (append_assoc before (meaning e ∷ []) (meanings es))))
 
   -- run by themselves, they leave the value alone
   pub run_whole : (e : Expr) → run by (postfix e) [] ≡ meaning e ∷ []
@@ -115,7 +126,8 @@ pub expr_back : (e : Expr) → tree_of (map op_of (map numbers_of (postfix e))) 
 expr_back e = ap tree_of (ops_back (postfix e)) ∙ tree_of-postfix e
 
 abbrev pub expr_code : Coded Expr
-expr_code = code_by (List (ℕ × ℕ)) (coded_list (coded× coded_ℕ coded_ℕ)) (λ e. map numbers_of (postfix e)) (λ ns. tree_of (map op_of ns)) expr_back
+expr_code = code_by (List (ℕ × ℕ)) (coded_list (coded× coded_ℕ coded_ℕ)) (λ e. map numbers_of (postfix e))
+    (λ ns. tree_of (map op_of ns)) expr_back
 
 -- a number of millionths
 abbrev pub micro_code : Coded Micro
@@ -128,7 +140,8 @@ bytes_code = coded_list coded_ℕ
 abbrev pub cell_code : Coded CellParts
 cell_code =
     code_by ((List ℕ × Micro) × ((List ℕ × List (List ℕ)) × (List Micro × List Expr)))
-    (coded× (coded× bytes_code micro_code) (coded× (coded× bytes_code (coded_list bytes_code)) (coded× (coded_list micro_code) (coded_list expr_code))))
+    (coded× (coded× bytes_code micro_code)
+    (coded× (coded× bytes_code (coded_list bytes_code)) (coded× (coded_list micro_code) (coded_list expr_code))))
     (λ c. ((c.name, c.area), ((c.output, c.pins), (c.delays, c.forms))))
     (λ p. record { name = p.0.0; area = p.0.1; output = p.1.0.0; pins = p.1.0.1; delays = p.1.1.0; forms = p.1.1.1 })
     (λ _. refl)

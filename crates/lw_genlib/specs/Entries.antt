@@ -1,5 +1,7 @@
 -- The entries of a library, word by word.
-use Rattle.std.specs.Prelude.{ℕ, ◌-◌, ◌+◌, max, Bool, false, ◌&&◌, ◌||◌, ◌==◌, nat_lt, nat_le, List, [], ◌∷◌, ◌++◌, length, take, drop, replicate, Option, Some, None, Result, Ok, Err, slice_index, if◌then◌else◌, codes}
+use Rattle.std.specs.Prelude.{ℕ, ◌-◌, ◌+◌, max, Bool, false, ◌&&◌, ◌||◌, ◌==◌, nat_lt, nat_le, List, [], ◌∷◌, ◌++◌}
+use Rattle.std.specs.Prelude.{length, take, drop, replicate, Option, Some, None, Result, Ok, Err, slice_index}
+use Rattle.std.specs.Prelude.{if◌then◌else◌, codes}
 use Rattle.std.specs.List.{list_any, before_first, after_first, position, slice_set}
 use Rattle.std.specs.Str.{bytes_eq}
 use Rattle.std.specs.Char.{is_ascii_digit}
@@ -10,7 +12,8 @@ use Rattle.lw_genlib.specs.Cells.{function_room}
 use Rattle.lw_genlib.specs.declared.token.Token.{Token}
 use Rattle.lw_genlib.specs.declared.token.Token.TheVariants.{Punct}
 use Rattle.lw_genlib.specs.declared.fault.LibKind.{LibKind}
-use Rattle.lw_genlib.specs.declared.fault.LibKind.TheVariants.{Expected, PinUnknown, PhaseWord, Decimal, LimitText, LongWord}
+use Rattle.lw_genlib.specs.declared.fault.LibKind.TheVariants.{Expected, PinUnknown, PhaseWord, Decimal, LimitText}
+use Rattle.lw_genlib.specs.declared.fault.LibKind.TheVariants.{LongWord}
 use Rattle.lw_genlib.specs.declared.fault.LibFault.{LibFault}
 use Rattle.lw_genlib.specs.declared.fault.LibFault.TheVariants.{Line}
 use Rattle.lw_genlib.specs.declared.pin.Field.{Field}
@@ -18,7 +21,8 @@ use Rattle.lw_genlib.specs.declared.pin.Field.TheVariants.{Phase, Load, MostLoad
 use Rattle.lw_genlib.specs.declared.pin.Target.{Target}
 use Rattle.lw_genlib.specs.declared.pin.Target.TheVariants.{Every, One}
 use Rattle.lw_genlib.specs.Functions.{tokens_in, first_fault, pins_in}
-use Rattle.lw_genlib.specs.Streams.{StreamItem, word_on, long_line, text_end, Reading, done, broken, cut_short, and_then, with_rest, word_by}
+use Rattle.lw_genlib.specs.Streams.{StreamItem, word_on, long_line, text_end, Reading, done, broken, cut_short}
+use Rattle.lw_genlib.specs.Streams.{and_then, with_rest, word_by}
 
 -- Single words.
 
@@ -55,7 +59,8 @@ is_phase bytes = list_any (bytes_eq bytes) (codes "INV" ∷ codes "NONINV" ∷ c
 abbrev pub is_end : ℕ → Bool
 is_end b = b == 59
 
--- The tokens of a function so far, the line of each, and how many bytes there is room for. A blank is counted before each word.
+-- The tokens of a function so far, the line of each, and how many bytes there is room for. A blank is counted before
+-- each word.
 pub record FunctionText : Type 0 where
   pub tokens : List Token
   pub lines : List ℕ
@@ -89,7 +94,8 @@ text_from text (text_end line ∷ rest) = broken (Line line Expected)
 text_from text (long_line line ∷ rest) = broken (Line line LongWord)
 text_from text (word_on line bytes ∷ rest) =
     if nat_lt text.room (1 + length (before_first is_end bytes)) then broken (Line line LimitText)
-    else (if list_any is_end bytes then done (with_end (with_word text line (before_first is_end bytes)) line) (left_over line (after_first is_end bytes) ++ rest)
+    else (if list_any is_end bytes then done (with_end (with_word text line (before_first is_end bytes)) line)
+    (left_over line (after_first is_end bytes) ++ rest)
     else text_from (with_word text line bytes) rest)
 
 -- Entries.
@@ -112,7 +118,15 @@ pins_of entry = pins_in entry.tokens
 -- the entry that begins with these words, or the first token of the function that may not stand
 abbrev pub entry_by : ℕ → List ℕ → Micro → FunctionText → Option LibFault → Result Entry LibFault
 entry_by line name area text (Some fault) = Err fault
-entry_by line name area text None = Ok (record { line = line; name = name; area = area; tokens = text.tokens; named = replicate (length (pins_in text.tokens)) None; every = None })
+entry_by line name area text None =
+    Ok (record {
+      line = line;
+      name = name;
+      area = area;
+      tokens = text.tokens;
+      named = replicate (length (pins_in text.tokens)) None;
+      every = None;
+    })
 
 abbrev pub entry_begun : ℕ → List ℕ → Micro → FunctionText → Result Entry LibFault
 entry_begun line name area text = entry_by line name area text (first_fault [] text.lines text.tokens)
@@ -120,7 +134,8 @@ entry_begun line name area text = entry_by line name area text (first_fault [] t
 -- what follows the area, the name and the word `GATE`
 
 abbrev pub behind_words : ℕ → List ℕ → Micro → FunctionText → List StreamItem → Reading Entry
-behind_words line name area text stream = and_then (text_from text stream) (λ whole rest. with_rest rest (entry_begun line name area whole))
+behind_words line name area text stream =
+    and_then (text_from text stream) (λ whole rest. with_rest rest (entry_begun line name area whole))
 
 abbrev pub behind_area : ℕ → List ℕ → Micro → List StreamItem → Reading Entry
 behind_area line name area stream = behind_words line name area no_text stream
@@ -140,7 +155,8 @@ target_at None = Err PinUnknown
 abbrev pub target_of : List (List ℕ) → List ℕ → Result Target LibKind
 target_of pins bytes = if bytes_eq bytes (codes "*") then Ok Every else target_at (position (bytes_eq bytes) pins)
 
--- what stands behind a pin's name: the phase, two loads, and the block delay and a word that is not used, for a rise and for a fall
+-- what stands behind a pin's name: the phase, two loads, and the block delay and a word that is not used, for a rise
+-- and for a fall
 abbrev pub pin_fields : List Field
 pin_fields = Phase ∷ Load ∷ MostLoad ∷ Rise ∷ RiseUnused ∷ Fall ∷ FallUnused ∷ []
 
@@ -158,20 +174,39 @@ delay_behind unused delay bytes = if is_like_number bytes then Ok delay else Err
 
 abbrev pub delay_from : List Field → Micro → List StreamItem → Reading Micro
 delay_from [] delay stream = done delay stream
-delay_from (field ∷ fields) delay stream = and_then (word_by (delay_behind field delay) stream) (λ larger rest. delay_from fields larger rest)
+delay_from (field ∷ fields) delay stream =
+    and_then (word_by (delay_behind field delay) stream) (λ larger rest. delay_from fields larger rest)
 
 abbrev pub no_delay : Micro
 no_delay = record { 0 = 0 }
 
 -- the entry with one more delay: of pins of one kind the last wins
 abbrev pub with_delay : Entry → Target → Micro → Entry
-with_delay entry Every delay = record { line = entry.line; name = entry.name; area = entry.area; tokens = entry.tokens; named = entry.named; every = Some delay }
-with_delay entry (One place) delay = record { line = entry.line; name = entry.name; area = entry.area; tokens = entry.tokens; named = slice_set entry.named place (Some delay); every = entry.every }
+with_delay entry Every delay =
+    record {
+      line = entry.line;
+      name = entry.name;
+      area = entry.area;
+      tokens = entry.tokens;
+      named = entry.named;
+      every = Some delay;
+    }
+with_delay entry (One place) delay =
+    record {
+      line = entry.line;
+      name = entry.name;
+      area = entry.area;
+      tokens = entry.tokens;
+      named = slice_set entry.named place (Some delay);
+      every = entry.every;
+    }
 
 -- what follows a pin's name, and the word `PIN`
 
 abbrev pub behind_target : Entry → Target → List Field → Micro → List StreamItem → Reading Entry
-behind_target entry target fields delay stream = and_then (delay_from fields delay stream) (λ delay rest. done (with_delay entry target delay) rest)
+behind_target entry target fields delay stream =
+    and_then (delay_from fields delay stream) (λ delay rest. done (with_delay entry target delay) rest)
 
 abbrev pub behind_pin : Entry → List StreamItem → Reading Entry
-behind_pin entry stream = and_then (word_by (target_of (pins_of entry)) stream) (λ target rest. behind_target entry target pin_fields no_delay rest)
+behind_pin entry stream = and_then (word_by (target_of (pins_of entry)) stream)
+    (λ target rest. behind_target entry target pin_fields no_delay rest)

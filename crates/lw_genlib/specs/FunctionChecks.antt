@@ -1,5 +1,6 @@
 -- What is kept of the tokens of a function that were checked.
-use Rattle.std.specs.Prelude.{ℕ, ◌+◌, ◌<◌, ◌==◌, nat_le, Bool, false, not, ◌&&◌, ◌||◌, List, length, drop, Option, Some, None, if◌then◌else◌, ◌^◌}
+use Rattle.std.specs.Prelude.{ℕ, ◌+◌, ◌<◌, ◌==◌, nat_le, Bool, false, not, ◌&&◌, ◌||◌, List, length, drop, Option, Some}
+use Rattle.std.specs.Prelude.{None, if◌then◌else◌, ◌^◌}
 use Rattle.std.specs.List.{list_any, count_by}
 use Rattle.lw_genlib.specs.declared.token.Token.{Token}
 use Rattle.lw_genlib.specs.declared.token.Token.TheVariants.{Name, Punct}
@@ -8,7 +9,8 @@ use Rattle.lw_genlib.specs.declared.fault.LibKind.TheVariants.{Expected, BadByte
 use Rattle.lw_genlib.specs.declared.function_check.FunctionCheck.{FunctionCheck}
 use Rattle.lw_genlib.specs.Cells.{ends_in_stroke}
 use Rattle.lw_genlib.specs.Grammar.{is_punct, is_name, awaits_behind, depth_behind, fits, names_in}
-use Rattle.lw_genlib.specs.Functions.{is_constant_name, is_constant, is_no_paren, awaits, depth_in, is_among, with_pin, pins_in}
+use Rattle.lw_genlib.specs.Functions.{is_constant_name, is_constant, is_no_paren, awaits, depth_in, is_among, with_pin}
+use Rattle.lw_genlib.specs.Functions.{pins_in}
 
 -- what is kept of these tokens
 abbrev pub check_of : List Token → FunctionCheck

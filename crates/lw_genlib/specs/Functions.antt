@@ -1,5 +1,6 @@
 -- The functions of cells: the first token that may not stand where it does, and the pins.
-use Rattle.std.specs.Prelude.{ℕ, ◌==◌, ◌≡◌, ◌≤◌, ◌<◌, ◌^◌, nat_le, Bool, false, not, ◌&&◌, ◌||◌, List, [], ◌∷◌, ◌++◌, length, drop, fold, Option, Some, None, if◌then◌else◌, codes}
+use Rattle.std.specs.Prelude.{ℕ, ◌==◌, ◌≡◌, ◌≤◌, ◌<◌, ◌^◌, nat_le, Bool, false, not, ◌&&◌, ◌||◌, List, [], ◌∷◌, ◌++◌}
+use Rattle.std.specs.Prelude.{length, drop, fold, Option, Some, None, if◌then◌else◌, codes}
 use Rattle.std.specs.List.{list_any, count_by}
 use Rattle.std.specs.Str.{bytes_eq}
 use Rattle.lw_genlib.specs.declared.token.Token.{Token}
@@ -89,7 +90,8 @@ fault_or line None other = other
 unfoldable pub first_fault : List Token → List ℕ → List Token → Option LibFault
 first_fault before lines [] = None
 first_fault before [] (token ∷ tokens) = None
-first_fault before (line ∷ lines) (token ∷ tokens) = fault_or line (token_fault before token) (first_fault (before ++ token ∷ []) lines tokens)
+first_fault before (line ∷ lines) (token ∷ tokens) =
+    fault_or line (token_fault before token) (first_fault (before ++ token ∷ []) lines tokens)
 
 -- each token has the number of its line, and there are fewer than 2 ^ 32
 pub record AreLined (tokens : List Token) (lines : List ℕ) : Type 0 where

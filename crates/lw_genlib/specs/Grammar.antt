@@ -1,5 +1,6 @@
 -- The functions of cells: which tokens spell which expression.
-use Rattle.std.specs.Prelude.{ℕ, ◌+◌, ◌-◌, ◌≤◌, ◌≡◌, ◌==◌, Bool, true, false, not, ◌&&◌, ◌||◌, ◌⊎◌, List, [], ◌∷◌, ◌++◌, unwrap_or, if◌then◌else◌, codes}
+use Rattle.std.specs.Prelude.{ℕ, ◌+◌, ◌-◌, ◌≤◌, ◌≡◌, ◌==◌, Bool, true, false, not, ◌&&◌, ◌||◌, ◌⊎◌, List, [], ◌∷◌, ◌++◌}
+use Rattle.std.specs.Prelude.{unwrap_or, if◌then◌else◌, codes}
 use Rattle.std.specs.List.{position}
 use Rattle.std.specs.Str.{bytes_eq}
 use Rattle.lw_laws.specs.Expressions.{Expr}
@@ -48,22 +49,29 @@ plus_token = Punct 43
 -- Tokens that spell a sum of products, a product of factors, a factor, and a name or a group with the `'` behind it.
 mutual
   pub data IsSum (pins : List (List ℕ)) : List Token → List Expr → Type 0 where
-    first_product : (tokens : List Token) (es : List Expr) → IsProduct pins tokens es → IsSum pins tokens (product_of es ∷ [])
-    next_product : (before tokens : List Token) (sums es : List Expr) → IsSum pins before sums → IsProduct pins tokens es → IsSum pins (before ++ plus_token ∷ tokens) (sums ++ product_of es ∷ [])
+    first_product : (tokens : List Token) (es : List Expr) → IsProduct pins tokens es
+        → IsSum pins tokens (product_of es ∷ [])
+    next_product : (before tokens : List Token) (sums es : List Expr) → IsSum pins before sums
+        → IsProduct pins tokens es → IsSum pins (before ++ plus_token ∷ tokens) (sums ++ product_of es ∷ [])
 
   pub data IsProduct (pins : List (List ℕ)) : List Token → List Expr → Type 0 where
     first_factor : (tokens : List Token) (e : Expr) → IsFactor pins tokens e → IsProduct pins tokens (e ∷ [])
-    beside_factor : (before tokens : List Token) (es : List Expr) (e : Expr) → IsProduct pins before es → IsFactor pins tokens e → IsProduct pins (before ++ tokens) (es ++ e ∷ [])
-    times_factor : (before tokens : List Token) (es : List Expr) (e : Expr) → IsProduct pins before es → IsFactor pins tokens e → IsProduct pins (before ++ star_token ∷ tokens) (es ++ e ∷ [])
+    beside_factor : (before tokens : List Token) (es : List Expr) (e : Expr) → IsProduct pins before es
+        → IsFactor pins tokens e → IsProduct pins (before ++ tokens) (es ++ e ∷ [])
+    times_factor : (before tokens : List Token) (es : List Expr) (e : Expr) → IsProduct pins before es
+        → IsFactor pins tokens e → IsProduct pins (before ++ star_token ∷ tokens) (es ++ e ∷ [])
 
   pub data IsFactor (pins : List (List ℕ)) : List Token → Expr → Type 0 where
     plain_factor : (tokens : List Token) (e : Expr) → IsAtom pins tokens e → IsFactor pins tokens e
-    bang_factor : (tokens : List Token) (e : Expr) → IsFactor pins tokens e → IsFactor pins (bang_token ∷ tokens) (expr_not e)
+    bang_factor : (tokens : List Token) (e : Expr) → IsFactor pins tokens e
+        → IsFactor pins (bang_token ∷ tokens) (expr_not e)
 
   pub data IsAtom (pins : List (List ℕ)) : List Token → Expr → Type 0 where
     name_atom : (name : List ℕ) → IsAtom pins (Name name ∷ []) (literal_of pins name)
-    group_atom : (tokens : List Token) (es : List Expr) → IsSum pins tokens es → IsAtom pins (open_token ∷ (tokens ++ close_token ∷ [])) (sum_of es)
-    quoted_atom : (tokens : List Token) (e : Expr) → IsAtom pins tokens e → IsAtom pins (tokens ++ quote_token ∷ []) (expr_not e)
+    group_atom : (tokens : List Token) (es : List Expr) → IsSum pins tokens es
+        → IsAtom pins (open_token ∷ (tokens ++ close_token ∷ [])) (sum_of es)
+    quoted_atom : (tokens : List Token) (e : Expr) → IsAtom pins tokens e
+        → IsAtom pins (tokens ++ quote_token ∷ []) (expr_not e)
 
 -- What may follow.
 
@@ -103,7 +111,8 @@ fits false depth token = is_inner token && not (is_punct 41 token && depth == 0)
 -- the tokens may stand one after the other, and end where no group is open and no operand awaited
 abbrev pub go_on : Bool → ℕ → List Token → Bool
 go_on awaits depth [] = not awaits && depth == 0
-go_on awaits depth (token ∷ tokens) = fits awaits depth token && go_on (awaits_behind token) (depth_behind token depth) tokens
+go_on awaits depth (token ∷ tokens) =
+    fits awaits depth token && go_on (awaits_behind token) (depth_behind token depth) tokens
 
 -- how many names stand among the tokens
 abbrev pub names_in : List Token → ℕ
@@ -116,8 +125,10 @@ abbrev pub begins_with : (Token → Bool) → List Token → Bool
 begins_with p [] = false
 begins_with p (token ∷ tokens) = p token
 
--- What a reader did: the tokens before those that are left spell this expression, whose steps were appended, and none of these tokens follows.
-pub record Reads (Spells : List Token → Expr → Type 0) (follows : Token → Bool) (depth : ℕ) (tokens rest : List Token) (old new : List ExprOp) : Type 0 where
+-- What a reader did: the tokens before those that are left spell this expression, whose steps were appended, and none
+-- of these tokens follows.
+pub record Reads (Spells : List Token → Expr → Type 0) (follows : Token → Bool) (depth : ℕ) (tokens rest : List Token)
+    (old new : List ExprOp) : Type 0 where
   pub read : List Token
   pub tree : Expr
   pub whole : tokens ≡ read ++ rest

@@ -1,12 +1,14 @@
 -- What the types of a reader keep.
-use Rattle.std.specs.Prelude.{ℕ, ⊤, not, IsTrue, ◌≡◌, ◌+◌, ◌≤◌, true, false, List, [], ◌∷◌, ◌++◌, length, All, Option, sum_by, IfSome}
+use Rattle.std.specs.Prelude.{ℕ, ⊤, not, IsTrue, ◌≡◌, ◌+◌, ◌≤◌, true, false, List, [], ◌∷◌, ◌++◌, length, All, Option}
+use Rattle.std.specs.Prelude.{sum_by, IfSome}
 use Rattle.std.specs.List.{list_any, list_all, IsDistinct}
 use Rattle.std.specs.Str.{bytes_eq}
 use Rattle.lw_fixed.specs.declared.micro.Micro.{Micro}
 use Rattle.lw_laws.specs.Expressions.{Expr}
 use Rattle.lw_genlib.specs.declared.token.Token.{Token}
 use Rattle.lw_genlib.specs.declared.token.Token.TheVariants.{Name, Punct}
-use Rattle.lw_genlib.specs.Cells.{CellParts, IsWord, IsPart, IsPinName, IsSmall, IsForm, IsLibrary, form_count, is_punct_byte, longest_function, function_room}
+use Rattle.lw_genlib.specs.Cells.{CellParts, IsWord, IsPart, IsPinName, IsSmall, IsForm, IsLibrary, form_count}
+use Rattle.lw_genlib.specs.Cells.{is_punct_byte, longest_function, function_room}
 use Rattle.lw_genlib.specs.Entries.{FunctionText, is_end}
 use Rattle.lw_genlib.specs.Grammar.{is_punct, go_on, names_in}
 use Rattle.lw_genlib.specs.Functions.{pins_in}
@@ -19,7 +21,8 @@ IsRun most name = IsWord most name × IsTrue (list_all (λ b. not (is_punct_byte
 
 abbrev pub AreRunsWithin : ℕ → List Token → Type 0
 AreRunsWithin most [] = ⊤
-AreRunsWithin most (Name name ∷ tokens) = IsWord most name × IsTrue (list_all (λ b. not (is_punct_byte b)) name) × AreRunsWithin most tokens
+AreRunsWithin most (Name name ∷ tokens) =
+    IsWord most name × IsTrue (list_all (λ b. not (is_punct_byte b)) name) × AreRunsWithin most tokens
 AreRunsWithin most (Punct b ∷ tokens) = AreRunsWithin most tokens
 
 abbrev pub AreRuns : List Token → Type 0
@@ -67,7 +70,8 @@ pub record AreCells (cells : List CellParts) (entries : ℕ) : Type 0 where
   pub count : entries ≡ sum_by form_count cells
 
 -- an entry whose function is whole
-pub record IsEntry (name : List ℕ) (area : Micro) (tokens : List Token) (output : List ℕ) (pins : List (List ℕ)) (form : Expr) (named : List (Option Micro)) (every : Option Micro) : Type 0 where
+pub record IsEntry (name : List ℕ) (area : Micro) (tokens : List Token) (output : List ℕ) (pins : List (List ℕ))
+    (form : Expr) (named : List (Option Micro)) (every : Option Micro) : Type 0 where
   pub word : IsWord longest_word name
   pub small : IsSmall area
   pub function : IsFunction tokens output pins form

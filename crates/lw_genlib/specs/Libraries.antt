@@ -1,12 +1,14 @@
 -- The library of a text's lines.
-use Rattle.std.specs.Prelude.{ℕ, zero, suc, Bool, nat_le, ◌||◌, List, [], ◌∷◌, ◌++◌, length, sum_by, Option, Some, None, Result, Ok, Err, if◌then◌else◌, codes}
+use Rattle.std.specs.Prelude.{ℕ, zero, suc, Bool, nat_le, ◌||◌, List, [], ◌∷◌, ◌++◌, length, sum_by, Option, Some, None}
+use Rattle.std.specs.Prelude.{Result, Ok, Err, if◌then◌else◌, codes}
 use Rattle.std.specs.Str.{bytes_eq}
 use Rattle.lw_words.specs.Lines.{LogicalLine}
 use Rattle.lw_genlib.specs.declared.fault.LibKind.TheVariants.{Expected, LongWord, LimitCells}
 use Rattle.lw_genlib.specs.declared.fault.LibFault.{LibFault}
 use Rattle.lw_genlib.specs.declared.fault.LibFault.TheVariants.{Line}
 use Rattle.lw_genlib.specs.Cells.{CellParts, form_count, most_entries}
-use Rattle.lw_genlib.specs.Streams.{StreamItem, word_on, long_line, text_end, stream_of, last_number, Reading, done, broken, cut_short, and_then}
+use Rattle.lw_genlib.specs.Streams.{StreamItem, word_on, long_line, text_end, stream_of, last_number, Reading, done}
+use Rattle.lw_genlib.specs.Streams.{broken, cut_short, and_then}
 use Rattle.lw_genlib.specs.Entries.{Entry, behind_gate, behind_pin}
 use Rattle.lw_genlib.specs.Merging.{merged}
 
@@ -65,7 +67,8 @@ abbrev pub entry_on : ℕ → List ℕ → List StreamItem → CellsSoFar → Re
 entry_on line bytes rest so_far =
     if is_word (codes "LATCH") bytes then done so_far (behind_latch rest)
     else (if is_word (codes "GATE") bytes
-    then (if nat_le most_entries (sum_by form_count so_far.cells) then broken (Line line LimitCells) else gate_on so_far line rest)
+    then (if nat_le most_entries (sum_by form_count so_far.cells) then broken
+    (Line line LimitCells) else gate_on so_far line rest)
     else broken (Line line Expected))
 
 -- The tests at the end of an entry come before those of the word that ends it.
@@ -78,9 +81,11 @@ pin_on so_far entry stream = opened_by so_far (behind_pin entry stream)
 -- The words `PIN` and those behind it, of an entry whose pins may follow, or a new entry.
 abbrev pub words_behind : CellsSoFar → Option Entry → ℕ → List ℕ → List StreamItem → Reading CellsSoFar
 words_behind so_far None line bytes rest = entry_behind so_far line bytes rest
-words_behind so_far (Some entry) line bytes rest = if is_word (codes "PIN") bytes then pin_on so_far entry rest else entry_behind so_far line bytes rest
+words_behind so_far (Some entry) line bytes rest =
+    if is_word (codes "PIN") bytes then pin_on so_far entry rest else entry_behind so_far line bytes rest
 
--- What comes of one pin or one entry: the cells so far with the stream that is left, a fault, nothing yet, or at the end of the text the cells.
+-- What comes of one pin or one entry: the cells so far with the stream that is left, a fault, nothing yet, or at the
+-- end of the text the cells.
 pub data Piece : Type 0 where
   next : CellsSoFar → List StreamItem → Piece
   stopped : LibFault → Piece

@@ -1,5 +1,6 @@
 -- Cells of entries: an entry makes a cell, or gives one more form to the cell of its name.
-use Rattle.std.specs.Prelude.{ℕ, ◌≡◌, MatchOption, ◌^◌, Bool, true, false, not, ◌&&◌, ◌==◌, List, [], ◌∷◌, ◌++◌, length, map, Option, Some, None, Result, Ok, Err, unwrap_or, slice_index_or, if◌then◌else◌}
+use Rattle.std.specs.Prelude.{ℕ, ◌≡◌, MatchOption, ◌^◌, Bool, true, false, not, ◌&&◌, ◌==◌, List, [], ◌∷◌, ◌++◌, length}
+use Rattle.std.specs.Prelude.{map, Option, Some, None, Result, Ok, Err, unwrap_or, slice_index_or, if◌then◌else◌}
 use Rattle.std.specs.List.{list_any, list_all, position, slice_set, zip, range_with_len}
 use Rattle.std.specs.Str.{bytes_eq}
 use Rattle.lw_fixed.specs.declared.micro.Micro.{Micro}
@@ -47,7 +48,8 @@ delays_of entry = map (delay_by entry.every) entry.named
 abbrev pub AreDelaysBy : Option Micro → List (Option Micro) → Option (List Micro) → Type 0
 AreDelaysBy every named all =
     MatchOption all (list_any (λ own. is_missing (own_or every own)) named ≡ true)
-    (λ (delays : List Micro). (list_any (λ own. is_missing (own_or every own)) named ≡ false) × (delays ≡ map (delay_by every) named))
+    (λ (delays : List Micro). (list_any (λ own. is_missing (own_or every own)) named ≡ false)
+    × (delays ≡ map (delay_by every) named))
 
 -- the delay of each pin, or the fault that one lacks its delay
 abbrev pub delays_or_fault : Entry → Result (List Micro) LibFault
@@ -58,7 +60,15 @@ abbrev pub form_over : List (List ℕ) → Entry → Expr
 form_over pins entry = expression_of pins (inner_of entry.tokens)
 
 abbrev pub cell_of : Entry → CellParts
-cell_of entry = record { name = entry.name; area = entry.area; output = output_of entry; pins = pins_of entry; delays = delays_of entry; forms = form_over (pins_of entry) entry ∷ [] }
+cell_of entry =
+    record {
+      name = entry.name;
+      area = entry.area;
+      output = output_of entry;
+      pins = pins_of entry;
+      delays = delays_of entry;
+      forms = form_over (pins_of entry) entry ∷ [];
+    }
 
 -- Entries of one name.
 
@@ -69,7 +79,7 @@ is_same_pin pin other = bytes_eq pin.0 other.0 && pin.1.0 == other.1.0
 abbrev pub is_pin_among : List (List ℕ × Micro) → List ℕ × Micro → Bool
 is_pin_among pins pin = list_any (is_same_pin pin) pins
 
--- the same pins with the same delays, in any order
+-- both have the pins of the other with their delays, in any order
 abbrev pub have_same_pins : List (List ℕ × Micro) → List (List ℕ × Micro) → Bool
 have_same_pins pins others = list_all (is_pin_among others) pins && list_all (is_pin_among pins) others
 
@@ -77,9 +87,10 @@ abbrev pub is_same : Bool → Bool → Bool
 is_same true b = b
 is_same false b = not b
 
--- the same value under each assignment of so many pins
+-- both functions have one value under each assignment of so many pins
 unfoldable pub have_same_table : ℕ → Expr → Expr → Bool
-have_same_table pins e f = list_all (λ n. is_same (expr_value (assigned n) e) (expr_value (assigned n) f)) (range_with_len 0 (2 ^ pins))
+have_same_table pins e f =
+    list_all (λ n. is_same (expr_value (assigned n) e) (expr_value (assigned n) f)) (range_with_len 0 (2 ^ pins))
 
 -- the output, the area and the pins with their delays are those of the cell
 abbrev pub is_alike : CellParts → List ℕ → Micro → List (List ℕ × Micro) → Bool
@@ -93,14 +104,24 @@ agrees cell entry =
     && have_same_table (length cell.pins) (first_expr cell.forms) (form_over cell.pins entry)
 
 abbrev pub with_form : CellParts → Expr → CellParts
-with_form cell form = record { name = cell.name; area = cell.area; output = cell.output; pins = cell.pins; delays = cell.delays; forms = cell.forms ++ form ∷ [] }
+with_form cell form =
+    record {
+      name = cell.name;
+      area = cell.area;
+      output = cell.output;
+      pins = cell.pins;
+      delays = cell.delays;
+      forms = cell.forms ++ form ∷ [];
+    }
 
 -- the cells with the entry's, where this is the place of its name among them
 abbrev pub merged_at : List CellParts → Entry → Option ℕ → Result (List CellParts) LibFault
 merged_at cells entry None = Ok (cells ++ cell_of entry ∷ [])
 merged_at cells entry (Some place) =
     if agrees (slice_index_or cells place (cell_of entry)) entry
-    then Ok (slice_set cells place (with_form (slice_index_or cells place (cell_of entry)) (form_over (slice_index_or cells place (cell_of entry)).pins entry)))
+    then Ok (slice_set cells place
+    (with_form (slice_index_or cells place (cell_of entry))
+    (form_over (slice_index_or cells place (cell_of entry)).pins entry)))
     else Err (Line entry.line CellDiffers)
 
 -- the place of the cell with the entry's name

@@ -1,9 +1,11 @@
--- What was read of an expression: from the front of what was left to read, up to the tokens that are then left, with its steps appended.
+-- What was read of an expression: from the front of what was left to read, up to the tokens that are then left, with
+-- its steps appended.
 use Rattle.std.specs.Prelude.{◌≡◌, false, List}
 use Rattle.lw_genlib.specs.declared.token.Token.{Token}
 use Rattle.lw_genlib.specs.declared.op.ExprOp.{ExprOp}
 use Rattle.lw_genlib.specs.declared.unread.Unread.{Unread}
-use Rattle.lw_genlib.specs.Grammar.{Reads, SpellsSum, SpellsProduct, IsFactor, IsAtom, after_sum, after_product, after_factor, after_atom, begins_with, is_punct}
+use Rattle.lw_genlib.specs.Grammar.{Reads, SpellsSum, SpellsProduct, IsFactor, IsAtom, after_sum, after_product}
+use Rattle.lw_genlib.specs.Grammar.{after_factor, after_atom, begins_with, is_punct}
 
 abbrev pub ReadsSum : Unread → List Token → List ExprOp → List ExprOp → Type 0
 ReadsSum left rest old new = Reads (SpellsSum left.pins.now) after_sum left.depth left.text.now rest old new

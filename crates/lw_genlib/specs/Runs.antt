@@ -17,7 +17,8 @@ IsPinOf pins (Or n) = Unit {0}
 -- Behind so many values the steps find their operands, never hold more than 64 values, and leave one.
 abbrev pub CanRun : ℕ → ℕ → List ExprOp → Type 0
 CanRun pins size [] = size ≡ 1
-CanRun pins size (op ∷ ops) = (arity op ≤ size) × (size - arity op < 64) × IsPinOf pins op × CanRun pins (size - arity op + 1) ops
+CanRun pins size (op ∷ ops) =
+    (arity op ≤ size) × (size - arity op < 64) × IsPinOf pins op × CanRun pins (size - arity op + 1) ops
 
 abbrev pub constant_word : Bool → ℕ
 constant_word true = 2 ^ 64 - 1

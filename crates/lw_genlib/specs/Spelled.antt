@@ -1,5 +1,6 @@
 -- The expression that tokens spell, read from left to right: what is kept of each group that is open.
-use Rattle.std.specs.Prelude.{ℕ, ◌-◌, ◌==◌, zero, suc, List, [], ◌∷◌, ◌++◌, fold, length, take, drop, Option, Some, None, if◌then◌else◌, false}
+use Rattle.std.specs.Prelude.{ℕ, ◌-◌, ◌==◌, zero, suc, List, [], ◌∷◌, ◌++◌, fold, length, take, drop, Option, Some}
+use Rattle.std.specs.Prelude.{None, if◌then◌else◌, false}
 use Rattle.lw_laws.specs.Expressions.{Expr}
 use Rattle.lw_laws.specs.Expressions.Expr.{expr_const, expr_not}
 use Rattle.lw_genlib.specs.declared.token.Token.{Token}
@@ -36,16 +37,30 @@ bangs_left bangs (Some e) = 0
 
 -- the group where the factor, if there is one, is at its end
 abbrev pub factor_ended : Group → Group
-factor_ended g = record { products = g.products; factors = with_factor g.factors g.bangs g.atom; bangs = bangs_left g.bangs g.atom; atom = None }
+factor_ended g =
+    record {
+      products = g.products;
+      factors = with_factor g.factors g.bangs g.atom;
+      bangs = bangs_left g.bangs g.atom;
+      atom = None;
+    }
 
 abbrev pub product_ended : Group → Group
-product_ended g = record { products = g.products ++ product_of (factor_ended g).factors ∷ []; factors = []; bangs = 0; atom = None }
+product_ended g =
+    record { products = g.products ++ product_of (factor_ended g).factors ∷ []; factors = []; bangs = 0; atom = None }
 
 abbrev pub with_bang : Group → Group
-with_bang g = record { products = g.products; factors = (factor_ended g).factors; bangs = suc (factor_ended g).bangs; atom = None }
+with_bang g =
+    record {
+      products = g.products;
+      factors = (factor_ended g).factors;
+      bangs = suc (factor_ended g).bangs;
+      atom = None;
+    }
 
 abbrev pub with_atom : Group → Expr → Group
-with_atom g e = record { products = g.products; factors = (factor_ended g).factors; bangs = (factor_ended g).bangs; atom = Some e }
+with_atom g e =
+    record { products = g.products; factors = (factor_ended g).factors; bangs = (factor_ended g).bangs; atom = Some e }
 
 abbrev pub quoted_atom : Option Expr → Option Expr
 quoted_atom None = None

@@ -6,7 +6,8 @@ use Rattle.lw_genlib.specs.declared.fault.LibKind.TheVariants.{Expected, LongWor
 use Rattle.lw_genlib.specs.declared.fault.LibFault.{LibFault}
 use Rattle.lw_genlib.specs.declared.fault.LibFault.TheVariants.{Line}
 
--- a word and the number of its line, a line with a word that is too long, or the end of the text, by the number of its last line
+-- a word and the number of its line, a line with a word that is too long, or the end of the text, by the number of its
+-- last line
 pub data StreamItem : Type 0 where
   word_on : ℕ → List ℕ → StreamItem
   long_line : ℕ → StreamItem
@@ -25,7 +26,8 @@ last_number [] = 0
 last_number (line ∷ []) = line.number
 last_number (line ∷ next ∷ lines) = last_number (next ∷ lines)
 
--- What is read from the front of a stream: a value, and the stream that is left; a fault; or nothing yet, where the stream is cut short.
+-- What is read from the front of a stream: a value, and the stream that is left; a fault; or nothing yet, where the
+-- stream is cut short.
 pub data Reading (A : Type 0) : Type 0 where
   done : A → List StreamItem → Reading A
   broken : LibFault → Reading A

@@ -1,4 +1,5 @@
--- The cells of a library as tables: by the number of a cell, the delays of its pins, and its truth; and the patterns of all cells.
+-- The cells of a library as tables: by the number of a cell, the delays of its pins, and its truth; and the patterns of
+-- all cells.
 use Rattle.std.specs.Prelude.{ℕ, Bool, false, List, map, Option, Some, None, slice_get}
 use Rattle.lw_fixed.specs.declared.micro.Micro.{Micro}
 use Rattle.lw_laws.specs.Covers.{Timing, Pattern}

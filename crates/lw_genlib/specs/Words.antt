@@ -16,7 +16,8 @@ assigned n p = bit p n
 
 -- the expressions have the same values under the 64 assignments of a block
 abbrev pub AgreeIn : Expr → Expr → ℕ → Type 0
-AgreeIn e f block = (k : ℕ) → k < 64 → expr_value (assigned (block * 64 + k)) e ≡ expr_value (assigned (block * 64 + k)) f
+AgreeIn e f block =
+    (k : ℕ) → k < 64 → expr_value (assigned (block * 64 + k)) e ≡ expr_value (assigned (block * 64 + k)) f
 
 -- how many blocks the assignments of so many pins have
 abbrev pub block_count : ℕ → ℕ

@@ -24,9 +24,24 @@ impl Model for Cell {
 
     ghost coded = { cell_code };
 
-    ghost view = { λ c. record { name = c.name; area = c.area; output = c.output; pins = c.pins; delays = c.delays; forms = c.forms } };
+    ghost view = { λ c. record {
+      name = c.name;
+      area = c.area;
+      output = c.output;
+      pins = c.pins;
+      delays = c.delays;
+      forms = c.forms;
+    } };
 
-    ghost invariant = { λ c. IsCell (record { name = c.name; area = c.area; output = c.output; pins = c.pins; delays = c.delays; forms = c.forms }) };
+    ghost invariant = { λ c. IsCell
+        (record {
+          name = c.name;
+          area = c.area;
+          output = c.output;
+          pins = c.pins;
+          delays = c.delays;
+          forms = c.forms;
+        }) };
 }
 
 impl Cell {

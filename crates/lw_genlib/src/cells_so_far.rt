@@ -1,5 +1,6 @@
 // The cells of the entries that are at their end.
-ghost use Rattle.std.specs.Prelude.{◌≡◌, ◌<◌, MatchResult, Ok, Some, None, IfOk, OnOk, ◌++◌, [], ◌∷◌, length, true, false};
+ghost use Rattle.std.specs.Prelude.{◌≡◌, ◌<◌, MatchResult, Ok, Some, None, IfOk, OnOk, ◌++◌, []};
+ghost use Rattle.std.specs.Prelude.{◌∷◌, length, true, false};
 ghost use Rattle.std.specs.List.{list_any, IsDistinct};
 ghost use Rattle.std.specs.Str.{bytes_eq};
 ghost use Rattle.lw_genlib.specs.Cells.{CellParts, IsCell, IsListed, form_count};

@@ -1,5 +1,6 @@
 // Checks the tokens of a function one by one: finds the first that may not stand where it does.
-ghost use Rattle.std.specs.Prelude.{◌≡◌, ◌<◌, ◌^◌, [], MatchResult, OnOk, Some, None, ◌||◌, ◌==◌, false, if◌then◌else◌};
+ghost use Rattle.std.specs.Prelude.{◌≡◌, ◌<◌, ◌^◌, [], MatchResult, OnOk, Some, None, ◌||◌, ◌==◌};
+ghost use Rattle.std.specs.Prelude.{false, if◌then◌else◌};
 ghost use Rattle.lw_genlib.specs.Grammar as grammar;
 ghost use Rattle.lw_genlib.specs.Functions as function;
 ghost use Rattle.lw_genlib.specs.FunctionChecks as checks;

@@ -1,5 +1,6 @@
 // The text of a function, word by word, as tokens.
-ghost use Rattle.std.specs.Prelude.{◌≡◌, ◌+◌, ◌++◌, IfOk, OnOk, replicate, false, true, IfSome, IfNone};
+ghost use Rattle.std.specs.Prelude.{◌≡◌, ◌+◌, ◌++◌, IfOk, OnOk, replicate, false, true, IfSome};
+ghost use Rattle.std.specs.Prelude.{IfNone};
 ghost use Rattle.std.specs.List.{list_any, before_first, after_first, position};
 ghost use Rattle.lw_genlib.specs.Entries as words;
 ghost use Rattle.lw_genlib.specs.Kept.{IsOpenText, MayJoin};

@@ -5,6 +5,10 @@
 //! cut into tokens (`tokenize`, `function_text`), checked one by one (`check_tokens`) and parsed
 //! (`parsing`). At its end an entry becomes a cell, or gives one more form to the cell of its name
 //! (`cells_so_far`, `merge_entry`), where truth tables are compared (`truth`, `eval`).
+//!
+//! The definitions to read are `CellParts` in `specs/Cells.antt` for what a library is, and
+//! `library_of` in `specs/Libraries.antt` for what lines say. `lw_files` gives lines to
+//! `LibReader`.
 #![tactic(auto)]
 
 mod cell;

@@ -31,7 +31,8 @@ impl Model for Library {
 }
 
 impl Library {
-    ghost use Rattle.std.specs.Prelude.{◌≡◌, ◌<◌, IfOk, IfSome, IfNone, Some, Contains, length, slice_get};
+    ghost use Rattle.std.specs.Prelude.{◌≡◌, ◌<◌, IfOk, IfSome, IfNone, Some, Contains, length};
+    ghost use Rattle.std.specs.Prelude.{slice_get};
     ghost use Rattle.lw_genlib.specs.Cells.{IsLibrary, names_of};
 
     /// The library of these cells.

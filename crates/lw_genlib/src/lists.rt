@@ -40,12 +40,14 @@ impl Exprs {
         Exprs { items }
     }
 
+    /// How many expressions there are.
     pub fn len(&self) -> usize
         ensures { result ≡ length self.now }
     {
         self.items.len()
     }
 
+    /// The expressions, in order.
     pub fn as_slice(&self) -> &[Expr]
         ensures { result.now ≡ self.now }
     {

@@ -1,11 +1,13 @@
 // Parses an expression from tokens that may stand one after the other.
-ghost use Rattle.std.specs.Prelude.{◌≡◌, ◌≤◌, ◌^◌, ◌||◌, ◌∷◌, [], true, false, IfOk, OnOk, MatchOption, length, unwrap_or, replicate, ◌++◌};
+ghost use Rattle.std.specs.Prelude.{◌≡◌, ◌≤◌, ◌^◌, ◌||◌, ◌∷◌, [], true, false, IfOk, OnOk};
+ghost use Rattle.std.specs.Prelude.{MatchOption, length, unwrap_or, replicate, ◌++◌};
 ghost use Rattle.std.specs.List.{position, prefix_len};
 ghost use Rattle.std.specs.Str.{bytes_eq};
 ghost use Rattle.lw_genlib.specs.declared.token.Token.TheVariants.{Punct};
 ghost use Rattle.lw_genlib.specs.Grammar as grammar;
 ghost use Rattle.lw_genlib.specs.Grammar.{SpellsSum, go_on, begins_with, names_in};
-ghost use Rattle.lw_genlib.specs.Parsing.{ReadsSum, ReadsProduct, ReadsFactor, ReadsQuoted, ReadsAtom, HasNoBang};
+ghost use Rattle.lw_genlib.specs.Parsing.{ReadsSum, ReadsProduct, ReadsFactor, ReadsQuoted};
+ghost use Rattle.lw_genlib.specs.Parsing.{ReadsAtom, HasNoBang};
 ghost use Rattle.lw_genlib.specs.Postfix.{postfix};
 
 use crate::function_check::is_punct;

@@ -2,7 +2,8 @@
 ghost use Rattle.std.specs.Prelude.{[], ◌∷◌, Some};
 ghost use Rattle.lw_genlib.specs.Cells.{IsWord};
 ghost use Rattle.lw_genlib.specs.declared.state_parts.Expect.TheVariants as expects;
-ghost use Rattle.lw_genlib.specs.Standing.{ReadsMore, ReadsWord, BeginsPiece, BeginsEntry, EndsFunction, EndsField, item_of};
+ghost use Rattle.lw_genlib.specs.Standing.{ReadsMore, ReadsWord, BeginsPiece, BeginsEntry};
+ghost use Rattle.lw_genlib.specs.Standing.{EndsFunction, EndsField, item_of};
 ghost use Rattle.lw_words.specs.Limits.{longest_word};
 
 use crate::cells_so_far::close_entry;

@@ -36,13 +36,16 @@ pub(crate) enum Status {
 }
 
 impl LibReader {
-    ghost use Rattle.std.specs.Prelude.{◌≡◌, ◌++◌, [], ◌∷◌, List, Ok, Err, IfSome, IsSome, MatchResult};
+    ghost use Rattle.std.specs.Prelude.{◌≡◌, ◌++◌, [], ◌∷◌, List, Ok, Err, IfSome, IsSome};
+    ghost use Rattle.std.specs.Prelude.{MatchResult};
     ghost use Rattle.lw_words.specs.Lines.{LogicalLine};
     ghost use Rattle.lw_genlib.specs.Streams.{StreamItem, items_on};
     ghost use Rattle.lw_genlib.specs.Tells.{TellsErr};
     ghost use Rattle.lw_genlib.specs.Libraries.{fault_so_far, library_of};
-    ghost use Rattle.lw_genlib.specs.Standing.{StandsFor, Tells, HasNoHash, resume, stop_of, BreaksAt};
+    ghost use Rattle.lw_genlib.specs.Standing.{StandsFor, Tells, HasNoHash, resume, stop_of};
+    ghost use Rattle.lw_genlib.specs.Standing.{BreaksAt};
 
+    /// A reader of a library, before its first line.
     pub fn new(alloc: Global) -> Self
         ensures { StandsFor result [] }
     {

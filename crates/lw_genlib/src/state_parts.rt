@@ -65,9 +65,17 @@ impl Model for Entry {
 
     ghost Value = { Words };
 
-    ghost view = { λ e. record { line = e.line; name = e.name; area = e.area; tokens = e.tokens.items; named = e.named.items; every = e.every } };
+    ghost view = { λ e. record {
+      line = e.line;
+      name = e.name;
+      area = e.area;
+      tokens = e.tokens.items;
+      named = e.named.items;
+      every = e.every;
+    } };
 
-    ghost invariant = { λ e. IsEntry e.name e.area e.tokens.items e.function.output e.function.pins e.function.form e.named.items e.every };
+    ghost invariant = { λ e. IsEntry e.name e.area e.tokens.items e.function.output e.function.pins
+        e.function.form e.named.items e.every };
 }
 
 /// The cells of the entries that are at their end.

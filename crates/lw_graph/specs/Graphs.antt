@@ -17,15 +17,15 @@ abbrev pub plain_graph : ClassId → List ClassId → List ClassId → List (Lis
 plain_graph one leaves forms rows =
     record { one = one.0; leaves = numbers leaves; forms = numbers forms; pairs = map plain_row rows }
 
--- the same, where the pairs stand one class after the other and each class's end where it is said
+-- the plain graph of pairs that stand one class after the other, with the place at which each class ends
 abbrev pub flat_graph : ClassId → List ClassId → List ClassId → List ℕ → List Pair → PlainGraph
 flat_graph one leaves forms ends pairs = plain_graph one leaves forms (rows_from pairs 0 ends)
 
 abbrev pub IsBelow : ℕ → PlainPair → Type 0
 IsBelow n p = (p.x < n) × (p.y < n)
 
--- What each graph keeps: classes in pairs, with a rising row of pairs for each class and no pair in two of them, and all
--- numbers in range.
+-- What each graph keeps: classes in pairs, with a rising row of pairs for each class and no pair in two of them, and
+-- all numbers in range.
 pub record IsGraph (g : PlainGraph) : Type 0 where
   pub even : length g.pairs % 2 ≡ 0
   pub few : length g.pairs < 2 ^ 32

@@ -1,4 +1,5 @@
-ghost use Rattle.std.specs.Prelude.{◌≡◌, ◌<◌, ◌/◌, ℕ, length, Some, [], slice_get, slice_index_or, All, IfOk, IfSome, IsNone};
+ghost use Rattle.std.specs.Prelude.{◌≡◌, ◌<◌, ◌/◌, ℕ, length, Some, [], slice_get, slice_index_or};
+ghost use Rattle.std.specs.Prelude.{All, IfOk, IfSome, IsNone};
 ghost use Rattle.lw_graph.specs.Ordered.{ordered_pair};
 
 use crate::Pair;
@@ -34,7 +35,8 @@ impl Model for Graph {
 
     ghost view = { λ g. flat_graph g.one g.leaves g.forms g.ends g.pairs.items };
 
-    ghost invariant = { λ g. IsFlatGraph g.one g.leaves g.forms g.ends g.pairs.items g.indexed g.index.items };
+    ghost invariant = { λ g. IsFlatGraph g.one g.leaves g.forms g.ends
+        g.pairs.items g.indexed g.index.items };
 }
 
 // A pair of classes, the lower one first.

@@ -1,6 +1,7 @@
 // An index of the pairs of all classes, and the class that holds a pair, by the index or without
 // it.
-ghost use Rattle.std.specs.Prelude.{◌≡◌, ◌↔◌, ◌++◌, ℕ, [], map, Contains, slice_index_or, MatchOption, IsTrue, OnOk};
+ghost use Rattle.std.specs.Prelude.{◌≡◌, ◌↔◌, ◌++◌, ℕ, [], map, Contains, slice_index_or};
+ghost use Rattle.std.specs.Prelude.{MatchOption, IsTrue, OnOk};
 ghost use Rattle.std.specs.List.Sorted.{IsNonDecreasingBy};
 ghost use Rattle.lw_facts.specs.Sorting.{AreSortedFrom};
 ghost use Rattle.lw_pool.specs.declared.id.ClassId.{ClassId};

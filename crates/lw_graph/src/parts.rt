@@ -12,7 +12,8 @@ use lw_pool::{PairId, Pool};
 pub(crate) struct Parts<'a> {
     pub(crate) pairs: &'a Pool<PairId, Pair>,
     pub(crate) ends: &'a [u32],
-    ghost cut: { AreEnds (length pairs.now.items) 0 ends.now } by { one_cut (length pairs.now.items) 0 ends.now },
+    ghost cut: { AreEnds (length pairs.now.items) 0 ends.now } by { one_cut
+        (length pairs.now.items) 0 ends.now },
     ghost few: { length ends.now < 2 ^ 32 },
 }
 

@@ -4,6 +4,8 @@ use Rattle.std.specs.List.{list_any}
 use Rattle.std.proofs.lemmas.List.{drop_more, length-map}
 use Rattle.std.proofs.lemmas.List.Elements.{All-weaker}
 use Rattle.std.proofs.lemmas.Option.{slice_get_within}
+use Rattle.std.proofs.Math.Bool.{and-true, and_assoc, or_assoc}
+use Rattle.lw_laws.proofs.PatternLaws.{or_by_and}
 use Rattle.lw_aig.specs.declared.gate.Gate.{Gate}
 use Rattle.lw_aig.specs.declared.gate.Gate.TheVariants.{Zero}
 use Rattle.lw_aig.specs.declared.literal.Literal.{Literal}
@@ -42,10 +44,6 @@ off_column gates before column off l sign e turned is = record {
       ∙ ap (λ s. literal_value v before && met_by s (literal_value v column)) (sym e));
 }
 
-and_true : (b : Bool) → b ≡ (b && true)
-and_true true = refl
-and_true false = refl
-
 met_always : (one off : Bool) (b : Bool) → one ≡ false → off ≡ false → (if one then b else (if off then not b else true)) ≡ true
 met_always true off b e f = cc
 met_always false true b e f = cc
@@ -54,13 +52,8 @@ met_always false false b e f = refl
 pub free_column : (gates : List Gate) (before column : Literal) (sign : ℕ) → IsBelow (length gates) before → (sign == 49) ≡ false → (sign == 48) ≡ false → IsWithColumn gates before sign column before
 free_column gates before column sign low e f = record {
   within = low;
-  always = λ v values. and_true (literal_value v before) ∙ ap (λ b. literal_value v before && b) (sym (met_always (sign == 49) (sign == 48) (literal_value v column) e f));
+  always = λ v values. sym (and-true (literal_value v before)) ∙ ap (λ b. literal_value v before && b) (sym (met_always (sign == 49) (sign == 48) (literal_value v column) e f));
 }
-
-or_by_and : (a b : Bool) → not (not a && not b) ≡ (a || b)
-or_by_and true b = refl
-or_by_and false true = refl
-or_by_and false false = refl
 
 pub disjunction : (gates : List Gate) (a b a' b' l l' : Literal) → a' ≡ complement a → b' ≡ complement b → l' ≡ complement l → IsConjunction gates a' b' l → IsDisjunction gates a b l'
 disjunction gates a b a' b' l l' e f g is = record {
@@ -98,14 +91,6 @@ sum_begins gates aig lits fanins rows =
       always = λ v values are carry. ap (λ b. b || sum_of fanins rows values) (are.allowed 0 Zero aig.zero_first);
     }
 
-and_apart : (a b c : Bool) → ((a && b) && c) ≡ (a && (b && c))
-and_apart true b c = refl
-and_apart false b c = refl
-
-or_apart : (a b c : Bool) → ((a || b) || c) ≡ (a || (b || c))
-or_apart true b c = refl
-or_apart false b c = refl
-
 pub row_goes_on : (old new : List Gate) (lits : List Literal) (fanins : List NetId) (row : List ℕ) (i : ℕ) (before l : Literal) → IsExtended old new → length row ≡ length fanins → All (λ (net : NetId). net.0 < length lits) fanins → i < length row → IsRowTo old lits fanins row i before → IsWithColumn new before (get_or row i 0) (get_or lits (get_or fanins i (record { 0 = 0 })).0 (record { 0 = 0 })) l → IsRowTo new lits fanins row (i + 1) l
 row_goes_on old new lits fanins row i before l extended one known lt to is = record {
   within = is.within;
@@ -116,7 +101,7 @@ row_goes_on old new lits fanins row i before l extended one known lt to is = rec
       let value : column ≡ get_or values net false = carry net (record { 0 = 0 }) (known i (record { 0 = 0 }) (omega arith)) in
       let step = row_step values fanins row i (met_by (get_or row i 0) column) one lt (ap (met_by (get_or row i 0)) value) in
       ap (λ b. b && rest) (is.always v are)
-      ∙ (and_apart (literal_value v before) (met_by (get_or row i 0) column) rest
+      ∙ (and_assoc (literal_value v before) (met_by (get_or row i 0) column) rest
       ∙ (ap (λ b. literal_value v before && b) (sym step)
       ∙ to.always v values (values_before old new v extended are) carry));
 }
@@ -128,7 +113,7 @@ sum_goes_on old middle new lits fanins rows i before one l first second lt to ro
       let middle_are = values_before middle new v second are in
       let rest = list_any (row_value (values_at values fanins)) (map (map asked) (drop (i + 1) rows)) in
       ap (λ b. b || rest) (is.always v are)
-      ∙ (or_apart (literal_value v before) (literal_value v one) rest
+      ∙ (or_assoc (literal_value v before) (literal_value v one) rest
       ∙ (ap (λ b. literal_value v before || (b || rest)) (row.always v values middle_are carry)
       ∙ (ap (λ rs. literal_value v before || list_any (row_value (values_at values fanins)) (map (map asked) rs)) (sym (drop_more rows i [] lt))
       ∙ to.always v values (values_before old middle v first middle_are) carry)));

@@ -10,9 +10,13 @@ use Rattle.lw_search.specs.declared.found.Found.{Found}
 use Rattle.lw_search.specs.declared.found.Found.TheVariants.{Equal, Apart, Open}
 use Rattle.lw_joint.specs.Joint.{HaveNetValues}
 
--- Input i of each network has the value of a shared input, whose number stands at place i. Under every assignment of the shared inputs, net k of the one and net m of the other have one value.
-pub record HaveEqualValues (one : Network) (ones : List ℕ) (k : ℕ) (other : Network) (others : List ℕ) (m : ℕ) : Type 0 where
-  pub always : (x : ℕ → Bool) (values values' : List Bool) → AreValues one (λ i. x (slice_index_or ones i 0)) values → AreValues other (λ i. x (slice_index_or others i 0)) values' → slice_index_or values k false ≡ slice_index_or values' m false
+-- Input i of each network has the value of a shared input, whose number stands at place i. Under every assignment of
+-- the shared inputs, net k of the one and net m of the other have one value.
+pub record HaveEqualValues (one : Network) (ones : List ℕ) (k : ℕ) (other : Network) (others : List ℕ)
+    (m : ℕ) : Type 0 where
+  pub always : (x : ℕ → Bool) (values values' : List Bool) → AreValues one (λ i. x (slice_index_or ones i 0)) values
+      → AreValues other (λ i. x (slice_index_or others i 0)) values'
+      → slice_index_or values k false ≡ slice_index_or values' m false
 
 -- the literal of a shared input
 abbrev pub input_literal : ℕ → Literal

@@ -4,6 +4,7 @@ use Rattle.std.specs.List.{AllByRecursion}
 use Rattle.std.proofs.lemmas.Bool.{cases_eq}
 use Rattle.std.proofs.lemmas.Option.{same_Some, slice_get_within, slice_get-get_or}
 use Rattle.std.proofs.lemmas.List.{get_or-set_same, get_or-set_other}
+use Rattle.lw_facts.proofs.Lists.{falses_at}
 use Rattle.lw_bounds.proofs.HeightCuts.{no_higher}
 use Rattle.lw_laws.proofs.Flips.{half-flip}
 use Rattle.lw_laws.specs.Flip.{flip}
@@ -141,12 +142,7 @@ still_elsewhere still place moves c is here =
     true≢false (sym is ∙ subst (λ p. slice_index_or still p false ≡ false) (sym here) moves)
 
 pub still_nowhere : (n c : ℕ) → IsStillAt (replicate n false) c → ⊥
-still_nowhere n c is = true≢false (sym is ∙ none n (c / 2))
-  where
-    none : (n k : ℕ) → slice_index_or (replicate n false) k false ≡ false
-    none zero k = refl
-    none (suc n) zero = refl
-    none (suc n) (suc k) = none n k
+still_nowhere n c is = true≢false (sym is ∙ falses_at n (c / 2))
 
 -- which places are still, after a place has become so
 pub record AreStillToo (g : Graph) (place : ℕ) (old new : List Bool) : Type 0 where

@@ -1,5 +1,7 @@
--- Heights that fall: what visits and rounds do to them and to the table of bounds that cuts their searches, and what marks are begun with.
-use Rattle.std.specs.Prelude.{ℕ, ◌≡◌, ◌<◌, ◌/◌, Bool, true, false, List, length, Option, IfSome, Some, None, option_map, replicate, slice_index_or}
+-- Heights that fall: what visits and rounds do to them and to the table of bounds that cuts their searches, and what
+-- marks are begun with.
+use Rattle.std.specs.Prelude.{ℕ, ◌≡◌, ◌<◌, ◌/◌, Bool, true, false, List, length, Option, IfSome, Some, None, option_map}
+use Rattle.std.specs.Prelude.{replicate, slice_index_or}
 use Rattle.lw_laws.specs.Costs.{Cost}
 use Rattle.lw_laws.specs.Graphs.{Graph}
 use Rattle.lw_laws.specs.Covers.{Pattern}
@@ -19,7 +21,8 @@ use Rattle.lw_label.specs.declared.heights.Heights.{Heights}
 use Rattle.lw_label.specs.declared.heights.Visit.{Visit}
 use Rattle.lw_label.specs.declared.labelling.Task.{Task}
 use Rattle.lw_label.specs.declared.labels.Room.{Room}
-use Rattle.lw_label.specs.Heights.{AreGiven, AreHeightMarks, AreSameBut, AreStill, IsHeightSearch, IsReachedFrom, LowersFrom, TakesFrom, TakesHeight, height_limit, heights_weight, with_mark}
+use Rattle.lw_label.specs.Heights.{AreGiven, AreHeightMarks, AreSameBut, AreStill, IsHeightSearch, IsReachedFrom}
+use Rattle.lw_label.specs.Heights.{LowersFrom, TakesFrom, TakesHeight, height_limit, heights_weight, with_mark}
 use Rattle.lw_cost.specs.Labels.{costs_of}
 use Rattle.lw_label.specs.Lowering.{AreLowering, LabelState, state}
 use Rattle.lw_label.specs.OneVisit.{AreBoundsAround, AreZeroOrSettled}
@@ -36,7 +39,8 @@ pub record IsNewTable (g : Graph) (pats : List Pattern) (t : LabelState) : Type 
   pub flat : AreFlat t.bounds.gaps
   pub zero : AreZero t.bounds.numbers
 
--- a table for the graph and the patterns, where the numbers of each class are 0, or none would fall and the parts are still
+-- a table for the graph and the patterns, where the numbers of each class are 0, or none would fall and the parts are
+-- still
 pub record IsHeightTable (g : Graph) (pats : List Pattern) (still : List Bool) (t : LabelState) : Type 0 where
   pub one_each : length t.marks ≡ length g.pairs
   pub fits : BoundsFit t.bounds pats g
@@ -44,7 +48,8 @@ pub record IsHeightTable (g : Graph) (pats : List Pattern) (still : List Bool) (
   pub numbers : AreZeroOrSettled g t still
 
 -- a table of bounds on the heights of these marks, whatever heights the classes of the place have
-pub record IsTableAround (g : Graph) (pats : List Pattern) (marks : List (Option Mark)) (place : ℕ) (t : LabelState) : Type 0 where
+pub record IsTableAround (g : Graph) (pats : List Pattern) (marks : List (Option Mark)) (place : ℕ)
+    (t : LabelState) : Type 0 where
   pub heights : HasHeightsOf marks t
   pub fits : BoundsFit t.bounds pats g
   pub flat : AreFlat t.bounds.gaps
@@ -55,13 +60,15 @@ abbrev pub with_heights : List (Option Mark) → Option LabelState → Option La
 with_heights marks table = option_map (λ (t : LabelState). state t.bounds (heights_of marks)) table
 
 -- What heights are found by, where some places are still, with a table of heights or none.
-pub record AreHeightsFalling {C : _} (cost : Cost) (d : Given C) (tops : TopsState) (table : Option LabelState) (marks : List (Option Mark)) (still : List Bool) : Type 0 where
+pub record AreHeightsFalling {C : _} (cost : Cost) (d : Given C) (tops : TopsState) (table : Option LabelState)
+    (marks : List (Option Mark)) (still : List Bool) : Type 0 where
   pub search : IsHeightSearch cost d tops marks
   pub kept : AreStill d.task.now.graph.now cost d.task.now.pats.now d.labels.now marks still
   pub heights : IfSome table (HasHeightsOf marks)
   pub numbers : IfSome table (IsHeightTable d.task.now.graph.now d.task.now.pats.now still)
 
--- heights can be lowered at a place, and a table of heights, where there is one, is one of bounds whatever heights its classes have
+-- heights can be lowered at a place, and a table of heights, where there is one, is one of bounds whatever heights its
+-- classes have
 pub record MayLowerHeights {C : Type 0} (costs : C → Cost) (d : Given C) (h : Heights) (place : ℕ) : Type 0 where
   pub search : IsHeightSearch (costs d.task.now.cost.now) d h.tops.now h.marks.items
   pub table : IfSome h.table (IsTableAround d.task.now.graph.now d.task.now.pats.now h.marks.items place)
@@ -72,14 +79,20 @@ IsReachedIn costs d h c = IsReachedFrom (costs d.task.now.cost.now) d h.marks.it
 
 -- a class gets the mark of a match that was found, and the table its height
 pub record PutsHeight (old new : Heights) (class : ℕ) (found : Option Best) (lowered : Bool) : Type 0 where
-  pub takes : (g : Graph) (cost : Cost) (pats : List Pattern) (labels : List (Option Mark)) (bound : Mark) → AreBoundedIn g pats cost (costs_of labels) → AreHeightMarks g cost pats labels old.marks.items → labels_in (costs_of labels) class ≡ Some bound.cost → bound.height ≡ height_limit (slice_index_or old.marks.items class None) → IsMatchWithin g cost pats (marks_in old.marks.items) class (Some bound) found → TakesHeight g cost pats labels old.marks.items new.marks.items lowered
+  pub takes : (g : Graph) (cost : Cost) (pats : List Pattern) (labels : List (Option Mark)) (bound : Mark)
+      → AreBoundedIn g pats cost (costs_of labels) → AreHeightMarks g cost pats labels old.marks.items
+      → labels_in (costs_of labels) class ≡ Some bound.cost
+      → bound.height ≡ height_limit (slice_index_or old.marks.items class None)
+      → IsMatchWithin g cost pats (marks_in old.marks.items) class (Some bound) found
+      → TakesHeight g cost pats labels old.marks.items new.marks.items lowered
   pub none : lowered ≡ false → found ≡ None
   pub marks : new.marks.items ≡ with_mark old.marks.items class found
   pub table : new.table ≡ with_heights new.marks.items old.table
   pub tops : new.tops.now ≡ old.tops.now
 
 -- what a search at one class does: it lowers the height or not, and no match would lower it then, if it is still
-pub record LowersHeight {C : Type 0} (costs : C → Cost) (d : Given C) (old new : Heights) (class : ℕ) (visit : Visit) : Type 0 where
+pub record LowersHeight {C : Type 0} (costs : C → Cost) (d : Given C) (old new : Heights) (class : ℕ)
+    (visit : Visit) : Type 0 where
   pub search : IsHeightSearch (costs d.task.now.cost.now) d new.tops.now new.marks.items
   pub takes : TakesFrom (costs d.task.now.cost.now) d old.marks.items new.marks.items visit.lowered
   pub reached : visit.lowered ≡ false → IsReachedIn costs d old class
@@ -88,14 +101,17 @@ pub record LowersHeight {C : Type 0} (costs : C → Cost) (d : Given C) (old new
   pub table : new.table ≡ with_heights new.marks.items old.table
 
 -- so it does; and where the answer is false, none would lower the height of the complement if none would before
-pub record LowersHeightBeside {C : Type 0} (costs : C → Cost) (d : Given C) (old new : Heights) (class : ℕ) (result : Visit × Bool) : Type 0 where
+pub record LowersHeightBeside {C : Type 0} (costs : C → Cost) (d : Given C) (old new : Heights) (class : ℕ)
+    (result : Visit × Bool) : Type 0 where
   pub lowers : LowersHeight costs d old new class result.0
   pub beside : result.1 ≡ false → IsReachedIn costs d old (flip class) → IsReachedIn costs d new (flip class)
 
 -- what those at the two classes of a place do
-pub record LowersHeightPair {C : Type 0} (costs : C → Cost) (d : Given C) (old new : Heights) (place : ℕ) (visit : Visit) : Type 0 where
+pub record LowersHeightPair {C : Type 0} (costs : C → Cost) (d : Given C) (old new : Heights) (place : ℕ)
+    (visit : Visit) : Type 0 where
   pub search : IsHeightSearch (costs d.task.now.cost.now) d new.tops.now new.marks.items
-  pub lowers : LowersFrom (costs d.task.now.cost.now) d old.marks.items new.marks.items (λ c. c / 2 ≡ place) visit.lowered
+  pub lowers : LowersFrom (costs d.task.now.cost.now) d old.marks.items new.marks.items
+      (λ c. c / 2 ≡ place) visit.lowered
   pub still : visit.is_still ≡ true → (c : ℕ) → c / 2 ≡ place → IsReachedIn costs d new c
   pub others : AreSameBut (λ c. c / 2 ≡ place) old.marks.items new.marks.items
   pub table : new.table ≡ with_heights new.marks.items old.table
@@ -108,17 +124,20 @@ pub record MayStart {C : Type 0} (d : Given C) (h : Heights) : Type 0 where
 
 -- the inputs' classes have got their labels and the height 0
 pub record HaveStarted {C : Type 0} (d : Given C) (old new : Heights) : Type 0 where
-  pub heights : (cost : Cost) (pats : List Pattern) → AreLowering d.task.now.graph.now cost pats d.labels.now → AreHeightMarks d.task.now.graph.now cost pats d.labels.now new.marks.items
+  pub heights : (cost : Cost) (pats : List Pattern) → AreLowering d.task.now.graph.now cost pats d.labels.now
+      → AreHeightMarks d.task.now.graph.now cost pats d.labels.now new.marks.items
   pub table : new.table ≡ with_heights new.marks.items old.table
   pub tops : new.tops.now ≡ old.tops.now
 
 -- visits of the places of a graph, and heights that fall
 pub record AreHeightRounds {C : Type 0} (costs : C → Cost) (d : Given C) (r : HeightRounds) : Type 0 where
   pub places : r.visits.places ≡ places_of d.task.now.graph.now
-  pub falling : AreHeightsFalling (costs d.task.now.cost.now) d r.heights.tops.now r.heights.table r.heights.marks.items r.visits.still
+  pub falling : AreHeightsFalling
+      (costs d.task.now.cost.now) d r.heights.tops.now r.heights.table r.heights.marks.items r.visits.still
 
 -- what heights are begun with: what is given, what is known of gaps, no marks, and a table without heights or none
-pub record MayStartRounds {C : Type 0} (costs : C → Cost) (d : Given C) (v : VisitState) (t : Option LabelState) (marks : List (Option Mark)) (tops : TopsState) : Type 0 where
+pub record MayStartRounds {C : Type 0} (costs : C → Cost) (d : Given C) (v : VisitState) (t : Option LabelState)
+    (marks : List (Option Mark)) (tops : TopsState) : Type 0 where
   pub places : v.places ≡ places_of d.task.now.graph.now
   pub given : AreGiven d.task.now.graph.now (costs d.task.now.cost.now) d.task.now.pats.now d.bounds.now d.labels.now
   pub known : AreKnown (costs d.task.now.cost.now) d.task.now.pats.now d.bounds.now.gaps tops
@@ -126,17 +145,20 @@ pub record MayStartRounds {C : Type 0} (costs : C → Cost) (d : Given C) (v : V
   pub table : IfSome t (IsNewTable d.task.now.graph.now d.task.now.pats.now)
 
 -- the visits have the same order, and heights fall still: some have fallen, or none has and none would at these classes
-pub record LowersHeightsAt {C : Type 0} (costs : C → Cost) (d : Given C) (old new : HeightRounds) (at : ℕ → Type 0) (changed : Bool) : Type 0 where
+pub record LowersHeightsAt {C : Type 0} (costs : C → Cost) (d : Given C) (old new : HeightRounds) (at : ℕ → Type 0)
+    (changed : Bool) : Type 0 where
   pub order : new.visits.order ≡ old.visits.order
   pub rounds : AreHeightRounds costs d new
   pub lowers : LowersFrom (costs d.task.now.cost.now) d old.heights.marks.items new.heights.marks.items at changed
 
 -- a round does so, at no class in particular or, if it is a whole one, at each
 abbrev pub LowersHeightRound : {C : Type 0} → (C → Cost) → Given C → HeightRounds → HeightRounds → Bool → Bool → Type 0
-LowersHeightRound costs d old new whole changed = LowersHeightsAt costs d old new (λ c. (whole ≡ true) × (c < length d.task.now.graph.now.pairs)) changed
+LowersHeightRound costs d old new whole changed =
+    LowersHeightsAt costs d old new (λ c. (whole ≡ true) × (c < length d.task.now.graph.now.pairs)) changed
 
 -- rounds until none changes a height, in the same order: the last has lowered one, or none would fall
-pub record LowersHeightRounds {C : Type 0} (costs : C → Cost) (d : Given C) (old new : HeightRounds) (changed : Bool) : Type 0 where
+pub record LowersHeightRounds {C : Type 0} (costs : C → Cost) (d : Given C) (old new : HeightRounds)
+    (changed : Bool) : Type 0 where
   pub order : new.visits.order ≡ old.visits.order
   pub rounds : AreHeightRounds costs d new
   pub falls : changed ≡ true → heights_weight new.heights.marks.items < heights_weight old.heights.marks.items

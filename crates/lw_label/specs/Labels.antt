@@ -8,7 +8,8 @@ use Rattle.lw_cost.specs.Labels.{AreLeastMarks}
 use Rattle.lw_cost.specs.declared.mark.Mark.{Mark}
 
 -- so they are, with a table of bounds for them
-pub record AreBoundedMarks (g : Graph) (cost : Cost) (pats : List Pattern) (b : BoundsState) (marks : List (Option Mark)) : Type 0 where
+pub record AreBoundedMarks (g : Graph) (cost : Cost) (pats : List Pattern) (b : BoundsState)
+    (marks : List (Option Mark)) : Type 0 where
   pub least : AreLeastMarks g cost pats marks
   pub fits : BoundsFit b pats g
   pub bounds : AreBounds b g marks

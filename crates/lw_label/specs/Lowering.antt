@@ -23,17 +23,20 @@ pub record AreLowering (g : Graph) (cost : Cost) (pats : List Pattern) (marks : 
 abbrev pub HasCostAtMost : Option Mark → ℕ → Type 0
 HasCostAtMost mark cost = (m : Mark) × (mark ≡ Some m) × (m.cost ≤ cost)
 
--- the mark of a class that may be an input's of this cost: its own where that is not above the cost, or else that of the input
+-- the mark of a class that may be an input's of this cost: its own where that is not above the cost, or else that of
+-- the input
 abbrev pub IsLowerOf : Option Mark → ℕ → Mark → Type 0
 IsLowerOf mark leaf new =
-    ((mark ≡ Some new) × (new.cost ≤ leaf)) ⊎ ((new ≡ record { cost = leaf; height = 0 }) × ((m : Mark) → mark ≡ Some m → leaf < m.cost))
+    ((mark ≡ Some new) × (new.cost ≤ leaf))
+    ⊎ ((new ≡ record { cost = leaf; height = 0 }) × ((m : Mark) → mark ≡ Some m → leaf < m.cost))
 
 -- how far the labels can still fall
 abbrev pub weight : Cost → List (Option Mark) → ℕ
 weight cost marks = total_weight cost.cap (costs_of marks)
 
 -- the labels still are costs of covers, and one has fallen, or none has changed
-pub record Takes (g : Graph) (cost : Cost) (pats : List Pattern) (old new : List (Option Mark)) (changed : Bool) : Type 0 where
+pub record Takes (g : Graph) (cost : Cost) (pats : List Pattern) (old new : List (Option Mark))
+    (changed : Bool) : Type 0 where
   pub lowering : AreLowering g cost pats new
   pub falls : changed ≡ true → weight cost new < weight cost old
   pub same : changed ≡ false → new ≡ old
@@ -54,7 +57,8 @@ state bounds marks = record { bounds = bounds; marks = marks }
 abbrev pub state_weight : Cost → LabelState → ℕ
 state_weight cost s = bounds_weight s.bounds + weight cost s.marks
 
--- no number of the class would fall, and, if the table is one of bounds, no match at the class would give it a lower label
+-- no number of the class would fall, and, if the table is one of bounds, no match at the class would give it a lower
+-- label
 abbrev pub IsLabelled : Graph → Cost → List Pattern → LabelState → ℕ → Type 0
 IsLabelled g cost pats s c =
     AreSettledAt s.bounds g s.marks c × (AreBounds s.bounds g s.marks → IsBounded g cost pats s.marks c)

@@ -27,25 +27,29 @@ pub record IsSameBut (at : ℕ → Type 0) (old new : LabelState) : Type 0 where
   pub marks : AreSameBut at old.marks new.marks
 
 -- the places that are still have parts that are still, and no number and no label would fall there
-pub record AreLabelsStill (g : Graph) (cost : Cost) (pats : List Pattern) (s : LabelState) (still : List Bool) : Type 0 where
+pub record AreLabelsStill (g : Graph) (cost : Cost) (pats : List Pattern) (s : LabelState)
+    (still : List Bool) : Type 0 where
   pub parts : (c : ℕ) → IsStillAt still c → ArePartsStill g still c
   pub settled : (c : ℕ) → IsStillAt still c → AreSettledAt s.bounds g s.marks c
   pub bounded : (c : ℕ) → IsStillAt still c → IsBounded g cost pats s.marks c
 
 -- labels are sought: a graph with the patterns of cells, a table of these, and labels so far
-pub record AreSought (g : Graph) (cost : Cost) (pats : List Pattern) (b : BoundsState) (marks : List (Option Mark)) : Type 0 where
+pub record AreSought (g : Graph) (cost : Cost) (pats : List Pattern) (b : BoundsState)
+    (marks : List (Option Mark)) : Type 0 where
   pub of_cells : AreOfCells cost.pin_counts pats
   pub problem : IsCoverProblem g pats cost
   pub fits : BoundsFit b pats g
   pub lowering : AreLowering g cost pats marks
 
 -- so they are, and something is known of gaps
-pub record IsSearch (g : Graph) (cost : Cost) (pats : List Pattern) (b : BoundsState) (tops : TopsState) (marks : List (Option Mark)) : Type 0 where
+pub record IsSearch (g : Graph) (cost : Cost) (pats : List Pattern) (b : BoundsState) (tops : TopsState)
+    (marks : List (Option Mark)) : Type 0 where
   pub sought : AreSought g cost pats b marks
   pub known : AreKnown cost pats b.gaps tops
 
 -- so it is in a graph, some of whose places are still
-pub record AreFalling (g : Graph) (cost : Cost) (pats : List Pattern) (s : LabelState) (tops : TopsState) (still : List Bool) : Type 0 where
+pub record AreFalling (g : Graph) (cost : Cost) (pats : List Pattern) (s : LabelState) (tops : TopsState)
+    (still : List Bool) : Type 0 where
   pub graph : IsGraph g
   pub search : IsSearch g cost pats s.bounds tops s.marks
   pub kept : AreLabelsStill g cost pats s still
@@ -76,7 +80,8 @@ IsNoCheaper mark other =
     (m : Mark) → mark ≡ Some m → (o : Mark) × (other ≡ Some o) × (o.cost ≤ m.cost)
 
 -- labels are sought at a place, and the table is one of bounds whatever marks its classes have
-pub record IsSearchAround (g : Graph) (cost : Cost) (pats : List Pattern) (b : BoundsState) (tops : TopsState) (marks : List (Option Mark)) (place : ℕ) : Type 0 where
+pub record IsSearchAround (g : Graph) (cost : Cost) (pats : List Pattern) (b : BoundsState) (tops : TopsState)
+    (marks : List (Option Mark)) (place : ℕ) : Type 0 where
   pub search : IsSearch g cost pats b tops marks
   pub around : AreBoundsAround b g marks place
 
@@ -92,16 +97,19 @@ pub record AreSetAt (g : Graph) (marks : List (Option Mark)) (place : ℕ) (old 
   pub settled : (c : ℕ) → c / 2 ≡ place → AreSettledAt new g marks c
 
 -- visits of the places of a graph, and labels that fall
-pub record IsRound (g : Graph) (cost : Cost) (pats : List Pattern) (v : VisitState) (s : LabelState) (tops : TopsState) : Type 0 where
+pub record IsRound (g : Graph) (cost : Cost) (pats : List Pattern) (v : VisitState) (s : LabelState)
+    (tops : TopsState) : Type 0 where
   pub places : v.places ≡ places_of g
   pub falling : AreFalling g cost pats s tops v.still
 
 -- the visits are the same, and labels fall still
-pub record IsRoundAfter (g : Graph) (cost : Cost) (pats : List Pattern) (old new : VisitState) (s : LabelState) (tops : TopsState) : Type 0 where
+pub record IsRoundAfter (g : Graph) (cost : Cost) (pats : List Pattern) (old new : VisitState) (s : LabelState)
+    (tops : TopsState) : Type 0 where
   pub visits : new ≡ old
   pub falling : AreFalling g cost pats s tops old.still
 
 -- a round in which each class has the numbers 0, or its numbers are settled
-pub record IsFirstRound (g : Graph) (cost : Cost) (pats : List Pattern) (v : VisitState) (s : LabelState) (tops : TopsState) : Type 0 where
+pub record IsFirstRound (g : Graph) (cost : Cost) (pats : List Pattern) (v : VisitState) (s : LabelState)
+    (tops : TopsState) : Type 0 where
   pub round : IsRound g cost pats v s tops
   pub numbers : AreZeroOrSettled g s v.still

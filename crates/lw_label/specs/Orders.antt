@@ -1,5 +1,6 @@
 -- The order in which the classes of a graph are visited, by places: place p is that of the classes 2p and 2p + 1.
-use Rattle.std.specs.Prelude.{ℕ, ◌<◌, ◌/◌, ◌≡◌, ◌-◌, ◌+◌, ◌*◌, ◌^◌, ◌⊎◌, Bool, true, false, List, length, All, Contains, IfSome, Some, slice_get, slice_index_or, slice_set}
+use Rattle.std.specs.Prelude.{ℕ, ◌<◌, ◌/◌, ◌≡◌, ◌-◌, ◌+◌, ◌*◌, ◌^◌, ◌⊎◌, Bool, true, false, List, length, All, Contains}
+use Rattle.std.specs.Prelude.{IfSome, Some, slice_get, slice_index_or, slice_set}
 use Rattle.std.specs.List.{sum_by}
 use Rattle.lw_laws.specs.Graphs.{Graph, HoldsPair}
 use Rattle.lw_label.specs.declared.order.Walk.{Walk}
@@ -19,7 +20,8 @@ pub record IsWalk (n : ℕ) (w : Walk) : Type 0 where
   pub entered : length w.entered.items ≡ n
   pub path : All (λ p. p < n) w.path.items
   pub order : All (λ p. p < n) w.order.items
-  pub found : (p : ℕ) → slice_index_or w.entered.items p false ≡ true → Contains w.path.items p ⊎ Contains w.order.items p
+  pub found : (p : ℕ) → slice_index_or w.entered.items p false ≡ true
+      → Contains w.path.items p ⊎ Contains w.order.items p
 
 -- what was entered stays so
 abbrev pub StaysEntered : Walk → Walk → Type 0
@@ -47,7 +49,8 @@ ArePartsStill g still c = (x y : ℕ) → HoldsPair g c x y → IsStillAt still 
 -- nothing has changed, or the place has become still after all its parts
 abbrev pub IsStillAfter : Graph → ℕ → List Bool → List Bool → Type 0
 IsStillAfter g place old new =
-    (new ≡ old) ⊎ ((place < length old) × (new ≡ slice_set old place true) × ((c : ℕ) → c / 2 ≡ place → ArePartsStill g old c))
+    (new ≡ old) ⊎ ((place < length old) × (new ≡ slice_set old place true)
+    × ((c : ℕ) → c / 2 ≡ place → ArePartsStill g old c))
 
 -- the visits, where perhaps a place has become still
 pub record AreVisitsAfter (g : Graph) (place : ℕ) (old new : VisitState) : Type 0 where

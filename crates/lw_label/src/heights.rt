@@ -1,10 +1,15 @@
 // Heights in rounds, once the labels are found.
-ghost use Rattle.std.specs.Prelude.{◌≡◌, ◌<◌, ◌/◌, ◌⊎◌, None, true, false, IfSome, length, slice_index_or};
+ghost use Rattle.std.specs.Prelude.{◌≡◌, ◌<◌, ◌/◌, ◌⊎◌, None, true, false, IfSome, length};
+ghost use Rattle.std.specs.Prelude.{slice_index_or};
 ghost use Rattle.lw_bounds.specs.Bounds.{AreBounds};
 ghost use Rattle.lw_cost.specs.Labels.{AreLeastMarks};
 ghost use Rattle.lw_label.specs.Orders.{IsVisited, places_of};
 ghost use Rattle.lw_label.specs.Heights.{IsNoPin, height_limit};
-ghost use Rattle.lw_label.specs.HeightTables.{AreHeightRounds, HasHeightsOf, HaveStarted, LowersHeight, LowersHeightBeside, LowersHeightPair, LowersHeightRound, LowersHeightRounds, LowersHeightsAt, MayLowerHeights, MayStart, MayStartRounds, PutsHeight};
+ghost use Rattle.lw_label.specs.HeightTables.{AreHeightRounds, HasHeightsOf, HaveStarted};
+ghost use Rattle.lw_label.specs.HeightTables.{LowersHeight, LowersHeightBeside, LowersHeightPair};
+ghost use Rattle.lw_label.specs.HeightTables.{LowersHeightRound, LowersHeightRounds};
+ghost use Rattle.lw_label.specs.HeightTables.{LowersHeightsAt, MayLowerHeights, MayStart};
+ghost use Rattle.lw_label.specs.HeightTables.{MayStartRounds, PutsHeight};
 
 use crate::labelling::Task;
 use crate::lowering::{both, either, is_ahead};

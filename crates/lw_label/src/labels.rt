@@ -59,7 +59,7 @@ pub fn relabel_with_bounds<C: Cost>(
 {
     let task = Task { graph, pats, cost };
     let room = Room::new(alloc, &task)?;
-    let mut tops = Tops::new(pats, cost, &room.bounds);
+    let mut tops = Tops::new(alloc, pats, cost, &room.bounds)?;
     Ok(mark_all(&task, room, &mut tops))
 }
 

@@ -1,5 +1,6 @@
 //! Theorems on labels by time: functions with empty bodies, whose clauses are the theorems.
-ghost use Rattle.std.specs.Prelude.{ℕ, ◌≡◌, ◌≤◌, ◌<◌, ◌+◌, ◌*◌, List, Option, Some, All, length, map};
+ghost use Rattle.std.specs.Prelude.{ℕ, ◌≡◌, ◌≤◌, ◌<◌, ◌+◌, ◌*◌, List, Option, Some, All, length};
+ghost use Rattle.std.specs.Prelude.{map};
 ghost use Rattle.lw_fixed.specs.declared.micro.Micro.{Micro};
 ghost use Rattle.lw_laws.specs.Covers.{ArePatterns, Pattern};
 ghost use Rattle.lw_laws.specs.Graphs.{Graph, most_classes};

@@ -2,7 +2,9 @@
 ghost use Rattle.std.specs.Prelude.{◌≡◌, ◌<◌, ◌/◌, ◌||◌, Some, None, true, IfOk, length, replicate};
 ghost use Rattle.lw_label.specs.Lowering.{AreLowering, IsLowerOf};
 ghost use Rattle.lw_label.specs.Orders.{IsVisited, places_of};
-ghost use Rattle.lw_label.specs.Searches.{AreLabelled, AreRounds, AreUnlabelled, LowersAt, LowersMark, LowersMarks, LowersPair, LowersRound, LowersRounds, MayLower, PutsLabel};
+ghost use Rattle.lw_label.specs.Searches.{AreLabelled, AreRounds, AreUnlabelled, LowersAt};
+ghost use Rattle.lw_label.specs.Searches.{LowersMark, LowersMarks, LowersPair, LowersRound};
+ghost use Rattle.lw_label.specs.Searches.{LowersRounds, MayLower, PutsLabel};
 
 use crate::heights::Visit;
 use crate::labelling::{LabelRounds, Labelling, Task};

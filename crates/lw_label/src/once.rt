@@ -3,7 +3,8 @@ ghost use Rattle.std.specs.Prelude.{◌≡◌, ◌<◌, ◌/◌, ◌⊎◌, fals
 ghost use Rattle.lw_bounds.specs.Bounds.{AreRows, AreSettledAt, AreZero, IsTableBut};
 ghost use Rattle.lw_label.specs.OneVisit.{AreRowsAround, AreSetAt, IsNoCheaper};
 ghost use Rattle.lw_label.specs.Orders.{IsStillAt, places_of};
-ghost use Rattle.lw_label.specs.Searches.{AreFirstRounds, ArePairFound, AreRounds, IsFound, IsFoundBeside, MayLowerAround, SetsNumbers};
+ghost use Rattle.lw_label.specs.Searches.{AreFirstRounds, ArePairFound, AreRounds, IsFound};
+ghost use Rattle.lw_label.specs.Searches.{IsFoundBeside, MayLowerAround, SetsNumbers};
 
 use crate::heights::first_of;
 use crate::labelling::{LabelRounds, Labelling, Task};

@@ -1,5 +1,6 @@
 // The order in which classes are visited.
-ghost use Rattle.std.specs.Prelude.{◌≡◌, ◌+◌, ◌-◌, ◌<◌, ◌≤◌, ◌/◌, ◌^◌, true, false, IfOk, OnOk, IfSome, [], length, slice_index_or};
+ghost use Rattle.std.specs.Prelude.{◌≡◌, ◌+◌, ◌-◌, ◌<◌, ◌≤◌, ◌/◌, ◌^◌, true, false, IfOk, OnOk};
+ghost use Rattle.std.specs.Prelude.{IfSome, [], length, slice_index_or};
 ghost use Rattle.lw_label.specs.Orders.{IsOrder, places_of, IsWalk, StaysEntered, steps_left};
 
 use lw_graph::Graph;

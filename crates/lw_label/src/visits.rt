@@ -1,6 +1,9 @@
 // Which classes are visited again.
-ghost use Rattle.std.specs.Prelude.{◌≡◌, ◌<◌, ◌*◌, ◌/◌, ℕ, true, false, IfOk, IfSome, Some, None, length, replicate, slice_index_or};
-ghost use Rattle.lw_label.specs.Orders.{ArePartsStill, AreVisitsAfter, IsClassAmong, IsOrder, IsPlaceAmong, IsPlaceAt, IsReady, IsStillIn, IsVisitOf, places_of};
+ghost use Rattle.std.specs.Prelude.{◌≡◌, ◌<◌, ◌*◌, ◌/◌, ℕ, true, false, IfOk, IfSome, Some, None};
+ghost use Rattle.std.specs.Prelude.{length, replicate, slice_index_or};
+ghost use Rattle.lw_label.specs.Orders.{ArePartsStill, AreVisitsAfter, IsClassAmong, IsOrder};
+ghost use Rattle.lw_label.specs.Orders.{IsPlaceAmong, IsPlaceAt, IsReady, IsStillIn, IsVisitOf};
+ghost use Rattle.lw_label.specs.Orders.{places_of};
 
 use crate::order::order_of;
 use lw_graph::Graph;
@@ -29,7 +32,11 @@ impl Model for Visits {
 
     ghost Value = { VisitState };
 
-    ghost view = { λ v. record { order = v.order.items; places = length v.seen.items; still = v.still.items } };
+    ghost view = { λ v. record {
+      order = v.order.items;
+      places = length v.seen.items;
+      still = v.still.items;
+    } };
 
     ghost invariant = { λ v. IsOrder (length v.seen.items) v.order.items
         × (length v.changed.items ≡ length v.seen.items)

@@ -18,13 +18,13 @@ use Rattle.lw_laws.specs.Decompositions.AreParts.{parts_none, parts_left, parts_
 use Rattle.lw_laws.specs.Decompositions.HasTree.{input_law, true_law, false_law, inverter_law, split_law, sharing_law, factoring_law, overlap_law, tied_inverter_law}
 use Rattle.lw_laws.specs.Numbering.{number, numbered_base, sop_number, fac_number, numbered, HasSameTrees}
 use Rattle.lw_laws.specs.Modes.{Mode}
-use Rattle.lw_laws.specs.Listings.{Listing, IsListed, base_form, IsListing, IsListedBefore, sign_of, IsSub}
+use Rattle.lw_laws.specs.Listings.{Listing, IsListed, base_form, IsListing, IsListedBefore, IsSub}
 use Rattle.lw_laws.specs.Classes.{IsNandForm}
 use Rattle.lw_laws.specs.Classes.IsNandForm.{of_parts, of_overlap, of_complement}
 use Rattle.lw_laws.proofs.Flips.{flip-flip, flip_even, flip_odd, even_or_odd}
 use Rattle.lw_laws.proofs.Equality.{items-form_list, form_list-items}
 use Rattle.lw_laws.proofs.Sublists.{parts_subs, parts_turned, overlapping_subs, overlapping_turned, IsSub_all, conjunction_of_one, conjunction_of_more}
-use Rattle.lw_laws.proofs.Numbers.{slice_get_map, slice_get_map_back, number_of, numbers_differ, occurs_complement, occurs_sign, number_complement, occurs_number, number_occurs, numbers_injective, complement_twice, sign_two}
+use Rattle.lw_laws.proofs.Numbers.{slice_get_map, slice_get_map_back, number_of, numbers_differ, occurs_complement, occurs_sign, number_complement, occurs_number, number_occurs, numbers_injective, complement_twice, sign_two, base_self}
 use Rattle.lw_laws.proofs.Occurrences.{operands_occur, and_sub_listed, occurring_listed, listed_occurs}
 use Rattle.lw_laws.proofs.Lists.{slice_get_some}
 use Rattle.lw_laws.proofs.CutParts.{cut_of_parts, covering_of_overlapping, parts_of_cut, overlap_of_covering}
@@ -278,12 +278,6 @@ module _ (inputs : ℕ) (o : Listing) (is : IsListing o) where
       split_by_twice mode m (N f) (N (complement f)) (N (complement f)) (number_in f (N f) num, sym turned, sym turned)
 
   -- the form of an occurring number
-  pub base_self : (f : Form) → sign_of f ≡ 0 → base_form f ≡ f
-  base_self (var_form i) z = refl
-  base_self true_form z = refl
-  base_self (not_form f) z = absurd (omega arith)
-  base_self (and_form fs) z = refl
-
   abbrev HasForm : ℕ → Type 0
   HasForm n = (f : Form) × IsNumber o.bases f n
 

@@ -20,8 +20,8 @@ use Rattle.lw_laws.specs.Classes.{class_in, IsNandForm, HasSplitAt, IsGraphOf}
 use Rattle.lw_laws.specs.Classes.IsNandForm.{of_parts, of_overlap, of_complement}
 use Rattle.lw_laws.proofs.Flips.{flip_even, class_of-flip, even_or_odd}
 use Rattle.lw_laws.proofs.Sublists.{parts_turned, overlapping_turned}
-use Rattle.lw_laws.proofs.Numbers.{slice_get_map, number_of, number_complement, occurs_complement, occurs_number}
-use Rattle.lw_laws.proofs.Agreement.{base_self, split_back, form_of_number, nand_numbers, numbered_are_forms}
+use Rattle.lw_laws.proofs.Numbers.{slice_get_map, number_of, number_complement, occurs_complement, occurs_number, base_self}
+use Rattle.lw_laws.proofs.Agreement.{split_back, form_of_number, nand_numbers, numbered_are_forms}
 use Rattle.lw_laws.proofs.NumberedForms.{splits_occur}
 use Rattle.lw_laws.proofs.Listed.{occurring_is_listing, true_and_inputs_first}
 use Rattle.lw_laws.proofs.Headline.{classes_shared}
@@ -171,14 +171,24 @@ base_class g b c e =
     let half : (2 * b) / 2 ≡ b = omega arith in
     rw (even, half) (get_or_from_slice_get g.forms b c 0 e)
 
+-- graphs with the same classes of base forms have the same class for each form
+pub class_same : (g h : Graph) → g.forms ≡ h.forms → (n : ℕ) → class_of g n ≡ class_of h n
+class_same g h same n = ap (λ fs. if n % 2 == 0 then slice_index fs (n / 2) else flip (slice_index fs (n / 2))) same
+
+-- and their inputs have the same classes
+pub leaf_same : (g h : Graph) → g.forms ≡ h.forms → (at : ℕ → ℕ) → ((i : ℕ) → i < length g.leaves → slice_get g.leaves i ≡ Some (class_of g (at i))) → ((i : ℕ) → i < length g.leaves → slice_get h.leaves i ≡ Some (class_of h (at i))) → (i c : ℕ) → slice_get g.leaves i ≡ Some c → slice_get h.leaves i ≡ Some c
+leaf_same g h same at here there i c e =
+    let lt = slice_get_within g.leaves i c e in
+    there i lt ∙ (ap Some (sym (class_same g h same (at i))) ∙ (sym (here i lt) ∙ e))
+
 module _ (mode : Mode) (inputs : ℕ) (o : Listing) (is : IsListing o) (g h : Graph) (one : IsGraphOf mode inputs o g) (other : IsGraphOf mode inputs o h) where
   -- base form b as a form, and its number
   base_at : (b : ℕ) → b < length o.bases → (f : Form) × IsListed o f × (number o.bases f ≡ 2 * b)
   base_at b lt =
       let (f, e) = slice_get_some o.bases b lt in
       let z = is.signs b f e in
-      let occ : IsListed o f = (b, e ∙ ap Some (sym (base_self inputs o is f z))) in
-      (f, occ, sym (number_of o is f (2 * b) (b, e ∙ ap Some (sym (base_self inputs o is f z)), omega arith)))
+      let occ : IsListed o f = (b, e ∙ ap Some (sym (base_self f z))) in
+      (f, occ, sym (number_of o is f (2 * b) (b, e ∙ ap Some (sym (base_self f z)), omega arith)))
 
   complement_number : (f : Form) (b : ℕ) → IsListed o f → number o.bases f ≡ 2 * b → number o.bases (complement f) ≡ flip (2 * b)
   complement_number f b occ e =
@@ -215,10 +225,7 @@ module _ (mode : Mode) (inputs : ℕ) (o : Listing) (is : IsListing o) (g h : Gr
 
   -- each class of one form has one number in both
   forms_same : (f : Form) → class_in o g f ≡ class_in o h f
-  forms_same f = by_choice (number o.bases f)
-    where
-      by_choice : (n : ℕ) → class_of g n ≡ class_of h n
-      by_choice n = ap (λ fs. if n % 2 == 0 then slice_index fs (n / 2) else flip (slice_index fs (n / 2))) graph_numbers_once
+  forms_same f = class_same g h graph_numbers_once (number o.bases f)
 
   splits_same : (c x y : ℕ) → HasSplitAt mode o g c x y → HasSplitAt mode o h c x y
   splits_same c x y s = record {
@@ -289,6 +296,13 @@ held_in h c p rises le (inr at) =
     let one : record { x = p.y; y = p.x } ≡ p = ap₂ (λ a b. record { x = a; y = b }) (sym same) same in
     subst (Contains (slice_index_or h.pairs c [])) one at
 
+-- rows of the same pairs are one
+pub row_same : (g h : Graph) → ((c : ℕ) → AreRising (slice_index_or g.pairs c [])) → ((c : ℕ) → AreRising (slice_index_or h.pairs c [])) → ((c x y : ℕ) → HoldsPair g c x y → HoldsPair h c x y) → ((c x y : ℕ) → HoldsPair h c x y → HoldsPair g c x y) → (c : ℕ) → slice_index_or g.pairs c [] ≡ slice_index_or h.pairs c []
+row_same g h up other_up there back c =
+    rows_once (slice_index_or g.pairs c []) (slice_index_or h.pairs c []) (up c) (other_up c)
+    (λ r at. held_in h c r (other_up c) (smaller_first (slice_index_or g.pairs c []) r (up c) at) (there c r.x r.y (inl at)))
+    (λ r at. held_in g c r (up c) (smaller_first (slice_index_or h.pairs c []) r (other_up c) at) (back c r.x r.y (inl at)))
+
 pub lists_once : {X : Type 0} (d : X) (xs ys : List X) → length xs ≡ length ys → ((i : ℕ) → slice_index_or xs i d ≡ slice_index_or ys i d) → xs ≡ ys
 lists_once d xs ys len f = ext_get_or d xs ys len (λ i lt. f i)
 
@@ -318,19 +332,5 @@ graphs_once mode inputs o is g h one other =
     let d = hw.leaf_count in
     graph_same g.one h.one g.leaves h.leaves g.forms h.forms g.pairs h.pairs
     (one.one ∙ (forms_same mode inputs o is g h one other true_form ∙ sym other.one))
-    (leaves_once g.leaves h.leaves (omega arith) leaf) forms
-    (lists_once [] g.pairs h.pairs (omega arith) row)
-  where
-    leaf : (i c : ℕ) → slice_get g.leaves i ≡ Some c → slice_get h.leaves i ≡ Some c
-    leaf i c e =
-        let lt = slice_get_within g.leaves i c e in
-        let n = one.written.leaf_count in
-        let p = one.leaves i (omega arith) in
-        let q = other.leaves i (omega arith) in
-        q ∙ (ap Some (sym (forms_same mode inputs o is g h one other (var_form i))) ∙ (sym p ∙ e))
-
-    row : (c : ℕ) → slice_index_or g.pairs c [] ≡ slice_index_or h.pairs c []
-    row c =
-        rows_once (slice_index_or g.pairs c []) (slice_index_or h.pairs c []) (one.written.rising c) (other.written.rising c)
-        (λ r at. held_in h c r (other.written.rising c) (smaller_first (slice_index_or g.pairs c []) r (one.written.rising c) at) (pairs_same mode inputs o is g h one other c r.x r.y (inl at)))
-        (λ r at. held_in g c r (one.written.rising c) (smaller_first (slice_index_or h.pairs c []) r (other.written.rising c) at) (pairs_same mode inputs o is h g other one c r.x r.y (inl at)))
+    (leaves_once g.leaves h.leaves (omega arith) (leaf_same g h forms (λ i. number o.bases (var_form i)) (λ i lt. one.leaves i (let n = one.written.leaf_count in omega (arith, lt, n))) (λ i lt. other.leaves i (let n = one.written.leaf_count in omega (arith, lt, n))))) forms
+    (lists_once [] g.pairs h.pairs (omega arith) (row_same g h one.written.rising other.written.rising (pairs_same mode inputs o is g h one other) (pairs_same mode inputs o is h g other one)))

@@ -219,6 +219,14 @@ module _ (labels : List (Option ℕ)) where
             let by = attains_from c cell ps a in
             (a.stands.pattern, a.stands.listed, (ps, pins_listed a.stands.pattern ps by.0 (pins_below ps a.pin_labels a.have), (by, w)))
 
+-- where none below a number has it, those that have it are not below
+none_below : (P : ℕ → Type 0) (n : ℕ) → ((k : ℕ) → k < n → P k → ⊥) → (k : ℕ) → P k → n ≤ k
+none_below P n none k r = by_dec (dec_lt k n)
+  where
+    by_dec : Dec (k < n) → n ≤ k
+    by_dec (yes lt) = absurd (none k lt r)
+    by_dec (no out) = omega arith
+
 -- the least of the numbers with a property that can be decided
 pub least_number : (P : ℕ → Type 0) → ((k : ℕ) → Dec (P k)) → (n : ℕ) → P n → (m : ℕ) × P m × ((k : ℕ) → P k → m ≤ k)
 least_number P d n p = by_search (search_below n)
@@ -229,14 +237,7 @@ least_number P d n p = by_search (search_below n)
       where
         by_last : ((m : ℕ) × P m × ((k : ℕ) → P k → m ≤ k)) ⊎ ((k : ℕ) → k < n → P k → ⊥) → Dec (P n) → ((m : ℕ) × P m × ((k : ℕ) → P k → m ≤ k)) ⊎ ((k : ℕ) → k < suc n → P k → ⊥)
         by_last (inl found) q = inl found
-        by_last (inr none) (yes q) = inl (n, q, λ k r. at_most k r)
-          where
-            at_most : (k : ℕ) → P k → n ≤ k
-            at_most k r = by_dec (dec_lt k n)
-              where
-                by_dec : Dec (k < n) → n ≤ k
-                by_dec (yes lt) = absurd (none k lt r)
-                by_dec (no out) = omega arith
+        by_last (inr none) (yes q) = inl (n, q, none_below P n none)
         by_last (inr none) (no out) = inr none_more
           where
             none_more : (k : ℕ) → k < suc n → P k → ⊥
@@ -248,11 +249,4 @@ least_number P d n p = by_search (search_below n)
 
     by_search : ((m : ℕ) × P m × ((k : ℕ) → P k → m ≤ k)) ⊎ ((k : ℕ) → k < n → P k → ⊥) → (m : ℕ) × P m × ((k : ℕ) → P k → m ≤ k)
     by_search (inl found) = found
-    by_search (inr none) = (n, p, λ k r. at_most k r)
-      where
-        at_most : (k : ℕ) → P k → n ≤ k
-        at_most k r = by_dec (dec_lt k n)
-          where
-            by_dec : Dec (k < n) → n ≤ k
-            by_dec (yes lt) = absurd (none k lt r)
-            by_dec (no out) = omega arith
+    by_search (inr none) = (n, p, none_below P n none)

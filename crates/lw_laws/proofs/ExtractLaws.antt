@@ -107,9 +107,6 @@ module _ (g : Graph) (cost : Cost) (pats : List Pattern) (labels : Labels) (heig
     pub gates_apart : AreGatesApart g gates
     gates_apart = record { once = gate_once; no_leaf = λ j c at. (classes.needed j c at).1 }
 
-    pub net_once : AreDistinctLeaves g → (c k l : ℕ) → IsNetOf g gates c k → IsNetOf g gates c l → k ≡ l
-    net_once = class_net_once g gates gates_apart
-
     -- each needed class has a net
     pub needed_net : (c : ℕ) → IsNeeded g cost pats labels heights roots c → (net : ℕ) × IsNetOf g gates c net
     needed_net c need = by_leaf (leaf_or_not g.leaves c)
@@ -155,7 +152,7 @@ module _ (g : Graph) (cost : Cost) (pats : List Pattern) (labels : Labels) (heig
     pins_once distinct [] (k ∷ ks) ls a b = absurd a
     pins_once distinct (q ∷ qs) [] ls a b = absurd a
     pins_once distinct (q ∷ qs) (k ∷ ks) [] a b = absurd b
-    pins_once distinct (q ∷ qs) (k ∷ ks) (l ∷ ls) (e, a) (f, b) = ap₂ (λ x xs. x ∷ xs) (net_once distinct q k l e f) (pins_once distinct qs ks ls a b)
+    pins_once distinct (q ∷ qs) (k ∷ ks) (l ∷ ls) (e, a) (f, b) = ap₂ (λ x xs. x ∷ xs) (class_net_once g gates gates_apart distinct q k l e f) (pins_once distinct qs ks ls a b)
 
     gates_same : (xs ys : List Gate) → length xs ≡ length ys → ((j : ℕ) (x y : Gate) → slice_get xs j ≡ Some x → slice_get ys j ≡ Some y → x ≡ y) → xs ≡ ys
     gates_same [] [] len f = refl

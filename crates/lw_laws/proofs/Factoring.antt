@@ -13,6 +13,11 @@ cleared_length (f ∷ fs) zero sign (Some b ∷ row) lt s = refl
 cleared_length (f ∷ fs) (suc k) sign (None ∷ row) lt s = cleared_length fs k sign row (omega arith) s
 cleared_length (f ∷ fs) (suc k) sign (Some b ∷ row) lt s = ap suc (cleared_length fs k sign row (omega arith) s)
 
+-- the literals of so many columns
+pub literals_within : (column n k : ℕ) → column + n ≤ k → AllByRecursion (λ l. l.column < k) (literals_from column n)
+literals_within column zero k le = tt
+literals_within column (suc n) k le = (omega arith, (omega arith, literals_within (column + 1) n k (omega arith)))
+
 module _ (fs : List Form) where
   abbrev having : Literal → List (List (Option Bool)) → List (List (Option Bool))
   having l rows = map (cleared l) (filter (has l) rows)
@@ -31,10 +36,6 @@ module _ (fs : List Form) where
   abbrev IsCommon : List (List (Option Bool)) → Option Literal → Type 0
   IsCommon rows None = Unit {0}
   IsCommon rows (Some l) = (l.column < length fs) × (1 ≤ count_having l rows)
-
-  literals_within : (column n k : ℕ) → column + n ≤ k → AllByRecursion (λ l. l.column < k) (literals_from column n)
-  literals_within column zero k le = tt
-  literals_within column (suc n) k le = (omega arith, (omega arith, literals_within (column + 1) n k (omega arith)))
 
   most_is_common : (rows : List (List (Option Bool))) (ls : List Literal) (n : ℕ) (best : Option Literal) → AllByRecursion (λ l. l.column < length fs) ls → IsCommon rows best → IsCommon rows (most_common rows ls n best)
   most_is_common rows [] n best a w = w

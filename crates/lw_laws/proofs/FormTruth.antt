@@ -1,9 +1,10 @@
 -- The truth values of what the constructors make.
-use Rattle.std.proofs.Common.{ℕ, zero, suc, ◌+◌, ◌<◌, ◌≤◌, ◌≡◌, Bool, true, false, not, ◌&&◌, ◌||◌, cond, leb, ltb, List, [], ◌∷◌, ◌++◌, map, filter, length, take, drop, Option, Some, None, slice_index_or, refl, ap, ap₂, sym, ◌∙◌, subst, arith, take-append-drop}
+use Rattle.std.proofs.Common.{ℕ, zero, suc, ◌+◌, ◌<◌, ◌≡◌, Bool, true, false, not, ◌&&◌, ◌||◌, cond, leb, ltb, List, [], ◌∷◌, ◌++◌, map, filter, length, take, drop, Option, Some, None, slice_index_or, refl, ap, ap₂, sym, ◌∙◌, subst, arith, take-append-drop}
 use Rattle.std.specs.List.{list_all, list_any, AllByRecursion}
 use Rattle.std.proofs.lemmas.Bool.{and_parts, false_from_ne_true}
 use Rattle.std.proofs.Math.Bool.{or-false, not-not, and-true, and_assoc}
 use Rattle.std.proofs.lemmas.List.{length-map, map-append}
+use Rattle.lw_laws.proofs.Factoring.{literals_within}
 use Rattle.lw_facts.proofs.Tests.{and_swap}
 use Rattle.lw_laws.proofs.Lists.{all_append as append_all, all_at}
 use Rattle.lw_laws.specs.Networks.{Node, Network, agrees, row_value, node_value}
@@ -170,10 +171,6 @@ module _ (x : ℕ → Bool) where
   abbrev IsWithin : ℕ → Option Literal → Type 0
   IsWithin n None = Unit {0}
   IsWithin n (Some l) = l.column < n
-
-  literals_within : (column n k : ℕ) → column + n ≤ k → AllByRecursion (λ l. l.column < k) (literals_from column n)
-  literals_within column zero k le = tt
-  literals_within column (suc n) k le = (omega arith, (omega arith, literals_within (column + 1) n k (omega arith)))
 
   common_within : (rows : List (List (Option Bool))) (ls : List Literal) (n k : ℕ) (best : Option Literal) → AllByRecursion (λ l. l.column < k) ls → IsWithin k best → IsWithin k (most_common rows ls n best)
   common_within rows [] n k best a w = w

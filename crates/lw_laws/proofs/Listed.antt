@@ -3,6 +3,7 @@ use Rattle.std.proofs.Common.{ℕ, zero, suc, ◌+◌, eq-or-lt_of_le, append_as
 use Rattle.std.specs.List.{AllByRecursion}
 use Rattle.std.proofs.lemmas.Option.{slice_get_within}
 use Rattle.std.proofs.lemmas.Bool.{cases_lt}
+use Rattle.lw_laws.proofs.Numbers.{base_self}
 use Rattle.lw_laws.proofs.Lists.{all_at}
 use Rattle.lw_facts.proofs.Lists.{get_left, get_last, get_last_cases}
 use Rattle.lw_laws.specs.Networks.{Node, Network}
@@ -62,12 +63,6 @@ and_more width bases more n fs x a = record {
   before = all_more (IsListedBefore bases n) (IsListedBefore more n) (before_more bases more n x) fs a.before;
   subs = λ hs s two lt. before_more bases more n x (and_of hs) (a.subs hs s two lt);
 }
-
-base_self : (f : Form) → sign_of f ≡ 0 → base_form f ≡ f
-base_self (var_form i) z = refl
-base_self true_form z = refl
-base_self (not_form f) z = absurd (omega arith)
-base_self (and_form fs) z = refl
 
 module _ (count width : ℕ) where
   record IsGood (bases : List Form) : Type 0 where

@@ -1,6 +1,6 @@
 -- Elements of lists by place.
 use Rattle.std.proofs.Common.{ℕ, zero, suc, ◌<◌, ◌≡◌, List, [], ◌∷◌, ◌++◌, length, map, Contains, Some, slice_get, slice_index_or, refl, subst, arith}
-use Rattle.std.specs.List.{AllByRecursion}
+use Rattle.std.specs.List.{AllByRecursion, AllZip}
 
 pub slice_get_some : {X : Type 0} (xs : List X) (i : ℕ) → i < length xs → (x : X) × (slice_get xs i ≡ Some x)
 slice_get_some [] i lt = absurd (omega arith)
@@ -35,3 +35,10 @@ pub held_in : {X : Type 0} (rows : List (List X)) (c : ℕ) (x : X) → Contains
 held_in [] c x (k, lt, e) = absurd (omega arith)
 held_in (r ∷ rows) zero x at = omega arith
 held_in (r ∷ rows) (suc c) x at = let ih = held_in rows c x at in omega arith
+
+-- what holds of entries of two lists, place by place, for what follows from it
+pub zip_weaker : {X Y : Type 0} (R S : X → Y → Type 0) → ((x : X) (y : Y) → R x y → S x y) → (xs : List X) (ys : List Y) → AllZip R xs ys → AllZip S xs ys
+zip_weaker R S f [] [] a = tt
+zip_weaker R S f [] (y ∷ ys) a = absurd a
+zip_weaker R S f (x ∷ xs) [] a = absurd a
+zip_weaker R S f (x ∷ xs) (y ∷ ys) (r, a) = (f x y r, zip_weaker R S f xs ys a)

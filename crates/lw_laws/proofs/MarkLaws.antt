@@ -1,6 +1,8 @@
 -- The chosen matches of a class are the least ones by the marks of their pins.
-use Rattle.std.proofs.Common.{ℕ, zero, suc, ◌≤◌, ◌≡◌, ◌↔◌, inl, inr, List, [], ◌∷◌, length, Contains, Option, Some, None, option_map, unwrap_or, slice_get, refl, ap, ap₂, sym, ◌∙◌, subst, arith}
+use Rattle.std.proofs.Common.{ℕ, zero, suc, ◌≤◌, ◌≡◌, ◌↔◌, inl, inr, List, [], ◌∷◌, length, Option, Some, None, option_map, unwrap_or, refl, ap, ap₂, sym, ◌∙◌, subst, arith}
 use Rattle.std.specs.List.{AllByRecursion}
+use Rattle.std.proofs.lemmas.Option.{same_Some}
+use Rattle.lw_facts.proofs.Lists.{contained_at}
 use Rattle.lw_laws.specs.Graphs.{Graph}
 use Rattle.lw_laws.specs.Costs.{Cost}
 use Rattle.lw_laws.specs.Covers.{Pattern, HasPins}
@@ -121,13 +123,10 @@ module _ (g : Graph) (cost : Cost) (pats : List Pattern) (marks : Marks) where
             let low = greatest_low k.height m.pins ms have lower one in
             let priced : IsPriced g cost pats marks c m p (price cost p.cell ms) = record { matches = s.matches; pin_marks = ms; have = have; mark_is = refl } in
             let (j, at, above) = priced_above c m p (price cost p.cell ms) priced in
-            let one_mark : k ≡ j = some_same k j (sym e ∙ at) in
+            let one_mark : k ≡ j = same_Some k j (sym e ∙ at) in
             let up = above.height (ap (λ z. z.cost) (sym one_mark) ∙ value') in
             let heights : j.height ≡ k.height = ap (λ z. z.height) (sym one_mark) in
             record { matches = s.matches; pin_marks = ms; have = have; mark_is = mark_same k (price cost p.cell ms) value' (omega arith) }
-          where
-            some_same : (k j : Mark) → Some k ≡ Some j → k ≡ j
-            some_same k j f = cc
 
         from : IsPriced g cost pats marks c m p k → Supports g cost pats known (heights_of marks) c m p
         from is =
@@ -150,11 +149,6 @@ module _ (g : Graph) (cost : Cost) (pats : List Pattern) (marks : Marks) where
         let here = height_is p k at in
         (omega arith, lower_pins h ps ls a w)
 
-    listed_place : (qs : List Pattern) (p : Pattern) → Contains qs p → (k : ℕ) × (slice_get qs k ≡ Some p)
-    listed_place [] p (k, lt, e) = absurd (omega arith)
-    listed_place (q ∷ qs) p (zero, lt, e) = (0, ap Some e)
-    listed_place (q ∷ qs) p (suc k, lt, e) = let (j, f) = listed_place qs p (k, omega arith, e) in (suc j, f)
-
     -- a marked class that is no input's has such a match
     pub some_supports : (c : ℕ) (k : Mark) → (IsLeafClass g c → ⊥) → marks c ≡ Some k → (m : Match) × (p : Pattern) × Supports g cost pats known (heights_of marks) c m p
     some_supports c k out e = by_height k.height refl (are.heights c k e).within
@@ -162,7 +156,7 @@ module _ (g : Graph) (cost : Cost) (pats : List Pattern) (marks : Marks) where
         by_match : (h cell : ℕ) (ps : List ℕ) → k.height ≡ suc h → Attains M cost known c cell ps → AllByRecursion (λ q. Within q h) ps → (m : Match) × (p : Pattern) × Supports g cost pats known (heights_of marks) c m p
         by_match h cell ps s a w =
             let st = a.stands in
-            let (place, listed) = listed_place pats st.pattern st.listed in
+            let (place, listed) = contained_at pats st.pattern st.listed in
             let here : suc h ≡ heights_of marks c = sym s ∙ sym (height_is c k e) in (
               record { pattern = place; pins = ps },
               st.pattern,
@@ -188,7 +182,7 @@ module _ (g : Graph) (cost : Cost) (pats : List Pattern) (marks : Marks) where
     least_chosen c m p k j out e priced least =
         let (n, q, s) = some_supports c j out e in
         let (i, at, above) = priced_above c m p k priced in
-        let one : j ≡ i = some_same j i (sym e ∙ at) in
+        let one : j ≡ i = same_Some j i (sym e ∙ at) in
         let same = both_ways n k j (least n q j ((supports_priced c n q j out e).0 s)) (subst (λ (z : Mark). IsMarkAtMost z k) (sym one) above) in (
           same,
           record {
@@ -197,9 +191,6 @@ module _ (g : Graph) (cost : Cost) (pats : List Pattern) (marks : Marks) where
           },
         )
       where
-        some_same : (k j : Mark) → Some k ≡ Some j → k ≡ j
-        some_same k j f = cc
-
         both_ways : (n : Match) (k j : Mark) → IsPricedAtMost k m j n → IsMarkAtMost j k → k ≡ j
         both_ways n k j (inl lt) above = let le = above.cost in absurd (omega arith)
         both_ways n k j (inr (f, inl lt)) above = let le = above.height (sym f) in absurd (omega arith)

@@ -3,6 +3,7 @@ use Rattle.std.proofs.Common.{ℕ, ◌+◌, ◌<◌, ◌≤◌, ◌≡◌, List,
 use Rattle.std.specs.List.{AllZip}
 use Rattle.std.proofs.lemmas.List.{length-append}
 use Rattle.std.proofs.lemmas.Option.{slice_get_within}
+use Rattle.lw_laws.proofs.Lists.{zip_weaker}
 use Rattle.lw_facts.proofs.Lists.{index_at}
 use Rattle.lw_laws.specs.Modes.{Mode}
 use Rattle.lw_laws.specs.Networks.{Network, IsInOrder}
@@ -45,12 +46,6 @@ pub mapping_is_matches : (mode : Mode) (width : ℕ) (net : Network) (ports : Po
 mapping_is_matches mode width net ports pats timing cap n names mapped is =
     forms_are_matches mode net.inputs (listing_of width net) (sop_at (signals_of width net)) ports pats timing cap n names mapped (netlist_of_sops mode width net ports pats timing cap n names mapped is)
 
-each : (R S : Port → Port → Type 0) → ((p q : Port) → R p q → S p q) → (ps qs : List Port) → AllZip R ps qs → AllZip S ps qs
-each R S f [] [] a = tt
-each R S f [] (q ∷ qs) a = absurd a
-each R S f (p ∷ ps) [] a = absurd a
-each R S f (p ∷ ps) (q ∷ qs) (r, a) = (f p q r, each R S f ps qs a)
-
 -- it covers the forms
 pub matches_cover_forms : (mode : Mode) (inputs : ℕ) (o : Listing) (form : ℕ → Form) (ports : Ports) (pats : List Pattern) (timing : Timing) (truth : CellTruth) (n : Netlist) (names : List (List ℕ)) (mapped : Ports) (net : Network) → net.inputs ≡ inputs → IsSoundListing inputs o → AreNetForms net o form → HasPorts net ports → ArePatterns (map length timing.delays) pats → HaveCellTruths (map length timing.delays) truth pats → IsMatchNetlistOfForms mode inputs o form ports pats (map length timing.delays) n names mapped → CoversForms mode o.width o.signals form net ports pats timing truth n mapped
 matches_cover_forms mode inputs o form ports pats timing truth n names mapped net same sound forms has patterns truths is =
@@ -63,7 +58,7 @@ matches_cover_forms mode inputs o form ports pats timing truth n names mapped ne
     forms_covered mode inputs o sound is.graph pats timing n (class_at is.graph is.gates) over net form same forms truth truths ports mapped has (record {
       inputs_are = is.matches.inputs ∙ is.is_graph.written.leaf_count;
       input_names = is.input_names;
-      outputs = each (λ p q. (p.name ≡ q.name) × IsNetOf is.graph is.gates (class_in o is.graph (form p.net)) q.net) (λ p q. (p.name ≡ q.name) × IsAtForm o is.graph n (class_at is.graph is.gates) (form p.net) q.net) (λ p q r. (r.0, at_form (form p.net) q.net r.1)) ports.outputs mapped.outputs is.outputs;
+      outputs = zip_weaker (λ p q. (p.name ≡ q.name) × IsNetOf is.graph is.gates (class_in o is.graph (form p.net)) q.net) (λ p q. (p.name ≡ q.name) × IsAtForm o is.graph n (class_at is.graph is.gates) (form p.net) q.net) (λ p q r. (r.0, at_form (form p.net) q.net r.1)) ports.outputs mapped.outputs is.outputs;
     })
   where
     at_form : (f : Form) (k : ℕ) → IsNetOf is.graph is.gates (class_in o is.graph f) k → IsAtForm o is.graph n (class_at is.graph is.gates) f k

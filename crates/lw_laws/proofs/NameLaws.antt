@@ -262,6 +262,11 @@ module _ (outputs : List Name) (roots : List ℕ) where
             let (k, bt, root) = named_at outputs roots c m e in
             (gates_outside m (f ∷ frees) gates (omega arith) (not_output m k bt (f ∷ frees) (out, o)) (λ i d z at s. other_name c d m z (λ same. let x = once 0 (suc i) c refl (at ∙ ap Some (sym same)) in omega arith) e s), p)
 
+-- names that are free beside inputs and outputs are no outputs' names
+outside_outputs : (inputs outputs ns : List Name) → AllByRecursion (λ n. free (inputs ++ outputs) n ≡ true) ns → AllByRecursion (λ n. IsOutside n outputs) ns
+outside_outputs inputs outputs [] a = tt
+outside_outputs inputs outputs (n ∷ ns) (e, a) = ((outside_split n inputs outputs (free_outside (inputs ++ outputs) n e)).1, outside_outputs inputs outputs ns a)
+
 -- the names of the nets differ
 pub names_differ : (inputs outputs : List Name) (leaves roots gates : List ℕ) → AreNameable inputs outputs leaves roots gates → AreDifferent (net_names inputs outputs roots gates)
 names_differ inputs outputs leaves roots gates are =
@@ -269,13 +274,9 @@ names_differ inputs outputs leaves roots gates are =
     let fs = free_names taken (length gates) in
     let enough = frees_enough taken (length gates) are.few in
     apart_different (inputs ++ gate_names outputs roots fs gates) (apart_append inputs (gate_names outputs roots fs gates) (different_apart inputs are.inputs_differ)
-    (gates_apart outputs roots are.outputs_differ fs gates enough (frees_apart taken (length gates) are.few) (right_outside fs (frees_free taken (length gates) are.few)) are.once)
+    (gates_apart outputs roots are.outputs_differ fs gates enough (frees_apart taken (length gates) are.few) (outside_outputs inputs outputs fs (frees_free taken (length gates) are.few)) are.once)
     (λ i name at. gates_outside outputs roots name fs gates enough (outside_from name fs (λ j e. outside_not inputs name i (left_outside fs (frees_free taken (length gates) are.few) j name e) at)) (λ j c m here named. differs i name at j c m here named)))
   where
-    right_outside : (ns : List Name) → AllByRecursion (λ n. free (inputs ++ outputs) n ≡ true) ns → AllByRecursion (λ n. IsOutside n outputs) ns
-    right_outside [] a = tt
-    right_outside (n ∷ ns) (e, a) = ((outside_split n inputs outputs (free_outside (inputs ++ outputs) n e)).1, right_outside ns a)
-
     left_outside : (ns : List Name) → AllByRecursion (λ n. free (inputs ++ outputs) n ≡ true) ns → (j : ℕ) (name : Name) → slice_get ns j ≡ Some name → IsOutside name inputs
     left_outside [] a j name e = cc
     left_outside (n ∷ ns) (f, a) zero name e = let s : n ≡ name = cc in subst (λ z. IsOutside z inputs) s (outside_split n inputs outputs (free_outside (inputs ++ outputs) n f)).0
@@ -314,12 +315,8 @@ pub names_owned : (inputs outputs : List Name) (leaves roots gates : List ℕ) �
 names_owned inputs outputs leaves roots gates are long j k name e at =
     let taken = inputs ++ outputs in
     let fs = free_names taken (length gates) in
-    by_side inputs leaves (gate_names outputs roots fs gates) (λ i d. sym (are.tied i k name d at)) (λ i d. gate_owned outputs roots are.outputs_differ fs gates (frees_enough taken (length gates) are.few) (outside fs (frees_free taken (length gates) are.few)) i k name d at) j (omega arith) e
+    by_side inputs leaves (gate_names outputs roots fs gates) (λ i d. sym (are.tied i k name d at)) (λ i d. gate_owned outputs roots are.outputs_differ fs gates (frees_enough taken (length gates) are.few) (outside_outputs inputs outputs fs (frees_free taken (length gates) are.few)) i k name d at) j (omega arith) e
   where
-    outside : (ns : List Name) → AllByRecursion (λ n. free (inputs ++ outputs) n ≡ true) ns → AllByRecursion (λ n. IsOutside n outputs) ns
-    outside [] a = tt
-    outside (n ∷ ns) (e, a) = ((outside_split n inputs outputs (free_outside (inputs ++ outputs) n e)).1, outside ns a)
-
     by_side : (xs : List Name) (ls : List ℕ) (ys : List Name) → ((i : ℕ) → slice_get xs i ≡ Some name → slice_get ls i ≡ slice_get roots k) → ((i : ℕ) → slice_get ys i ≡ Some name → slice_get gates i ≡ slice_get roots k) → (j : ℕ) → length ls ≡ length xs → slice_get (xs ++ ys) j ≡ Some name → slice_get (ls ++ gates) j ≡ slice_get roots k
     by_side [] [] ys p q j len e = q j e
     by_side [] (l ∷ ls) ys p q j len e = absurd (omega arith)

@@ -1,8 +1,8 @@
 -- The netlist that listed forms are mapped to has their values and the least arrivals, and that of a network is a mapping of it.
 use Rattle.std.proofs.Common.{ℕ, ◌+◌, ◌<◌, ◌≤◌, ◌^◌, ◌≡◌, ◌↔◌, List, [], ◌∷◌, length, map, Option, Some, None, refl, ap, ◌∙◌, subst, arith}
-use Rattle.std.specs.List.{AllZip}
 use Rattle.std.proofs.lemmas.Option.{slice_get_within}
 use Rattle.std.proofs.lemmas.List.{length-append}
+use Rattle.lw_laws.proofs.Lists.{zip_weaker}
 use Rattle.lw_facts.proofs.Lists.{index_at}
 use Rattle.lw_laws.specs.Modes.{Mode}
 use Rattle.lw_laws.specs.Networks.{Network, IsInOrder}
@@ -29,7 +29,7 @@ use Rattle.lw_laws.specs.Encodings.{Encodes}
 use Rattle.lw_laws.specs.Netlists.{Netlist, AreByDepth, CellTruth, HaveCellTruths, AreArrivals}
 use Rattle.lw_laws.specs.Extracts.{IsNetOf, class_at, net_classes, HaveLeafLabels}
 use Rattle.lw_laws.specs.Mapped.{IsPotentialOf, forms_of, root_class, IsMappedOverForms, IsRootedAtForm}
-use Rattle.lw_laws.specs.Headline.{Port, Ports, MapsForms, IsMapping, HasLeastTime, HasLeastArrival, HasNoCoverOf, HasNoCover}
+use Rattle.lw_laws.specs.Headline.{Ports, MapsForms, IsMapping, HasLeastTime, HasLeastArrival, HasNoCoverOf, HasNoCover}
 use Rattle.lw_laws.specs.MappedNetlists.{form_classes, HasPorts, IsNetlistOfForms, IsNetlistOf}
 use Rattle.lw_laws.proofs.Listed.{occurring_is_listing}
 use Rattle.lw_laws.proofs.Sound.{network_is_sound, netlist_of_sops}
@@ -79,12 +79,6 @@ least_costs_bound g pats cost labels is least =
     let over : (c : ℕ) → IsLeastCost (choices_of g cost.pin_counts pats) cost c (labels_in labels c) = λ c. least_match g pats cost is.once is.patterns c (labels_in labels c) (least c) in
     (least_potential (choices_of g cost.pin_counts pats) cost (labels_in labels) over, λ c l e. cost_of_label (choices_of g cost.pin_counts pats) cost (labels_in labels) over c l (labels_in labels c) refl (over c) e)
 
-each : (R S : Port → Port → Type 0) → ((p q : Port) → R p q → S p q) → (ps qs : List Port) → AllZip R ps qs → AllZip S ps qs
-each R S f [] [] a = tt
-each R S f [] (q ∷ qs) a = absurd a
-each R S f (p ∷ ps) [] a = absurd a
-each R S f (p ∷ ps) (q ∷ qs) (r, a) = (f p q r, each R S f ps qs a)
-
 module _ (mode : Mode) (inputs : ℕ) (o : Listing) (form : ℕ → Form) (sound : IsSoundListing inputs o) (ports : Ports) (pats : List Pattern) (timing : Timing) (cap : ℕ) (n : Netlist) (names : List (List ℕ)) (mapped : Ports) (patterns : ArePatterns (map length timing.delays) pats) (is : IsNetlistOfForms mode inputs o form ports pats timing cap n names mapped) where
   abbrev cost : Cost
   cost = delay_cost timing cap
@@ -128,7 +122,7 @@ module _ (mode : Mode) (inputs : ℕ) (o : Listing) (form : ℕ → Form) (sound
       forms_mapped mode inputs o sound g pats timing cap is.labels n (class_at g is.gates) over net form same forms truth truths ds are ports mapped has (record {
         inputs_are = is.extracted.inputs ∙ leaves;
         input_names = is.input_names;
-        outputs = each (λ p q. (p.name ≡ q.name) × IsNetOf g is.gates (class_in o g (form p.net)) q.net) (λ p q. (p.name ≡ q.name) × IsRootedAtForm o g is.labels n (class_at g is.gates) ds (form p.net) q.net)
+        outputs = zip_weaker (λ p q. (p.name ≡ q.name) × IsNetOf g is.gates (class_in o g (form p.net)) q.net) (λ p q. (p.name ≡ q.name) × IsRootedAtForm o g is.labels n (class_at g is.gates) ds (form p.net) q.net)
             (λ p q r. (r.0, rooted low (form p.net) q.net ds are r.1)) ports.outputs mapped.outputs is.outputs;
       })
 

@@ -3,6 +3,7 @@ use Rattle.std.proofs.Common.{ℕ, suc, ◌<◌, ◌≤◌, ◌≡◌, ◌⊎◌
 use mathlib.Core.Path.{fun_ext}
 use Rattle.std.specs.List.{AllZip, AllByRecursion}
 use Rattle.std.proofs.lemmas.Option.{slice_get_within}
+use Rattle.lw_laws.proofs.MatchLists.{class_net_once}
 use Rattle.lw_laws.specs.Modes.{Mode}
 use Rattle.lw_laws.specs.Networks.{Network}
 use Rattle.lw_laws.specs.Signals.{Signal, sop_at, signals_of}
@@ -26,7 +27,7 @@ use Rattle.lw_laws.specs.MappedNetlists.{form_classes, IsNetlistOfForms, IsNetli
 use Rattle.lw_laws.proofs.Unique.{IsHeight_once}
 use Rattle.lw_laws.proofs.ClassLaws.{graphs_once}
 use Rattle.lw_laws.proofs.InputClasses.{forms_leaves_differ}
-use Rattle.lw_laws.proofs.ExtractLaws.{gate_classes_once, extracted_once, net_once}
+use Rattle.lw_laws.proofs.ExtractLaws.{gate_classes_once, extracted_once, gates_apart}
 use Rattle.lw_laws.proofs.Sound.{network_is_sound, netlist_of_sops}
 use Rattle.lw_laws.proofs.Lists.{slice_get_some}
 
@@ -98,7 +99,7 @@ module _ (g : Graph) (cost : Cost) (pats : List Pattern) (labels : Labels) where
           let same : d ≡ c = cc in
           (cost.value p.cell chosen.supports.pin_labels, subst (λ k. labels k ≡ Some (cost.value p.cell chosen.supports.pin_labels)) same chosen.supports.value)
 
-      gates_too : IsExtracted g cost pats labels heights gates n → AreGateClasses g cost pats labels heights roots gates → AreGateClasses g cost pats labels others roots gates
+      pub gates_too : IsExtracted g cost pats labels heights gates n → AreGateClasses g cost pats labels heights roots gates → AreGateClasses g cost pats labels others roots gates
       gates_too is are = record {
         needed = λ j c e. let (need, out) = are.needed j c e in (needed_too heights others agree back need, out);
         all = λ c need out. are.all c (needed_too others heights back agree need) out;
@@ -143,7 +144,7 @@ module _ (inputs : ℕ) (o : Listing) (form : ℕ → Form) (ports : Ports) (pat
     outputs_once labels heights gates are (p ∷ ps) [] rs a b = absurd a
     outputs_once labels heights gates are (p ∷ ps) (q ∷ qs) [] a b = absurd b
     outputs_once labels heights gates are (p ∷ ps) (q ∷ qs) (r ∷ rs) ((e, at), a) ((f, bt), b) =
-        let net_same = net_once g cost pats labels heights roots gates are distinct (class_in o g (form p.net)) q.net r.net at bt in
+        let net_same = class_net_once g gates (gates_apart g cost pats labels heights roots gates are) distinct (class_in o g (form p.net)) q.net r.net at bt in
         ap₂ (λ z zs. z ∷ zs) (ap₂ (λ x y. record { name = x; net = y }) (sym e ∙ f) net_same) (outputs_once labels heights gates are ps qs rs a b)
 
     ports_once : (labels : Labels) (heights : ℕ → ℕ) (gates : List ℕ) → AreGateClasses g cost pats labels heights roots gates → (mapped also : Ports) → mapped.inputs ≡ ports.inputs → also.inputs ≡ ports.inputs → OutputsAt gates ports.outputs mapped.outputs → OutputsAt gates ports.outputs also.outputs → mapped ≡ also

@@ -85,6 +85,17 @@ drop_sub zero fs = whole_sub fs
 drop_sub (suc n) [] = sub_none
 drop_sub (suc n) (f ∷ fs) = sub_without (drop_sub n fs)
 
+-- There are at most half as many runs as forms, and one.
+pub run_count : (width : ℕ) → 2 ≤ width → (n : ℕ) (fs : List Form) → 2 * length (runs_within n width fs) ≤ length fs + 2
+run_count width wide zero fs = omega arith
+run_count width wide (suc n) fs = by_test (leb (length fs) width) refl (run_count width wide n (drop width fs)) where
+  by_test : (t : Bool) → leb (length fs) width ≡ t → 2 * length (runs_within n width (drop width fs)) ≤ length (drop width fs) + 2 → 2 * length (elim t as (λ x. List (List Form)) [ true ↦ fs ∷ [] | false ↦ take width fs ∷ runs_within n width (drop width fs) ]) ≤ length fs + 2
+  by_test true s ih = omega arith
+  by_test false s ih =
+      let more = leb-false (length fs) width s in
+      let left = length-drop width fs in
+      omega arith
+
 module _ (count width : ℕ) (wide : 2 ≤ width) where
   abbrev Normal : Form → Type 0
   Normal f = IsNormal count width f
@@ -114,17 +125,6 @@ module _ (count width : ℕ) (wide : 2 ≤ width) where
         let taken = length-take-le width fs (omega arith) in
         (record { sub = take_sub width fs; few = omega arith }, run_of_sub (λ run r. sub_of_drop width fs run r) (runs_within n width (drop width fs)) (ih (omega arith) (omega arith)))
 
-  -- at most half as many, and one
-  run_count : (n : ℕ) (fs : List Form) → 2 * length (runs_within n width fs) ≤ length fs + 2
-  run_count zero fs = omega arith
-  run_count (suc n) fs = by_test (leb (length fs) width) refl (run_count n (drop width fs)) where
-    by_test : (t : Bool) → leb (length fs) width ≡ t → 2 * length (runs_within n width (drop width fs)) ≤ length (drop width fs) + 2 → 2 * length (elim t as (λ x. List (List Form)) [ true ↦ fs ∷ [] | false ↦ take width fs ∷ runs_within n width (drop width fs) ]) ≤ length fs + 2
-    by_test true s ih = omega arith
-    by_test false s ih =
-        let more = leb-false (length fs) width s in
-        let left = length-drop width fs in
-        omega arith
-
   map_all : {X : Type 0} (P : X → Type 0) (Q : Form → Type 0) (h : X → Form) → ((x : X) → P x → Q (h x)) → (xs : List X) → AllByRecursion P xs → AllByRecursion Q (map h xs)
   map_all P Q h f [] a = tt
   map_all P Q h f (x ∷ xs) (p, a) = (f x p, map_all P Q h f xs a)
@@ -134,7 +134,7 @@ module _ (count width : ℕ) (wide : 2 ≤ width) where
       (subst (AreOperands width) (sym (items-form_list fs)) (record { two = two; few = leb-true (length fs) width s; distinct = d; clashless = c }), list_normal count width fs a)
   joined_many_normal n again ih fs false s a two le d c =
       let more = leb-false (length fs) width s in
-      let count = run_count (length fs) fs in
+      let count = run_count width wide (length fs) fs in
       let each = are_runs (length fs) fs (omega arith) (omega arith) in
       let lengths = length-map (runs width fs) again in
       ih (map again (runs width fs)) (map_all (IsRun fs) Normal again (λ run r. let few = r.few in ih run (IsSub_all Normal r.sub a) (omega arith)) (runs width fs) each) (omega arith)
@@ -228,7 +228,7 @@ module _ (count width : ℕ) (wide : 2 ≤ width) where
   joined_many_same a b fs h true s = refl
   joined_many_same a b fs h false s =
       let more = leb-false (length fs) width s in
-      let count = run_count (length fs) fs in
+      let count = run_count width wide (length fs) fs in
       let lengths = length-map (runs width fs) b in
       let each = are_runs (length fs) fs (omega arith) (omega arith) in
       let same = map_same a b fs (runs width fs) each (λ hs l. h hs (omega arith)) in

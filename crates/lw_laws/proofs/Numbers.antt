@@ -85,6 +85,13 @@ complement_twice (not_form (not_form f)) z = absurd (omega arith)
 complement_twice (not_form (and_form fs)) z = refl
 complement_twice (and_form fs) z = refl
 
+-- a form that is no complement is its own base form
+pub base_self : (f : Form) → sign_of f ≡ 0 → base_form f ≡ f
+base_self (var_form i) z = refl
+base_self true_form z = refl
+base_self (not_form f) z = absurd (omega arith)
+base_self (and_form fs) z = refl
+
 module _ (o : Listing) (is : IsListing o) where
   base_sign : (f : Form) (b : ℕ) → IsListedAt o.bases b f → sign_of (base_form f) ≡ 0
   base_sign f b e = is.signs b (base_form f) e

@@ -2,7 +2,7 @@
 use Rattle.std.proofs.Common.{ℕ, suc, ◌+◌, ◌==◌, ◌≡◌, ◌⊎◌, ◌↔◌, inl, inr, Bool, true, false, not, ◌&&◌, ◌||◌, List, [], ◌∷◌, map, Contains, Some, slice_get, slice_index_or, refl, ap, ap₂, sym, ◌∙◌, arith}
 use Rattle.std.specs.List.{AllByRecursion}
 use Rattle.std.proofs.lemmas.Bool.Decides.{nat_tests}
-use Rattle.std.proofs.Math.Bool.{or_assoc, or-false, not-not, and-true}
+use Rattle.std.proofs.Math.Bool.{or_assoc, or-false, not-not, and-true, and_assoc}
 use Rattle.lw_laws.specs.Trees.{Tree, leaf, const_one, const_zero, inv, nand, tree_value, HasLeaf}
 use Rattle.lw_laws.specs.Covers.{Pattern, IsPattern, ArePatterns}
 use Rattle.lw_laws.specs.Netlists.{CellTruth, HasCellTruth, HaveCellTruths}
@@ -15,13 +15,9 @@ use Rattle.lw_laws.specs.Cells.{AreCells}
 use Rattle.lw_laws.proofs.PatternTruth.{over, expr_gives, exprs_give, trees_have}
 use Rattle.lw_laws.proofs.Lists.{all_contains, contains_all, all_append, all_map}
 
-or_by_and : (a b : Bool) → not (not a && not b) ≡ (a || b)
+pub or_by_and : (a b : Bool) → not (not a && not b) ≡ (a || b)
 or_by_and true b = refl
 or_by_and false b = not-not b
-
-and_assoc : (a b c : Bool) → ((a && b) && c) ≡ (a && (b && c))
-and_assoc true b c = refl
-and_assoc false b c = refl
 
 -- truth values
 abbrev by_value : Operator → Bool → Bool → Bool

@@ -1,7 +1,6 @@
 -- The forms of a network are a listing whose linked forms have one value, and further links keep a listing so. Its netlist is that of forms.
-use Rattle.std.proofs.Common.{ℕ, ◌≤◌, ◌≡◌, List, [], ◌∷◌, ◌++◌, Contains, Some, slice_get, suc, refl}
-use Rattle.std.specs.List.{AllByRecursion}
-use Rattle.lw_facts.proofs.Lists.{at_contained, contained_at, get_left}
+use Rattle.std.proofs.Common.{ℕ, ◌≤◌, ◌≡◌, List, [], ◌++◌, Contains}
+use Rattle.lw_facts.proofs.Lists.{at_contained, contained_at, get_left, all_by_place}
 use Rattle.lw_laws.specs.Networks.{Network}
 use Rattle.lw_laws.specs.Forms.{Form, form_value}
 use Rattle.lw_laws.specs.Signals.{Signal, sop_at, signals_of}
@@ -34,10 +33,6 @@ more_occur xs ys more (operand_occurs occ c) = operand_occurs (more_occur xs ys 
 more_occur xs ys more (part_occurs occ parts two) = part_occurs (more_occur xs ys more occ) parts two
 more_occur xs ys more (complement_occurs occ) = complement_occurs (more_occur xs ys more occ)
 
-at_all : {X : Type 0} (P : X → Type 0) (xs : List X) → ((i : ℕ) (x : X) → slice_get xs i ≡ Some x → P x) → AllByRecursion P xs
-at_all P [] f = tt
-at_all P (x ∷ xs) f = (f 0 x refl, at_all P xs (λ i y e. f (suc i) y e))
-
 -- links of listed forms with equal values keep a sound listing sound
 pub links_sound : (inputs : ℕ) (o : Listing) (links : List Signal) → IsSoundListing inputs o → ((x : Signal) → Contains links x → IsLinkOf o x) → IsSoundListing inputs (with_links o links)
 links_sound inputs o links sound are = record {
@@ -47,16 +42,16 @@ links_sound inputs o links sound are = record {
     ands = sound.listing.ands;
     signals = λ s x e. all_at (λ x. IsListed o x.sop × IsListed o x.fac) (o.signals ++ links)
         (all_append (λ x. IsListed o x.sop × IsListed o x.fac) o.signals links
-        (at_all (λ x. IsListed o x.sop × IsListed o x.fac) o.signals sound.listing.signals)
-        (at_all (λ x. IsListed o x.sop × IsListed o x.fac) links (λ i x e. (are x (at_contained links i x e)).listed))) s x e;
+        (all_by_place (λ x. IsListed o x.sop × IsListed o x.fac) o.signals sound.listing.signals)
+        (all_by_place (λ x. IsListed o x.sop × IsListed o x.fac) links (λ i x e. (are x (at_contained links i x e)).listed))) s x e;
     top = sound.listing.top;
     only = λ b f e. more_occur o.signals (o.signals ++ links) further (sound.listing.only b f e);
   };
   first = sound.first;
   agree = λ v s x e. all_at (λ x. form_value v x.sop ≡ form_value v x.fac) (o.signals ++ links)
       (all_append (λ x. form_value v x.sop ≡ form_value v x.fac) o.signals links
-      (at_all (λ x. form_value v x.sop ≡ form_value v x.fac) o.signals (sound.agree v))
-      (at_all (λ x. form_value v x.sop ≡ form_value v x.fac) links (λ i x e. (are x (at_contained links i x e)).agree v))) s x e;
+      (all_by_place (λ x. form_value v x.sop ≡ form_value v x.fac) o.signals (sound.agree v))
+      (all_by_place (λ x. form_value v x.sop ≡ form_value v x.fac) links (λ i x e. (are x (at_contained links i x e)).agree v))) s x e;
 }
   where
     further : (x : Signal) → Contains o.signals x → Contains (o.signals ++ links) x

@@ -17,8 +17,11 @@ class_in o g f = class_of g (number o.bases f)
 -- The form is the NAND of two forms: of the Ands of the parts of a split, or in the further mode of the Ands of two
 -- overlapping parts, or of its complement twice.
 pub data IsNandForm (mode : Mode) (o : Listing) : Form → Form → Form → Type 0 where
-  of_parts : {fs : FormList} {ls rs : List Form} → IsListed o (and_form fs) → AreParts (items fs) ls rs → 1 ≤ length ls → 1 ≤ length rs → IsNandForm mode o (not_form (and_form fs)) (conjunction o.width ls) (conjunction o.width rs)
-  of_overlap : {fs : FormList} {ls rs : List Form} → mode ≡ idempotent → IsListed o (and_form fs) → AreOverlapping (items fs) ls rs → ls ≢ rs → 1 ≤ length ls → 1 ≤ length rs → IsNandForm mode o (not_form (and_form fs)) (conjunction o.width ls) (conjunction o.width rs)
+  of_parts : {fs : FormList} {ls rs : List Form} → IsListed o (and_form fs) → AreParts (items fs) ls rs → 1 ≤ length ls
+      → 1 ≤ length rs → IsNandForm mode o (not_form (and_form fs)) (conjunction o.width ls) (conjunction o.width rs)
+  of_overlap : {fs : FormList} {ls rs : List Form} → mode ≡ idempotent → IsListed o (and_form fs)
+      → AreOverlapping (items fs) ls rs → ls ≢ rs → 1 ≤ length ls → 1 ≤ length rs
+      → IsNandForm mode o (not_form (and_form fs)) (conjunction o.width ls) (conjunction o.width rs)
   of_complement : {f : Form} → mode ≡ idempotent → IsListed o f → IsNandForm mode o f (complement f) (complement f)
 
 -- some form of class c is the NAND of forms of classes x and y
@@ -37,5 +40,7 @@ pub record IsGraphOf (mode : Mode) (inputs : ℕ) (o : Listing) (g : Graph) : Ty
   pub written : IsWritten (length o.bases) inputs g
   pub one : g.one ≡ class_in o g true_form
   pub leaves : (i : ℕ) → i < inputs → slice_get g.leaves i ≡ Some (class_in o g (var_form i))
-  pub classes : (f h : Form) → IsListed o f → IsListed o h → (class_in o g f ≡ class_in o g h) ↔ ((t : Tree) × HasTree mode o.width o.signals f t × HasTree mode o.width o.signals h t)
+  pub classes : (f h : Form) → IsListed o f → IsListed o h
+      → (class_in o g f ≡ class_in o g h)
+      ↔ ((t : Tree) × HasTree mode o.width o.signals f t × HasTree mode o.width o.signals h t)
   pub pairs : (c x y : ℕ) → HoldsPair g c x y ↔ HasSplitAt mode o g c x y

@@ -29,7 +29,8 @@ pub data Derives (F : Family) : ℕ → Tree → Type 0 where
   by_bottom : {f : ℕ} → F.IsTop (flip f) → Derives F f const_zero
   by_complement : {f : ℕ} {t : Tree} → F.Occurs f → Derives F (flip f) t → Derives F f (inv t)
   by_split : {f x y : ℕ} {t u : Tree} → IsNand F f x y → Derives F x t → Derives F y u → Derives F f (nand t u)
-  by_common : {f h : ℕ} {s t : Tree} → F.Occurs f → F.Occurs h → Derives F f s → Derives F h s → Derives F h t → Derives F f t
+  by_common : {f h : ℕ} {s t : Tree} → F.Occurs f → F.Occurs h → Derives F f s → Derives F h s → Derives F h t
+      → Derives F f t
   by_link : {f h : ℕ} {t : Tree} → AreLinked F f h → Derives F h t → Derives F f t
 
 -- the least equivalence that holds between linked forms, complements of equivalent forms, and NANDs of equivalent forms

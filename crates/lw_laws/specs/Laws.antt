@@ -34,12 +34,14 @@ HasNumberedTruth mode forms g x value =
 -- each class at which a cover's tree unfolds is labelled, not above the cost of the cover
 abbrev pub BoundsCovers : Graph → List Pattern → Cost → List (Option ℕ) → Type 0
 BoundsCovers g pats cost labels =
-    (k : Cover) (c : ℕ) → IsCover cost.pin_counts pats k → Unfolds g (tree_of k) c → HasLabelAtMost (labels_in labels) c (cost_of cost k)
+    (k : Cover) (c : ℕ) → IsCover cost.pin_counts pats k → Unfolds g (tree_of k) c
+    → HasLabelAtMost (labels_in labels) c (cost_of cost k)
 
 -- the trees of each form's class are those that the rules give the form
 abbrev pub HasTheTrees : Mode → Listing → Graph → Type 0
 HasTheTrees mode o g =
-    (f : Form) (t : Tree) → IsListed o f → Unfolds g t (class_of g (number o.bases f)) ↔ HasTree mode o.width o.signals f t
+    (f : Form) (t : Tree) → IsListed o f → Unfolds g t (class_of g (number o.bases f))
+    ↔ HasTree mode o.width o.signals f t
 
 -- a form is listed, as it is or by its complement, exactly where it occurs
 abbrev pub ListsTheOccurring : Listing → Type 0
@@ -47,16 +49,19 @@ ListsTheOccurring o = (f : Form) → IsListed o f ↔ Occurs o.signals f
 
 -- each tree of an occurring form has the form's truth value
 abbrev pub TreesHaveValue : Mode → Listing → (ℕ → Bool) → Type 0
-TreesHaveValue mode o x = (f : Form) (t : Tree) → Occurs o.signals f → HasTree mode o.width o.signals f t → tree_value x t ≡ form_value x f
+TreesHaveValue mode o x =
+    (f : Form) (t : Tree) → Occurs o.signals f → HasTree mode o.width o.signals f t → tree_value x t ≡ form_value x f
 
 -- two listed forms are of one class exactly where they have a common tree
 abbrev pub ClassesAreSharedTrees : Mode → Listing → Graph → Type 0
 ClassesAreSharedTrees mode o g =
-    (f h : Form) → IsListed o f → IsListed o h → (class_of g (number o.bases f) ≡ class_of g (number o.bases h)) ↔ ((t : Tree) × HasTree mode o.width o.signals f t × HasTree mode o.width o.signals h t)
+    (f h : Form) → IsListed o f → IsListed o h → (class_of g (number o.bases f) ≡ class_of g (number o.bases h))
+    ↔ ((t : Tree) × HasTree mode o.width o.signals f t × HasTree mode o.width o.signals h t)
 
 -- each tree of a form's class has the form's truth value
 abbrev pub ClassesHaveValue : Listing → Graph → (ℕ → Bool) → Type 0
-ClassesHaveValue o g x = (f : Form) (t : Tree) → IsListed o f → Unfolds g t (class_of g (number o.bases f)) → tree_value x t ≡ form_value x f
+ClassesHaveValue o g x =
+    (f : Form) (t : Tree) → IsListed o f → Unfolds g t (class_of g (number o.bases f)) → tree_value x t ≡ form_value x f
 
 -- what covers are sought for: a graph with each pair in one class at most, patterns of cells, and a cost of these cells
 pub record IsCoverProblem (g : Graph) (pats : List Pattern) (cost : Cost) : Type 0 where
@@ -71,7 +76,8 @@ IsAttainedIn g pats cost labels = IsAttained (choices_of g cost.pin_counts pats)
 
 -- an input's class has no other label than the cost of its leaf
 abbrev pub AreLeafLabels : Graph → Cost → List (Option ℕ) → Type 0
-AreLeafLabels g cost labels = (c i l : ℕ) → slice_get g.leaves i ≡ Some c → labels_in labels c ≡ Some l → l ≡ cost.leaf i
+AreLeafLabels g cost labels =
+    (c i l : ℕ) → slice_get g.leaves i ≡ Some c → labels_in labels c ≡ Some l → l ≡ cost.leaf i
 
 abbrev pub AreDelaysUpTo : ℕ → List (List ℕ) → Type 0
 AreDelaysUpTo delay delays = AllByRecursion (AllByRecursion (λ d. d ≤ delay)) delays
@@ -94,12 +100,14 @@ IsLeafCost g cost c l = (i : ℕ) × (slice_get g.leaves i ≡ Some c) × (l ≡
 
 -- the heights of the classes that have one of h at most
 abbrev pub AreHeightsUpToIn : Graph → List Pattern → Cost → List (Option ℕ) → (ℕ → Option ℕ) → ℕ → Type 0
-AreHeightsUpToIn g pats cost labels heights h = AreHeightsUpTo (choices_of g cost.pin_counts pats) cost (labels_in labels) heights h
+AreHeightsUpToIn g pats cost labels heights h =
+    AreHeightsUpTo (choices_of g cost.pin_counts pats) cost (labels_in labels) heights h
 
 -- a class has a height where some match that attains its label has pins that have one
 abbrev pub AreHeightsClosed : Graph → List Pattern → Cost → List (Option ℕ) → (ℕ → Option ℕ) → Type 0
 AreHeightsClosed g pats cost labels heights =
-    (c cell : ℕ) (ps : List ℕ) → Attains (choices_of g cost.pin_counts pats) cost (labels_in labels) c cell ps → AllByRecursion (IsKnown heights) ps → IsKnown heights c
+    (c cell : ℕ) (ps : List ℕ) → Attains (choices_of g cost.pin_counts pats) cost (labels_in labels) c cell ps
+    → AllByRecursion (IsKnown heights) ps → IsKnown heights c
 
 -- classes come in pairs, and true is one of them
 pub record HasClasses (g : Graph) (count : ℕ) : Type 0 where

@@ -8,7 +8,8 @@ use Rattle.lw_laws.specs.Signals.{Signal, signals_of}
 use Rattle.lw_laws.specs.Occurring.{occurring_forms}
 use Rattle.lw_laws.specs.Decompositions.{Occurs}
 
--- the width, the list of occurring base forms, and the pairs of linked forms: those of a network are the two forms of each signal
+-- the width, the list of occurring base forms, and the pairs of linked forms: those of a network are the two forms of
+-- each signal
 pub record Listing : Type 0 where
   pub width : ℕ
   pub bases : List Form
@@ -68,7 +69,8 @@ sign_of (and_form fs) = 0
 pub record IsListing (o : Listing) : Type 0 where
   pub signs : (b : ℕ) (f : Form) → slice_get o.bases b ≡ Some f → sign_of f ≡ 0
   pub once : (a b : ℕ) (f : Form) → slice_get o.bases a ≡ Some f → slice_get o.bases b ≡ Some f → a ≡ b
-  pub ands : (b : ℕ) (fs : FormList) → slice_get o.bases b ≡ Some (and_form fs) → IsListedAndForm o.width o.bases b (items fs)
+  pub ands : (b : ℕ) (fs : FormList) → slice_get o.bases b ≡ Some (and_form fs)
+      → IsListedAndForm o.width o.bases b (items fs)
   pub signals : (s : ℕ) (x : Signal) → slice_get o.signals s ≡ Some x → IsListed o x.sop × IsListed o x.fac
   pub top : IsListed o true_form
   pub only : (b : ℕ) (f : Form) → slice_get o.bases b ≡ Some f → Occurs o.signals f

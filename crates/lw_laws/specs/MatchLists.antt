@@ -24,11 +24,14 @@ pub record AreGatesApart (g : Graph) (gates : List ℕ) : Type 0 where
   pub once : (i j c : ℕ) → slice_get gates i ≡ Some c → slice_get gates j ≡ Some c → i ≡ j
   pub no_leaf : (j c : ℕ) → slice_get gates j ≡ Some c → IsLeafClass g c → ⊥
 
--- Each match is one at its class, no class stands twice or is an input's, and each pin's class is an input's or stands earlier.
+-- Each match is one at its class, no class stands twice or is an input's, and each pin's class is an input's or stands
+-- earlier.
 pub record AreMatchesInOrder (g : Graph) (pin_counts : List ℕ) (pats : List Pattern) (xs : List Gated) : Type 0 where
   pub apart : AreGatesApart g (gated_classes xs)
-  pub matches : (j : ℕ) (x : Gated) → slice_get xs j ≡ Some x → (p : Pattern) × IsMatchBy g pin_counts pats x.class x.found p
-  pub before : (j : ℕ) (x : Gated) → slice_get xs j ≡ Some x → AllByRecursion (HasNetBefore g (gated_classes xs) j) x.found.pins
+  pub matches : (j : ℕ) (x : Gated) → slice_get xs j ≡ Some x
+      → (p : Pattern) × IsMatchBy g pin_counts pats x.class x.found p
+  pub before : (j : ℕ) (x : Gated) → slice_get xs j ≡ Some x
+      → AllByRecursion (HasNetBefore g (gated_classes xs) j) x.found.pins
 
 -- the gate is of the cell of the match's pattern, and its pins are nets of the match's
 pub record IsGateOf (g : Graph) (pats : List Pattern) (gates : List ℕ) (m : Match) (gt : Gate) : Type 0 where
@@ -39,11 +42,13 @@ pub record IsGateOf (g : Graph) (pats : List Pattern) (gates : List ℕ) (m : Ma
 pub record IsMadeOf (g : Graph) (pats : List Pattern) (xs : List Gated) (n : Netlist) : Type 0 where
   pub inputs : n.inputs ≡ length g.leaves
   pub one_each : length n.gates ≡ length xs
-  pub gates : (j : ℕ) (x : Gated) (gt : Gate) → slice_get xs j ≡ Some x → IsGate n j gt → IsGateOf g pats (gated_classes xs) x.found gt
+  pub gates : (j : ℕ) (x : Gated) (gt : Gate) → slice_get xs j ≡ Some x → IsGate n j gt
+      → IsGateOf g pats (gated_classes xs) x.found gt
 
--- There is a gate for each of the classes, of which none stands twice or is an input's. The gates are in order, and each is a match at its
--- class with the classes of its pins.
-pub record IsMatchNetlist (g : Graph) (pin_counts : List ℕ) (pats : List Pattern) (gates : List ℕ) (n : Netlist) : Type 0 where
+-- There is a gate for each of the classes, of which none stands twice or is an input's. The gates are in order, and
+-- each is a match at its class with the classes of its pins.
+pub record IsMatchNetlist (g : Graph) (pin_counts : List ℕ) (pats : List Pattern) (gates : List ℕ)
+    (n : Netlist) : Type 0 where
   pub inputs : n.inputs ≡ length g.leaves
   pub one_each : length n.gates ≡ length gates
   pub apart : AreGatesApart g gates

@@ -1,5 +1,6 @@
 -- Names of the nets of a mapped netlist. A name is a list of bytes.
-use Rattle.std.specs.Prelude.{ℕ, zero, suc, ◌+◌, ◌^◌, ◌<◌, ◌≡◌, ◌==◌, Bool, true, false, not, ◌&&◌, if◌then◌else◌, Option, Some, None, List, [], ◌∷◌, ◌++◌, length, filter, drop, slice_get, slice_index_or}
+use Rattle.std.specs.Prelude.{ℕ, zero, suc, ◌+◌, ◌^◌, ◌<◌, ◌≡◌, ◌==◌, Bool, true, false, not, ◌&&◌, if◌then◌else◌}
+use Rattle.std.specs.Prelude.{Option, Some, None, List, [], ◌∷◌, ◌++◌, length, filter, drop, slice_get, slice_index_or}
 use Rattle.std.specs.List.{list_any}
 use Rattle.std.specs.Fmt.{decimal}
 pub use Rattle.lw_laws.specs.Headline.{AreDifferent}
@@ -36,7 +37,12 @@ output_name _ _ c = None
 abbrev pub gate_names : List (List ℕ) → List ℕ → List (List ℕ) → List ℕ → List (List ℕ)
 gate_names outputs roots free [] = []
 gate_names outputs roots free (c ∷ gates) =
-    elim (output_name outputs roots c) [ Some name ↦ name ∷ gate_names outputs roots free gates | None ↦ slice_index_or free 0 [] ∷ gate_names outputs roots (drop 1 free) gates ]
+    elim (output_name outputs roots c) [
+      | Some name ↦ name ∷
+          gate_names outputs roots free gates
+      | None ↦ slice_index_or free 0 [] ∷ gate_names outputs roots
+          (drop 1 free) gates
+    ]
 
 -- The names of the nets: the inputs' names, and then the gates'.
 abbrev pub net_names : List (List ℕ) → List (List ℕ) → List ℕ → List ℕ → List (List ℕ)
@@ -49,6 +55,7 @@ pub record AreNameable (inputs outputs : List (List ℕ)) (leaves roots gates : 
   pub few : 1 + (length gates + length (inputs ++ outputs)) < 2 ^ 64
   pub inputs_differ : AreDifferent inputs
   pub outputs_differ : AreDifferent outputs
-  pub tied : (i k : ℕ) (name : List ℕ) → slice_get inputs i ≡ Some name → slice_get outputs k ≡ Some name → slice_get roots k ≡ slice_get leaves i
+  pub tied : (i k : ℕ) (name : List ℕ) → slice_get inputs i ≡ Some name → slice_get outputs k ≡ Some name
+      → slice_get roots k ≡ slice_get leaves i
   pub once : (i j c : ℕ) → slice_get gates i ≡ Some c → slice_get gates j ≡ Some c → i ≡ j
   pub no_leaf : (i j c : ℕ) → slice_get gates i ≡ Some c → slice_get leaves j ≡ Some c → ⊥

@@ -1,5 +1,6 @@
 -- Netlists of gates: values, arrivals, and the covers that nets stand for.
-use Rattle.std.specs.Prelude.{ℕ, ◌+◌, ◌<◌, ◌≤◌, ◌≡◌, Bool, false, List, [], ◌∷◌, length, map, Some, slice_get, slice_index_or, Contains}
+use Rattle.std.specs.Prelude.{ℕ, ◌+◌, ◌<◌, ◌≤◌, ◌≡◌, Bool, false, List, [], ◌∷◌, length, map, Some, slice_get}
+use Rattle.std.specs.Prelude.{slice_index_or, Contains}
 use Rattle.std.specs.List.{AllByRecursion}
 use Rattle.lw_laws.specs.Trees.{tree_value}
 use Rattle.lw_laws.specs.Networks.{greatest_depth}
@@ -37,29 +38,34 @@ CellTruth = ℕ → List Bool → Bool
 pub record AreNetlistValues (truth : CellTruth) (n : Netlist) (x : ℕ → Bool) (values : List Bool) : Type 0 where
   pub one_each : length values ≡ n.inputs + length n.gates
   pub inputs : (i : ℕ) → i < n.inputs → slice_get values i ≡ Some (x i)
-  pub gates : (j : ℕ) (g : Gate) → IsGate n j g → slice_get values (n.inputs + j) ≡ Some (truth g.cell (map (λ p. slice_index_or values p false) g.pins))
+  pub gates : (j : ℕ) (g : Gate) → IsGate n j g → slice_get values (n.inputs + j) ≡ Some
+      (truth g.cell (map (λ p. slice_index_or values p false) g.pins))
 
 -- The arrivals of the nets: an input's is its start, and a gate's the greatest of its pins' delays and arrivals.
 pub record AreArrivals (timing : Timing) (n : Netlist) (arrivals : List ℕ) : Type 0 where
   pub one_each : length arrivals ≡ n.inputs + length n.gates
   pub inputs : (i : ℕ) → i < n.inputs → slice_get arrivals i ≡ Some (start_of timing.starts i)
-  pub gates : (j : ℕ) (g : Gate) → IsGate n j g → slice_get arrivals (n.inputs + j) ≡ Some (latest (delays_of timing.delays g.cell) (map (λ p. slice_index_or arrivals p 0) g.pins))
+  pub gates : (j : ℕ) (g : Gate) → IsGate n j g → slice_get arrivals (n.inputs + j) ≡ Some
+      (latest (delays_of timing.delays g.cell) (map (λ p. slice_index_or arrivals p 0) g.pins))
 
 -- The depths of the nets: 0 at an input, and at a gate 1 more than the greatest of its pins'.
 pub record AreNetDepths (n : Netlist) (depths : List ℕ) : Type 0 where
   pub one_each : length depths ≡ n.inputs + length n.gates
   pub inputs : (i : ℕ) → i < n.inputs → slice_get depths i ≡ Some 0
-  pub gates : (j : ℕ) (g : Gate) → IsGate n j g → slice_get depths (n.inputs + j) ≡ Some (1 + greatest_depth depths g.pins)
+  pub gates : (j : ℕ) (g : Gate) → IsGate n j g → slice_get depths (n.inputs + j) ≡ Some
+      (1 + greatest_depth depths g.pins)
 
 -- no gate stands before one that is less deep
 abbrev pub AreByDepth : Netlist → Type 0
-AreByDepth n = (depths : List ℕ) → AreNetDepths n depths → (i j : ℕ) → i < j → j < length n.gates → slice_index_or depths (n.inputs + i) 0 ≤ slice_index_or depths (n.inputs + j) 0
+AreByDepth n = (depths : List ℕ) → AreNetDepths n depths → (i j : ℕ) → i < j → j < length n.gates
+    → slice_index_or depths (n.inputs + i) 0 ≤ slice_index_or depths (n.inputs + j) 0
 
 -- The costs of the nets: an input's is its leaf's, and a gate's that of its cell over its pins' costs.
 pub record AreNetCosts (cost : Cost) (n : Netlist) (costs : List ℕ) : Type 0 where
   pub one_each : length costs ≡ n.inputs + length n.gates
   pub inputs : (i : ℕ) → i < n.inputs → slice_get costs i ≡ Some (cost.leaf i)
-  pub gates : (j : ℕ) (g : Gate) → IsGate n j g → slice_get costs (n.inputs + j) ≡ Some (cost.value g.cell (map (λ p. slice_index_or costs p 0) g.pins))
+  pub gates : (j : ℕ) (g : Gate) → IsGate n j g → slice_get costs (n.inputs + j) ≡ Some
+      (cost.value g.cell (map (λ p. slice_index_or costs p 0) g.pins))
 
 -- the net stands for the cover
 abbrev mutual
@@ -70,12 +76,14 @@ abbrev mutual
 
   pub StandForAll : Netlist → Covers → List ℕ → Type 0
   StandForAll n no_covers nets = nets ≡ []
-  StandForAll n (cover k ks) nets = (net : ℕ) × (rest : List ℕ) × (nets ≡ net ∷ rest) × StandsFor n k net × StandForAll n ks rest
+  StandForAll n (cover k ks) nets =
+      (net : ℕ) × (rest : List ℕ) × (nets ≡ net ∷ rest) × StandsFor n k net × StandForAll n ks rest
 
 -- the pattern has the truth of its cell, where the list has one truth value for each pin
 abbrev pub HasCellTruth : List ℕ → CellTruth → Pattern → Type 0
 HasCellTruth pin_counts truth p =
-    (ys : List Bool) → slice_get pin_counts p.cell ≡ Some (length ys) → tree_value (λ k. slice_index_or ys k false) p.tree ≡ truth p.cell ys
+    (ys : List Bool) → slice_get pin_counts p.cell ≡ Some (length ys)
+    → tree_value (λ k. slice_index_or ys k false) p.tree ≡ truth p.cell ys
 
 -- each pattern has the truth of its cell
 abbrev pub HaveCellTruths : List ℕ → CellTruth → List Pattern → Type 0

@@ -1,8 +1,10 @@
 -- Networks as plain data, the values of their nets, and the order of their nodes.
-use Rattle.std.specs.Prelude.{ℕ, ◌+◌, ◌<◌, ◌≡◌, max, Bool, true, false, not, ◌&&◌, Option, Some, None, List, [], ◌∷◌, map, length, slice_get, slice_index_or, Contains}
+use Rattle.std.specs.Prelude.{ℕ, ◌+◌, ◌<◌, ◌≡◌, max, Bool, true, false, not, ◌&&◌, Option, Some, None, List, [], ◌∷◌}
+use Rattle.std.specs.Prelude.{map, length, slice_get, slice_index_or, Contains}
 use Rattle.std.specs.List.{list_any}
 
--- A row asks each fan-in, in columns, for a value or for none. The node is true where some row holds, or, where `on` is false, where none does.
+-- A row asks each fan-in, in columns, for a value or for none. The node is true where some row holds, or, where `on` is
+-- false, where none does.
 pub record Node : Type 0 where
   pub fanins : List ℕ
   pub rows : List (List (Option Bool))
@@ -26,13 +28,15 @@ row_value _ _ = true
 
 -- what the node's rows give, at these values of all nets
 abbrev pub node_value : List Bool → Node → Bool
-node_value values node = agrees node.on (list_any (row_value (map (λ net. slice_index_or values net false) node.fanins)) node.rows)
+node_value values node =
+    agrees node.on (list_any (row_value (map (λ net. slice_index_or values net false) node.fanins)) node.rows)
 
 -- The assignment of a value to each net is right for these values of the inputs: each node has what its rows give.
 pub record AreValues (net : Network) (x : ℕ → Bool) (values : List Bool) : Type 0 where
   pub one_each : length values ≡ net.inputs + length net.nodes
   pub inputs : (i : ℕ) → i < net.inputs → slice_get values i ≡ Some (x i)
-  pub nodes : (j : ℕ) (node : Node) → slice_get net.nodes j ≡ Some node → slice_get values (net.inputs + j) ≡ Some (node_value values node)
+  pub nodes : (j : ℕ) (node : Node) → slice_get net.nodes j ≡ Some node
+      → slice_get values (net.inputs + j) ≡ Some (node_value values node)
 
 -- the values of inputs that a list gives
 abbrev pub given : List Bool → ℕ → Bool
@@ -51,4 +55,5 @@ greatest_depth depths (s ∷ nets) = max (slice_index_or depths s 0) (greatest_d
 pub record AreDepths (net : Network) (depths : List ℕ) : Type 0 where
   pub one_each : length depths ≡ net.inputs + length net.nodes
   pub inputs : (i : ℕ) → i < net.inputs → slice_get depths i ≡ Some 0
-  pub nodes : (j : ℕ) (node : Node) → slice_get net.nodes j ≡ Some node → slice_get depths (net.inputs + j) ≡ Some (1 + greatest_depth depths node.fanins)
+  pub nodes : (j : ℕ) (node : Node) → slice_get net.nodes j ≡ Some node
+      → slice_get depths (net.inputs + j) ≡ Some (1 + greatest_depth depths node.fanins)

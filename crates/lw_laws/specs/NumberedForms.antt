@@ -43,12 +43,15 @@ NumberOccurs forms f = f / 2 < length forms.bases
 -- form f is the complement of a listed And, and x and y are the Ands of the two parts of a cut
 abbrev pub IsCutOf : NumberedForms → ℕ → ℕ → ℕ → Type 0
 IsCutOf forms f x y =
-    (b : ℕ) × (fs : List ℕ) × (ls : List ℕ) × (rs : List ℕ) × (slice_get forms.bases b ≡ Some (base_and fs)) × (f ≡ 2 * b + 1) × IsCut fs ls rs × IsPart forms ls x × IsPart forms rs y
+    (b : ℕ) × (fs : List ℕ) × (ls : List ℕ) × (rs : List ℕ) × (slice_get forms.bases b ≡ Some (base_and fs))
+    × (f ≡ 2 * b + 1) × IsCut fs ls rs × IsPart forms ls x × IsPart forms rs y
 
--- the same for two different lists that together hold every operand
+-- form f is the complement of a listed And, and x and y are the Ands of two different lists of its operands that
+-- together hold each
 abbrev pub IsCoveringOf : NumberedForms → ℕ → ℕ → ℕ → Type 0
 IsCoveringOf forms f x y =
-    (b : ℕ) × (fs : List ℕ) × (ls : List ℕ) × (rs : List ℕ) × (slice_get forms.bases b ≡ Some (base_and fs)) × (f ≡ 2 * b + 1) × IsCovering fs ls rs × (ls ≢ rs) × IsPart forms ls x × IsPart forms rs y
+    (b : ℕ) × (fs : List ℕ) × (ls : List ℕ) × (rs : List ℕ) × (slice_get forms.bases b ≡ Some (base_and fs))
+    × (f ≡ 2 * b + 1) × IsCovering fs ls rs × (ls ≢ rs) × IsPart forms ls x × IsPart forms rs y
 
 -- form f is the complement of x, which is y too
 abbrev pub IsTwice : NumberedForms → ℕ → ℕ → ℕ → Type 0
@@ -79,7 +82,8 @@ IsBefore b x = x / 2 < b
 pub record IsListedAnd (forms : NumberedForms) (b : ℕ) (fs : List ℕ) : Type 0 where
   pub two : 2 ≤ length fs
   pub operands : AllByRecursion (IsBefore b) fs
-  pub parts : (ls rs : List ℕ) → IsCut fs ls rs → 1 ≤ length ls → 1 ≤ length rs → (x : ℕ) × IsPart forms ls x × IsBefore b x
+  pub parts : (ls rs : List ℕ) → IsCut fs ls rs → 1 ≤ length ls → 1 ≤ length rs
+      → (x : ℕ) × IsPart forms ls x × IsBefore b x
 
 pub record AreNumberedForms (forms : NumberedForms) : Type 0 where
   pub ands : (b : ℕ) (fs : List ℕ) → slice_get forms.bases b ≡ Some (base_and fs) → IsListedAnd forms b fs

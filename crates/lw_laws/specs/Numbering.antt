@@ -43,4 +43,5 @@ numbered inputs o = record {
 -- the rules over numbers derive for each occurring form the trees that the rules over plain forms give it
 abbrev pub HasSameTrees : Mode → ℕ → Listing → Type 0
 HasSameTrees mode inputs o =
-    (f : Form) (t : Tree) → IsListed o f → HasTree mode o.width o.signals f t ↔ Derives (family_of mode (numbered inputs o)) (number o.bases f) t
+    (f : Form) (t : Tree) → IsListed o f → HasTree mode o.width o.signals f t
+    ↔ Derives (family_of mode (numbered inputs o)) (number o.bases f) t

@@ -1,5 +1,6 @@
 -- The list of occurring base forms, and the number of splits.
-use Rattle.std.specs.Prelude.{◌<◌, ◌≡◌, Some, slice_get, ℕ, ◌+◌, ◌-◌, ◌/◌, ◌%◌, ◌^◌, ◌==◌, true, false, cond, leb, if◌then◌else◌, List, [], ◌∷◌, ◌++◌, length}
+use Rattle.std.specs.Prelude.{◌<◌, ◌≡◌, Some, slice_get, ℕ, ◌+◌, ◌-◌, ◌/◌, ◌%◌, ◌^◌, ◌==◌, true, false, cond, leb}
+use Rattle.std.specs.Prelude.{if◌then◌else◌, List, [], ◌∷◌, ◌++◌, length}
 use Rattle.lw_laws.specs.Networks.{Network}
 use Rattle.lw_laws.specs.Modes.{Mode}
 use Rattle.lw_laws.specs.Modes.Mode.{plain, idempotent}
@@ -41,7 +42,12 @@ abbrev mutual
   add_form (var_form i) bases = appended (var_form i) bases
   add_form true_form bases = appended true_form bases
   add_form (not_form f) bases = add_form f bases
-  add_form (and_form fs) bases = elim (is_among (and_form fs) bases) [ true ↦ bases | false ↦ append_parts (sublists (items fs)) (add_forms fs bases) ]
+  add_form (and_form fs) bases =
+      elim (is_among (and_form fs) bases) [
+        | true ↦ bases
+        | false ↦ append_parts (sublists (items fs))
+            (add_forms fs bases)
+      ]
 
   pub add_forms : FormList → List Form → List Form
   add_forms no_forms bases = bases
@@ -56,7 +62,8 @@ abbrev pub occurring_forms : ℕ → Network → List Form
 occurring_forms width net = add_signals (signals_of width net) (true_form ∷ [])
 
 -- How many splits an And of so many operands has: unordered cuts into two non-empty sub-lists, and in the further mode
--- unordered pairs of different non-empty sub-lists that together hold every operand. The tied-inverter law's are not counted.
+-- unordered pairs of different non-empty sub-lists that together hold every operand. The tied-inverter law's are not
+-- counted.
 abbrev pub splits_of : Mode → ℕ → ℕ
 splits_of plain k = 2 ^ (k - 1) - 1
 splits_of idempotent k = (3 ^ k - 3) / 2

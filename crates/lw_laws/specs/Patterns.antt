@@ -42,7 +42,8 @@ three op a b c = all_pairs op (all_pairs op a b) c ++ all_pairs op a (all_pairs 
 
 abbrev pub four : Operator → List Tree → List Tree → List Tree → List Tree → List Tree
 four op a b c d =
-    all_pairs op (three op a b c) d ++ (all_pairs op (all_pairs op a b) (all_pairs op c d) ++ all_pairs op a (three op b c d))
+    all_pairs op (three op a b c) d
+    ++ (all_pairs op (all_pairs op a b) (all_pairs op c d) ++ all_pairs op a (three op b c d))
 
 -- the left chain in written order
 abbrev pub left_chain : Operator → List Tree → List (List Tree) → List Tree

@@ -1,5 +1,6 @@
 -- Truth values of the nets of a network, of linked forms, and of forms by their numbers.
-use Rattle.std.specs.Prelude.{ℕ, ◌+◌, ◌<◌, ◌/◌, ◌%◌, ◌==◌, ◌≡◌, Bool, if◌then◌else◌, Some, List, ◌++◌, length, slice_get, slice_index_or}
+use Rattle.std.specs.Prelude.{ℕ, ◌+◌, ◌<◌, ◌/◌, ◌%◌, ◌==◌, ◌≡◌, Bool, if◌then◌else◌, Some, List, ◌++◌, length}
+use Rattle.std.specs.Prelude.{slice_get, slice_index_or}
 use Rattle.lw_laws.specs.Forms.{Form, complement, form_value}
 use Rattle.lw_laws.specs.Forms.Form.{true_form}
 use Rattle.lw_laws.specs.Networks.{Network, AreValues}
@@ -9,16 +10,19 @@ use Rattle.lw_laws.specs.Listings.{Listing, IsListed, IsListing}
 
 -- the form of a number
 abbrev pub form_of : List Form → ℕ → Form
-form_of bases n = if n % 2 == 0 then slice_index_or bases (n / 2) true_form else complement (slice_index_or bases (n / 2) true_form)
+form_of bases n =
+    if n % 2 == 0 then slice_index_or bases (n / 2) true_form else complement (slice_index_or bases (n / 2) true_form)
 
 abbrev pub number_value : Listing → (ℕ → Bool) → ℕ → Bool
 number_value o x n = form_value x (form_of o.bases n)
 
 -- the two forms of a signal have one value
 abbrev pub SignalsAgree : List Signal → (ℕ → Bool) → Type 0
-SignalsAgree signals x = (s : ℕ) (signal : Signal) → slice_get signals s ≡ Some signal → form_value x signal.sop ≡ form_value x signal.fac
+SignalsAgree signals x =
+    (s : ℕ) (signal : Signal) → slice_get signals s ≡ Some signal → form_value x signal.sop ≡ form_value x signal.fac
 
--- What the theorems ask of a listing over so many inputs: true is listed first and then the inputs, and linked forms have one value.
+-- What the theorems ask of a listing over so many inputs: true is listed first and then the inputs, and linked forms
+-- have one value.
 pub record IsSoundListing (inputs : ℕ) (o : Listing) : Type 0 where
   pub listing : IsListing o
   pub first : HasInputsFirst inputs o.bases
@@ -27,7 +31,8 @@ pub record IsSoundListing (inputs : ℕ) (o : Listing) : Type 0 where
 -- the form of each net of the network is listed, and has the net's value
 pub record AreNetForms (net : Network) (o : Listing) (form : ℕ → Form) : Type 0 where
   pub listed : (s : ℕ) → s < net.inputs + length net.nodes → IsListed o (form s)
-  pub values : (x : ℕ → Bool) (values : List Bool) → AreValues net x values → (s : ℕ) → s < net.inputs + length net.nodes → slice_get values s ≡ Some (form_value x (form s))
+  pub values : (x : ℕ → Bool) (values : List Bool) → AreValues net x values → (s : ℕ)
+      → s < net.inputs + length net.nodes → slice_get values s ≡ Some (form_value x (form s))
 
 -- a pair of listed forms that have one value
 pub record IsLinkOf (o : Listing) (link : Signal) : Type 0 where

@@ -1,6 +1,7 @@
 //! Laws about covers, labels, heights and rounds. Each function has an empty body and is never run;
 //! its clauses are the law.
-ghost use Rattle.lw_laws.specs.Choices.{AreHeights, HasLabelAtMost, HaveLabels, IsHeight, IsInputClass};
+ghost use Rattle.lw_laws.specs.Choices.{AreHeights, HasLabelAtMost, HaveLabels, IsHeight};
+ghost use Rattle.lw_laws.specs.Choices.{IsInputClass};
 ghost use Rattle.lw_laws.specs.Classes.{IsGraphOf};
 ghost use Rattle.lw_laws.specs.Costs.{Cost, IsCost, cost_of};
 ghost use Rattle.lw_laws.specs.Covers.{Timing, ArePatterns, Cover, Pattern, time_of};
@@ -9,7 +10,9 @@ ghost use Rattle.lw_laws.specs.Delays.{delay_cost};
 ghost use Rattle.lw_laws.specs.Extracts.{IsChosen, IsLeafClass, Match, Supports};
 ghost use Rattle.lw_laws.specs.Graphs.{Graph};
 ghost use Rattle.lw_laws.specs.HeightRounds.{IsHeightRound};
-ghost use Rattle.lw_laws.specs.Laws.{AreBoundedIn, AreHeightsClosed, AreHeightsUpToIn, AreLeafLabels, AreSoundIn, BoundsCovers, HasClasses, IsAttainedIn, IsCoverProblem, IsLeafCost, IsTimingUpTo};
+ghost use Rattle.lw_laws.specs.Laws.{AreBoundedIn, AreHeightsClosed, AreHeightsUpToIn};
+ghost use Rattle.lw_laws.specs.Laws.{AreLeafLabels, AreSoundIn, BoundsCovers, HasClasses};
+ghost use Rattle.lw_laws.specs.Laws.{IsAttainedIn, IsCoverProblem, IsLeafCost, IsTimingUpTo};
 ghost use Rattle.lw_laws.specs.Mapped.{IsPotentialOf};
 ghost use Rattle.lw_laws.specs.Marks.{HasMarkAtMost, Mark, heights_of, labels_of};
 ghost use Rattle.lw_laws.specs.Matches.{IsLeastCover, IsMatchAt, choices_of};
@@ -17,7 +20,8 @@ ghost use Rattle.lw_laws.specs.Modes.{Mode};
 ghost use Rattle.lw_laws.specs.Networks.{Network};
 ghost use Rattle.lw_laws.specs.Priced.{AreMarks, IsPriced, IsPricedAtMost};
 ghost use Rattle.lw_laws.specs.Rounds.{label_weight, labels_in, total_weight};
-ghost use Rattle.std.specs.Prelude.{◌≡◌, ◌≤◌, ◌↔◌, ◌<◌, ◌+◌, ◌*◌, ℕ, List, Option, Some, map, length, slice_get, slice_set, min};
+ghost use Rattle.std.specs.Prelude.{◌≡◌, ◌≤◌, ◌↔◌, ◌<◌, ◌+◌, ◌*◌, ℕ, List, Option, Some, map};
+ghost use Rattle.std.specs.Prelude.{length, slice_get, slice_set, min};
 
 // Covers and labels
 

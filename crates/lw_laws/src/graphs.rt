@@ -8,7 +8,8 @@ ghost use Rattle.lw_laws.specs.Encodings.{Encodes};
 ghost use Rattle.lw_laws.specs.Expressions.{Expr, MentionsPin, expr_value};
 ghost use Rattle.lw_laws.specs.Extracts.{AreDistinctLeaves};
 ghost use Rattle.lw_laws.specs.Graphs.{Graph, IsWritten, PairsInOneClass};
-ghost use Rattle.lw_laws.specs.Laws.{ClassesAreSharedTrees, ClassesHaveValue, HasNumberedTrees, HasNumberedTruth, HasTheTrees, TreesUnfoldOnce};
+ghost use Rattle.lw_laws.specs.Laws.{ClassesAreSharedTrees, ClassesHaveValue, HasNumberedTrees};
+ghost use Rattle.lw_laws.specs.Laws.{HasNumberedTruth, HasTheTrees, TreesUnfoldOnce};
 ghost use Rattle.lw_laws.specs.Listings.{IsListing, Listing, listing_of};
 ghost use Rattle.lw_laws.specs.Mapped.{forms_of};
 ghost use Rattle.lw_laws.specs.Modes.{Mode};
@@ -20,7 +21,8 @@ ghost use Rattle.lw_laws.specs.Occurring.{occurring_forms};
 ghost use Rattle.lw_laws.specs.Patterns.{patterns_of, trees_of_expr};
 ghost use Rattle.lw_laws.specs.Trees.{HasLeaf, Tree, tree_value};
 ghost use Rattle.lw_laws.specs.Truth.{IsValuation};
-ghost use Rattle.std.specs.Prelude.{◌≡◌, ◌≤◌, ◌↔◌, ◌<◌, ◌+◌, ◌*◌, ℕ, List, Bool, Some, length, slice_get, Contains};
+ghost use Rattle.std.specs.Prelude.{◌≡◌, ◌≤◌, ◌↔◌, ◌<◌, ◌+◌, ◌*◌, ℕ, List, Bool, Some, length};
+ghost use Rattle.std.specs.Prelude.{slice_get, Contains};
 
 // Graphs of classes
 

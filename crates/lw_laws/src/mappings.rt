@@ -5,26 +5,38 @@ ghost use Rattle.lw_laws.specs.Covers.{Timing, ArePatterns, Pattern};
 ghost use Rattle.lw_laws.specs.Classes.{class_in};
 ghost use Rattle.lw_laws.specs.Delays.{delay_cost};
 ghost use Rattle.lw_laws.specs.Encodings.{Encodes};
-ghost use Rattle.lw_laws.specs.Extracts.{AreDistinctLeaves, AreGateClasses, HaveLeafLabels, IsChosen, IsExtracted, IsNetOf, Match, class_at};
+ghost use Rattle.lw_laws.specs.Extracts.{AreDistinctLeaves, AreGateClasses, HaveLeafLabels};
+ghost use Rattle.lw_laws.specs.Extracts.{IsChosen, IsExtracted, IsNetOf, Match, class_at};
 ghost use Rattle.lw_laws.specs.Forms.{Form, form_value};
 ghost use Rattle.lw_laws.specs.Graphs.{Graph};
-ghost use Rattle.lw_laws.specs.Headline.{CoversForms, HasLeastArrival, HasLeastTime, HasNoCover, HasNoCoverOf, IsMapping, MapsForms, Ports, StandsForCover, StandsForCoverOf};
+ghost use Rattle.lw_laws.specs.Headline.{CoversForms, HasLeastArrival, HasLeastTime, HasNoCover};
+ghost use Rattle.lw_laws.specs.Headline.{HasNoCoverOf, IsMapping, MapsForms, Ports, StandsForCover};
+ghost use Rattle.lw_laws.specs.Headline.{StandsForCoverOf};
 ghost use Rattle.lw_laws.specs.Listings.{IsListed, IsListing, Listing};
 ghost use Rattle.lw_laws.specs.InTime.{AreLeastTimes, ArriveBy, CoversNetwork};
-ghost use Rattle.lw_laws.specs.Mapped.{AreAtForms, AreRooted, AreRootedAtForms, IsAtForm, IsAtNet, IsCoverAt, IsCoveredOver, IsCoveredOverForms, IsLabelledOver, IsLabelledOverForms, IsMapped, IsMappedOver, IsMappedOverForms, IsRootedAt, IsRootedAtForm, forms_of, root_class};
-ghost use Rattle.lw_laws.specs.MatchLists.{AreMatchesInOrder, Gated, IsMadeOf, IsMatchNetlist, gated_classes};
-ghost use Rattle.lw_laws.specs.MappedNetlists.{AreNetNames, ArePortNames, HasPorts, IsMatchNetlistOf, IsNetlistOf, IsNetlistOfForms};
+ghost use Rattle.lw_laws.specs.Mapped.{AreAtForms, AreRooted, AreRootedAtForms, IsAtForm, IsAtNet};
+ghost use Rattle.lw_laws.specs.Mapped.{IsCoverAt, IsCoveredOver, IsCoveredOverForms};
+ghost use Rattle.lw_laws.specs.Mapped.{IsLabelledOver, IsLabelledOverForms, IsMapped, IsMappedOver};
+ghost use Rattle.lw_laws.specs.Mapped.{IsMappedOverForms, IsRootedAt, IsRootedAtForm, forms_of};
+ghost use Rattle.lw_laws.specs.Mapped.{root_class};
+ghost use Rattle.lw_laws.specs.MatchLists.{AreMatchesInOrder, Gated, IsMadeOf, IsMatchNetlist};
+ghost use Rattle.lw_laws.specs.MatchLists.{gated_classes};
+ghost use Rattle.lw_laws.specs.MappedNetlists.{AreNetNames, ArePortNames, HasPorts};
+ghost use Rattle.lw_laws.specs.MappedNetlists.{IsMatchNetlistOf, IsNetlistOf, IsNetlistOfForms};
 ghost use Rattle.lw_laws.specs.Matches.{IsLeastCover};
 ghost use Rattle.lw_laws.specs.Modes.{Mode};
 ghost use Rattle.lw_laws.specs.Names.{AreDifferent, AreNameable, net_names};
-ghost use Rattle.lw_laws.specs.Netlists.{AreArrivals, AreByDepth, AreNetCosts, AreNetDepths, AreNetlistValues, AreOrdered, CellTruth, HaveCellTruths, Netlist};
+ghost use Rattle.lw_laws.specs.Netlists.{AreArrivals, AreByDepth, AreNetCosts, AreNetDepths};
+ghost use Rattle.lw_laws.specs.Netlists.{AreNetlistValues, AreOrdered, CellTruth, HaveCellTruths};
+ghost use Rattle.lw_laws.specs.Netlists.{Netlist};
 ghost use Rattle.lw_laws.specs.Networks.{AreValues, IsInOrder, Network};
 ghost use Rattle.lw_laws.specs.NumberedForms.{family_of};
 ghost use Rattle.lw_laws.specs.Numbering.{numbered};
 ghost use Rattle.lw_laws.specs.Rounds.{labels_in};
 ghost use Rattle.lw_laws.specs.SignalValues.{AreNetForms, IsSoundListing};
 ghost use Rattle.lw_laws.specs.Signals.{Signal};
-ghost use Rattle.std.specs.Prelude.{◌++◌, ◌≡◌, ◌≤◌, ◌<◌, ◌^◌, ◌+◌, ℕ, List, Option, Bool, Some, None, map, length, slice_get, slice_index_or, min};
+ghost use Rattle.std.specs.Prelude.{◌++◌, ◌≡◌, ◌≤◌, ◌<◌, ◌^◌, ◌+◌, ℕ, List, Option, Bool, Some};
+ghost use Rattle.std.specs.Prelude.{None, map, length, slice_get, slice_index_or, min};
 
 // Netlists
 
@@ -179,8 +191,8 @@ pub fn outputs_own_their_names()
 
 // The headline for any listing whose linked forms have one value
 
-/// The arrival of a net that is rooted at a form is the least time of a library cover of a tree that
-/// the rules derive for the form.
+/// The arrival of a net that is rooted at a form is the least time of a library cover of a tree
+/// that the rules derive for the form.
 pub fn rooted_nets_are_least()
     ensures { (mode : Mode) (inputs : ℕ) (o : Listing) (g : Graph) (pats : List Pattern)
         (timing : Timing) (cap : ℕ) (labels : List (Option ℕ)) (n : Netlist) (class : ℕ → ℕ)
@@ -410,13 +422,14 @@ pub fn mapped_netlists_are_match_netlists()
     ensures { (mode : Mode) (width : ℕ) (net : Network) (ports : Ports) (pats : List Pattern)
         (timing : Timing) (cap : ℕ) (n : Netlist) (names : List (List ℕ)) (mapped : Ports) →
         (is : IsNetlistOf mode width net ports pats timing cap n names mapped) →
-        (also : IsMatchNetlistOf mode width net ports pats (map length timing.delays) n names mapped)
+        (also : IsMatchNetlistOf mode width net ports pats
+        (map length timing.delays) n names mapped)
         × (also.graph ≡ is.graph) × (also.gates ≡ is.gates) }
 {}
 
 /// A netlist of matches over the graph of a network's forms covers the network: it has its ports
-/// and values, and each output stands for a cover of a tree that the rules derive for it, whose time
-/// is its arrival.
+/// and values, and each output stands for a cover of a tree that the rules derive for it, whose
+/// time is its arrival.
 pub fn match_netlists_cover_networks()
     ensures { (mode : Mode) (width : ℕ) (net : Network) (ports : Ports) (pats : List Pattern)
         (timing : Timing) (truth : CellTruth) (n : Netlist) (names : List (List ℕ))

@@ -9,9 +9,12 @@ ghost use Rattle.lw_laws.specs.NumberedForms.{AreNumberedForms};
 ghost use Rattle.lw_laws.specs.NumberedValues.{AreNumberedValues};
 ghost use Rattle.lw_laws.specs.Numbering.{HasSameTrees, numbered};
 ghost use Rattle.lw_laws.specs.Occurring.{HasInputsFirst, occurring_forms, part, sublists};
-ghost use Rattle.lw_laws.specs.SignalValues.{AreNetForms, IsLinkOf, IsSoundListing, SignalsAgree, number_value, with_links};
-ghost use Rattle.lw_laws.specs.Signals.{Signal, factored, factored_by, shared_literal, signals_of, sop_at};
-ghost use Rattle.std.specs.Prelude.{◌≡◌, ◌≤◌, ◌<◌, ◌^◌, ℕ, Contains, List, Option, Bool, Some, map, length, slice_get};
+ghost use Rattle.lw_laws.specs.SignalValues.{AreNetForms, IsLinkOf, IsSoundListing, SignalsAgree};
+ghost use Rattle.lw_laws.specs.SignalValues.{number_value, with_links};
+ghost use Rattle.lw_laws.specs.Signals.{Signal, factored, factored_by, shared_literal, signals_of};
+ghost use Rattle.lw_laws.specs.Signals.{sop_at};
+ghost use Rattle.std.specs.Prelude.{◌≡◌, ◌≤◌, ◌<◌, ◌^◌, ℕ, Contains, List, Option, Bool, Some, map};
+ghost use Rattle.std.specs.Prelude.{length, slice_get};
 
 // Networks
 
@@ -97,7 +100,8 @@ pub fn networks_have_sound_listings()
 /// Further links of listed forms with one value keep a listing sound.
 pub fn links_keep_listings_sound()
     ensures { (inputs : ℕ) (o : Listing) (links : List Signal) → IsSoundListing inputs o →
-        ((x : Signal) → Contains links x → IsLinkOf o x) → IsSoundListing inputs (with_links o links) }
+        ((x : Signal) → Contains links x → IsLinkOf o x) →
+        IsSoundListing inputs (with_links o links) }
 {}
 
 /// The sums of products of a network's nets are listed, and have the nets' values.

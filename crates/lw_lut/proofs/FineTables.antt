@@ -6,7 +6,7 @@ use Rattle.std.specs.Str.{bytes_eq}
 use Rattle.std.proofs.lemmas.Bool.Decides.{nat_tests}
 use Rattle.std.proofs.lemmas.List.{length-map}
 use Rattle.std.proofs.lemmas.List.Elements.{recursion_from_All}
-use Rattle.lw_facts.proofs.Lists.{distinct_left}
+use Rattle.lw_facts.proofs.Lists.{distinct_left, none_among}
 use Rattle.lw_pool.specs.declared.id.ClassId.{ClassId}
 use Rattle.lw_pool.specs.declared.latch.Frame.{Frame}
 use Rattle.lw_pool.specs.declared.latch.Latch.{Latch}
@@ -21,7 +21,6 @@ use Rattle.lw_lut.specs.Texts.{fanin_names, net_name}
 use Rattle.lw_lut.specs.declared.table.Table.{Table}
 use Rattle.lw_lut.proofs.DraftSaid.{body, all_inputs}
 use Rattle.lw_lut.proofs.LineKinds.{IsRowOf, asks_model, asks_inputs, asks_outputs, asks_names, asks_latch, row_value, table_rows_are, few_rows, wire_is}
-use Rattle.lw_lut.proofs.ReadNames.{none_among}
 use Rattle.lw_lut.proofs.NodesSaid.{last_one, before_last}
 use Rattle.lw_lut.proofs.SayableNames.{IsFairTable, wire_outputs, names_pass, tables_fair, roots_named, own_inputs, own_outputs, outs, all_differ}
 use Rattle.lw_lut.proofs.TextLines.{Words, row_lines, table_head, table_lines, wire_head, wire_row, wire_lines, latch_words, node_lines, model_words, inputs_words, outputs_words, inner_lines}

@@ -1,5 +1,5 @@
 -- The names of the nets of a network of tables, by their classes.
-use Rattle.std.proofs.Common.{ℕ, zero, suc, ◌≡◌, ◌==◌, ◌||◌, if◌then◌else◌, Bool, true, false, cond, List, [], ◌∷◌, ◌++◌, length, map, drop, Contains, Option, Some, slice_get, refl, ap, ap₂, sym, ◌∙◌, subst, arith}
+use Rattle.std.proofs.Common.{ℕ, zero, suc, ◌≡◌, ◌==◌, if◌then◌else◌, Bool, true, false, cond, List, [], ◌∷◌, ◌++◌, length, map, drop, Contains, Option, Some, slice_get, refl, ap, sym, ◌∙◌, subst, arith}
 use Rattle.std.specs.List.{AllByRecursion as Each, IsDistinct}
 use Rattle.std.specs.Str.{bytes_eq}
 use Rattle.std.proofs.Math.Seq.{drop-append_seam}
@@ -8,8 +8,7 @@ use Rattle.std.proofs.lemmas.List.{map-append, length-map, length-append}
 use Rattle.std.proofs.lemmas.Option.{slice_get_read}
 use Rattle.std.proofs.lemmas.Slice.Eq.{bytes_eq-Decides}
 use Rattle.std.proofs.lemmas.Bool.{or_parts}
-use Rattle.std.proofs.Math.Nat.{suc_inj}
-use Rattle.lw_facts.proofs.Lists.{bytes_differ_turned, bytes_eq_is, at_contained, contained_at}
+use Rattle.lw_facts.proofs.Lists.{bytes_differ_turned, at_contained}
 use Rattle.lw_pool.specs.declared.id.ClassId.{ClassId}
 use Rattle.lw_frame.proofs.Once.{is_among}
 use Rattle.lw_laws.specs.Names.{AreDifferent}
@@ -115,21 +114,6 @@ tables_named n once inputs names =
 
 -- Names that differ.
 
-pub names_differ : (x y : List ℕ) → (x ≡ y → ⊥) → bytes_eq x y ≡ false
-names_differ x y ne = by_test (bytes_eq x y) refl
-  where
-    by_test : (b : Bool) → bytes_eq x y ≡ b → b ≡ false
-    by_test true e = absurd (ne (bytes_eq_is x y e))
-    by_test false e = refl
-
-pub distinct_of : (xs : List (List ℕ)) → AreDifferent xs → IsDistinct bytes_eq xs
-unfolding IsDistinct
-distinct_of [] d = tt
-distinct_of (x ∷ xs) d = (contains_all (λ y. bytes_eq x y ≡ false) xs (λ y c. names_differ x y (λ e. first y e (contained_at xs y c))), distinct_of xs (λ i j name e f. suc_inj (d (suc i) (suc j) name e f)))
-  where
-    first : (y : List ℕ) → x ≡ y → (k : ℕ) × (slice_get xs k ≡ Some y) → ⊥
-    first y e (k, at) = let s : 0 ≡ suc k = d zero (suc k) y (ap Some e) at in omega (arith, s)
-
 first_once : (x : List ℕ) (names : List (List ℕ)) → Each (λ y. bytes_eq x y ≡ false) names → (j : ℕ) (name : List ℕ) → ◌≡◌ {A = Option (List ℕ)} (Some x) (Some name) → slice_get names j ≡ Some name → ⊥
 first_once x names each j name e f =
     let other : bytes_eq x name ≡ false = all_contains (λ y. bytes_eq x y ≡ false) names name each (at_contained names j name f) in
@@ -159,13 +143,3 @@ distinct_append (x ∷ xs) ys dx dy apart =
     others : (zs : List (List ℕ)) → Each (λ y. is_among (x ∷ xs) y ≡ false) zs → Each (λ y. is_among xs y ≡ false) zs
     others [] each = tt
     others (z ∷ zs) each = ((or_parts (bytes_eq z x) (is_among xs z) each.0).1, others zs each.1)
-
--- a name is none of those before it
-pub none_among : (xs : List (List ℕ)) (x : List ℕ) (rest : List (List ℕ)) → IsDistinct bytes_eq (xs ++ x ∷ rest) → is_among xs x ≡ false
-unfolding IsDistinct
-none_among [] x rest d = refl
-none_among (y ∷ xs) x rest d = ap₂ (λ a b. a || b) (bytes_differ_turned y x (middle xs d.0)) (none_among xs x rest d.1)
-  where
-    middle : (zs : List (List ℕ)) → Each (λ z. bytes_eq y z ≡ false) (zs ++ x ∷ rest) → bytes_eq y x ≡ false
-    middle [] each = each.0
-    middle (z ∷ zs) each = middle zs each.1

@@ -6,7 +6,7 @@ use Rattle.std.proofs.lemmas.List.Elements.{Contains-push, Contains-push_cases, 
 use Rattle.std.proofs.lemmas.List.Sorted.{Contains-permutation, IsPermutation-sym, length_permutation}
 use Rattle.std.proofs.lemmas.Option.{same_Some, slice_get_within, slice_get-get_or}
 use Rattle.std.specs.List.Sorted.{IsPermutation, IsNonDecreasingBy}
-use Rattle.lw_facts.proofs.Lists.{at_contained, get_push_cases}
+use Rattle.lw_facts.proofs.Lists.{at_contained, get_last_cases}
 use Rattle.lw_pool.specs.declared.id.ClassId.{ClassId}
 use Rattle.lw_lut.specs.Tables.{AreRisingClasses, IsAdded}
 use Rattle.lw_graph.proofs.Shared.{same_class}
@@ -25,7 +25,7 @@ gathered_more seen gathered new c below (inl (there, same)) are = subst (λ xs. 
   few = let l = length-append seen (c ∷ []) in let f = are.few in omega (arith, l, f);
 })
 gathered_more seen gathered new c below (inr (not, same)) are = subst (λ xs. AreGathered (seen ++ c ∷ []) xs) (sym same) (record {
-  rising = λ i j x y e f lt. rising i j x y lt (get_push_cases gathered c i x e) (get_push_cases gathered c j y f);
+  rising = λ i j x y e f lt. rising i j x y lt (get_last_cases gathered c i x e) (get_last_cases gathered c j y f);
   from = λ x k. elim (Contains-push_cases gathered c x k) [ inl h ↦ Contains-append_left seen (c ∷ []) x (are.from x h) | inr e ↦ subst (λ (z : ClassId). Contains (seen ++ c ∷ []) z) e (Contains-push seen c) ];
   to = λ x k. elim (Contains-push_cases seen c x k) [ inl h ↦ Contains-append_left gathered (c ∷ []) x (are.to x h) | inr e ↦ subst (λ (z : ClassId). Contains (gathered ++ c ∷ []) z) e (Contains-push gathered c) ];
   few = let l = length-append seen (c ∷ []) in let m = length-append gathered (c ∷ []) in let f = are.few in omega (arith, l, m, f);
@@ -37,9 +37,9 @@ gathered_more seen gathered new c below (inr (not, same)) are = subst (λ xs. Ar
       | inr ne ↦ let le = below x (are.from x k) in omega (arith, le, ne)
     ]
 
-    rising : (i j : ℕ) (x y : ClassId) → i < j → (slice_get gathered i ≡ Some x) ⊎ ((i ≡ length gathered) × (c ≡ x)) → (slice_get gathered j ≡ Some y) ⊎ ((j ≡ length gathered) × (c ≡ y)) → x.0 < y.0
+    rising : (i j : ℕ) (x y : ClassId) → i < j → (slice_get gathered i ≡ Some x) ⊎ ((i ≡ length gathered) × (x ≡ c)) → (slice_get gathered j ≡ Some y) ⊎ ((j ≡ length gathered) × (y ≡ c)) → x.0 < y.0
     rising i j x y lt (inl e) (inl f) = are.rising i j x y e f lt
-    rising i j x y lt (inl e) (inr (s, f)) = subst (λ (z : ClassId). x.0 < z.0) f (less x (at_contained gathered i x e))
+    rising i j x y lt (inl e) (inr (s, f)) = subst (λ (z : ClassId). x.0 < z.0) (sym f) (less x (at_contained gathered i x e))
     rising i j x y lt (inr (s, e)) (inl f) = let w = slice_get_within gathered j y f in absurd (omega (arith, w, s, lt))
     rising i j x y lt (inr (s, e)) (inr (t, f)) = absurd (omega (arith, s, t, lt))
 

@@ -6,7 +6,7 @@ use Rattle.std.proofs.lemmas.Bool.Decides.{nat_tests}
 use Rattle.std.proofs.lemmas.List.{length-map}
 use Rattle.std.proofs.lemmas.List.Elements.{All-from_recursion, Contains-append_right}
 use Rattle.std.proofs.lemmas.Option.{get_or_from_slice_get, slice_get_within}
-use Rattle.lw_facts.proofs.Lists.{contained_in_map, contains_map, at_contained}
+use Rattle.lw_facts.proofs.Lists.{contained_in_map, contains_map, at_contained, distinct_of}
 use Rattle.lw_dag.specs.Names.{is_among, number_in}
 use Rattle.lw_dag.specs.Ordering.{greatest}
 use Rattle.lw_dag.proofs.Numbering.{number_at, among_contains}
@@ -29,7 +29,6 @@ use Rattle.lw_lut.proofs.TableValues.{said_wire}
 use Rattle.lw_lut.proofs.Falling.{closes, weighed, weighed_input, weighed_node}
 use Rattle.lw_lut.proofs.NetNames.{net_place}
 use Rattle.lw_lut.proofs.SaidNodes.{IsWire, IsTables, node_cases}
-use Rattle.lw_lut.proofs.ReadNames.{distinct_of}
 use Rattle.lw_lut.proofs.SaidSignals.{contains_among, said_distinct, said_defined, single_name, wire_apart}
 use Rattle.lw_lut.proofs.TableCovers.{greatest_above}
 use Rattle.lw_pool.specs.Numbers.{numbers}

@@ -5,7 +5,7 @@ use Rattle.std.specs.Str.{bytes_eq}
 use Rattle.std.proofs.lemmas.List.{length-map, map-append}
 use Rattle.std.proofs.lemmas.List.Elements.{Contains-append_cases, Contains-append_left, Contains-append_right}
 use Rattle.std.proofs.lemmas.Option.{slice_get_within, same_Some}
-use Rattle.lw_facts.proofs.Lists.{bytes_eq_is, bytes_eq_same, contains_map, contained_in_map, contained_at, at_contained}
+use Rattle.lw_facts.proofs.Lists.{bytes_eq_is, bytes_eq_same, contains_map, contained_in_map, contained_at, at_contained, distinct_of, bytes_differ}
 use Rattle.lw_dag.specs.Names.{is_among, unknown_in}
 use Rattle.lw_laws.proofs.Lists.{all_append, contains_all, slice_get_some}
 use Rattle.lw_laws.proofs.Numbers.{slice_get_map, slice_get_map_back}
@@ -17,7 +17,6 @@ use Rattle.lw_lut.specs.Nets.{PlainTableNet, IsTableNet, net_classes}
 use Rattle.lw_lut.specs.Texts.{net_name}
 use Rattle.lw_lut.specs.Said.{draft_said, table_node, wire_nodes}
 use Rattle.lw_lut.proofs.NetNames.{net_place, net_named, table_named}
-use Rattle.lw_lut.proofs.ReadNames.{distinct_of, names_differ}
 use Rattle.lw_lut.proofs.SaidNodes.{IsWire, IsTables, wire_of, wire_in, node_cases, wire_node}
 
 abbrev Name : Type 0
@@ -32,7 +31,7 @@ distinct_join : (xs ys : List Name) → IsDistinct bytes_eq xs → IsDistinct by
 unfolding IsDistinct
 distinct_join [] ys a b apart = b
 distinct_join (x ∷ xs) ys a b apart = (
-  all_append (λ y. bytes_eq x y ≡ false) xs ys a.0 (contains_all (λ y. bytes_eq x y ≡ false) ys (λ y c. names_differ x y (λ e. apart x (0, omega arith, refl) (subst (Contains ys) (sym e) c)))),
+  all_append (λ y. bytes_eq x y ≡ false) xs ys a.0 (contains_all (λ y. bytes_eq x y ≡ false) ys (λ y c. bytes_differ x y (λ e. apart x (0, omega arith, refl) (subst (Contains ys) (sym e) c)))),
   distinct_join xs ys a.1 b (λ name (k, lt, e) d. apart name (suc k, omega (arith, lt), e) d),
 )
 

@@ -6,7 +6,7 @@ use Rattle.std.proofs.lemmas.List.{take-append-le}
 use Rattle.std.proofs.lemmas.List.Elements.{All-contains, All-take, recursion_from_All, Contains-append_right}
 use Rattle.std.proofs.lemmas.Option.{slice_get_read}
 use Rattle.std.proofs.lemmas.Slice.Eq.{bytes_eq-Decides}
-use Rattle.lw_facts.proofs.Lists.{contains_map}
+use Rattle.lw_facts.proofs.Lists.{contains_map, distinct_of}
 use Rattle.lw_pool.specs.declared.id.ClassId.{ClassId}
 use Rattle.lw_pool.specs.declared.latch.Frame.{Frame}
 use Rattle.lw_frame.proofs.Once.{is_among, roots_differ}
@@ -16,7 +16,7 @@ use Rattle.lw_lut.specs.Nets.{PlainTableNet, table_classes, net_classes}
 use Rattle.lw_lut.specs.Readable.{IsSayable, names_of_nets}
 use Rattle.lw_lut.specs.Texts.{fanin_names, net_name}
 use Rattle.lw_lut.specs.declared.table.Table.{Table}
-use Rattle.lw_lut.proofs.ReadNames.{at_some, name_there, one_each, tables_named, distinct_of, distinct_append}
+use Rattle.lw_lut.proofs.ReadNames.{at_some, name_there, one_each, tables_named, distinct_append}
 use Rattle.lw_words.specs.Words.{is_name, IsSignalName}
 use Rattle.lw_pool.specs.Numbers.{numbers}
 use Rattle.lw_dag.proofs.Numbering.{among_contains}

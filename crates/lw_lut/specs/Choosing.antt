@@ -19,7 +19,8 @@ pub record AreRootsIn (d : DepthLists) (roots : List ClassId) : Type 0 where
 -- the least set that has the roots and the fan-ins of the tables of classes in it
 pub data IsNeeded (roots : List ℕ) (tables : List Table) : ℕ → Type 0 where
   by_root : {c : ℕ} → Contains roots c → IsNeeded roots tables c
-  by_fanin : {q : ℕ} (t : Table) → IsNeeded roots tables t.out.0 → Contains tables t → Contains (numbers t.fanins) q → IsNeeded roots tables q
+  by_fanin : {q : ℕ} (t : Table) → IsNeeded roots tables t.out.0 → Contains tables t → Contains (numbers t.fanins) q
+      → IsNeeded roots tables q
 
 -- A table of at most so many fan-ins that stands at its class, with fan-ins that are less deep than the class.
 pub record IsTable (g : Graph) (most : ℕ) (depths : List (Option ℕ)) (t : Table) : Type 0 where
@@ -33,19 +34,23 @@ pub record IsTable (g : Graph) (most : ℕ) (depths : List (Option ℕ)) (t : Ta
 -- in the order of depth and then class
 abbrev pub IsTableBefore : List (Option ℕ) → Table → Table → Type 0
 IsTableBefore depths t u =
-    (d e : ℕ) → depth_in depths t.out.0 ≡ Some d → depth_in depths u.out.0 ≡ Some e → (d < e) ⊎ ((d ≡ e) × (t.out.0 < u.out.0))
+    (d e : ℕ) → depth_in depths t.out.0 ≡ Some d → depth_in depths u.out.0 ≡ Some e
+    → (d < e) ⊎ ((d ≡ e) × (t.out.0 < u.out.0))
 
 -- One table for each needed class that is no input's, by depth and then class.
-pub record AreTables (g : Graph) (most : ℕ) (depths : List (Option ℕ)) (roots : List ℕ) (tables : List Table) : Type 0 where
+pub record AreTables (g : Graph) (most : ℕ) (depths : List (Option ℕ)) (roots : List ℕ)
+    (tables : List Table) : Type 0 where
   pub each : (t : Table) → Contains tables t → IsTable g most depths t
   pub needed : (t : Table) → Contains tables t → IsNeeded roots tables t.out.0 × (IsLeafClass g t.out.0 → ⊥)
   pub all : (c : ℕ) → IsNeeded roots tables c → (IsLeafClass g c → ⊥) → (t : Table) × Contains tables t × (t.out.0 ≡ c)
-  pub sorted : (i j : ℕ) (t u : Table) → slice_get tables i ≡ Some t → slice_get tables j ≡ Some u → i < j → IsTableBefore depths t u
+  pub sorted : (i j : ℕ) (t u : Table) → slice_get tables i ≡ Some t → slice_get tables j ≡ Some u → i < j
+      → IsTableBefore depths t u
 
--- Tables of at most six fan-ins: where these are the least depths of a graph, and each root has one, a table for each needed
--- class.
+-- Tables of at most six fan-ins: where these are the least depths of a graph, and each root has one, a table for each
+-- needed class.
 pub record AreChosen (d : DepthLists) (roots : List ClassId) (chosen : List Table) : Type 0 where
-  pub tables : (g : Graph) (most : ℕ) → AreLeastDepths g most d → All (λ (root : ClassId). IsKnown d.depths root.0) roots → AreTables g most d.depths (numbers roots) chosen
+  pub tables : (g : Graph) (most : ℕ) → AreLeastDepths g most d
+      → All (λ (root : ClassId). IsKnown d.depths root.0) roots → AreTables g most d.depths (numbers roots) chosen
   pub few : All (λ (t : Table). length t.fanins ≤ 6) chosen
 
 -- Places.

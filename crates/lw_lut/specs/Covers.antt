@@ -61,7 +61,8 @@ abbrev mutual
   greatest_depth no_covers = 0
   greatest_depth (cover k ks) = max (depth_of k) (greatest_depth ks)
 
--- Of all covers by tables of at most so many pins of trees that the rules derive for the form, the shallowest has this depth.
+-- Of all covers by tables of at most so many pins of trees that the rules derive for the form, the shallowest has this
+-- depth.
 pub record HasLeastDepth (mode : Mode) (width : ℕ) (signals : List Signal) (most : ℕ) (f : Form) (d : ℕ) : Type 0 where
   pub attained : (k : TableCover) × IsTableCover most k × HasTree mode width signals f (tree_of k) × (depth_of k ≡ d)
   pub least : (k : TableCover) → IsTableCover most k → HasTree mode width signals f (tree_of k) → d ≤ depth_of k
@@ -69,5 +70,6 @@ pub record HasLeastDepth (mode : Mode) (width : ℕ) (signals : List Signal) (mo
 -- the least depth of a cover of a tree of the class, and none where no tree unfolds there
 abbrev pub IsLeastDepth : Graph → ℕ → ℕ → Option ℕ → Type 0
 IsLeastDepth g most c (Some d) =
-    ((k : TableCover) × IsTableCover most k × Unfolds g (tree_of k) c × (depth_of k ≡ d)) × ((k : TableCover) → IsTableCover most k → Unfolds g (tree_of k) c → d ≤ depth_of k)
+    ((k : TableCover) × IsTableCover most k × Unfolds g (tree_of k) c × (depth_of k ≡ d))
+    × ((k : TableCover) → IsTableCover most k → Unfolds g (tree_of k) c → d ≤ depth_of k)
 IsLeastDepth g most c None = (t : Tree) → Unfolds g t c → ⊥

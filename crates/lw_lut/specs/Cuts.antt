@@ -1,5 +1,6 @@
 -- Cuts: a tree over pins at some classes that stands at a class, and its values as bits.
-use Rattle.std.specs.Prelude.{ℕ, ◌+◌, ◌^◌, ◌%◌, ◌≤◌, ◌≡◌, ◌==◌, Bool, true, false, not, List, [], ◌∷◌, length, if◌then◌else◌, slice_index_or}
+use Rattle.std.specs.Prelude.{ℕ, ◌+◌, ◌^◌, ◌%◌, ◌≤◌, ◌≡◌, ◌==◌, Bool, true, false, not, List, [], ◌∷◌, length}
+use Rattle.std.specs.Prelude.{if◌then◌else◌, slice_index_or}
 use Rattle.std.specs.Int.{bit_at}
 use Rattle.std.specs.List.{range_with_len}
 use Rattle.lw_pool.specs.declared.id.ClassId.{ClassId}
@@ -55,4 +56,5 @@ pub record IsCutAt (g : Graph) (c : ℕ) (complemented : Bool) (cut : PlainCut) 
   pub tree : Tree
   pub pins : leaves_of tree ≡ range_with_len 0 (length cut.pins)
   pub stands : Stands g (numbers cut.pins) tree c
-  pub values : (v : ℕ → Bool) → turned complemented (is_set cut.bits (spelled v (numbers cut.pins))) ≡ tree_value (pin_value v (numbers cut.pins)) tree
+  pub values : (v : ℕ → Bool) → turned complemented (is_set cut.bits (spelled v (numbers cut.pins))) ≡ tree_value
+      (pin_value v (numbers cut.pins)) tree

@@ -17,9 +17,10 @@ pub record IsTableCut (g : Graph) (most : ℕ) (depths : List (Option ℕ)) (c d
   pub few : length cut.pins ≤ most
   pub below : (k : ℕ) (q : ClassId) → slice_get cut.pins k ≡ Some q → IsBelow depths d q.0
 
--- Each class has its least depth over tables of at most so many pins, or none where no tree unfolds there; and a class that
--- has a depth other than 0 has a table.
+-- Each class has its least depth over tables of at most so many pins, or none where no tree unfolds there; and a class
+-- that has a depth other than 0 has a table.
 pub record AreLeastDepths (g : Graph) (most : ℕ) (d : DepthLists) : Type 0 where
   pub one_each : length d.depths ≡ length g.pairs
   pub least : (c : ℕ) → IsLeastDepth g most c (depth_in d.depths c)
-  pub tables : (c e : ℕ) → depth_in d.depths c ≡ Some (suc e) → (cut : PlainCut) × (slice_get d.cuts (c / 2) ≡ Some cut) × IsTableCut g most d.depths c (suc e) cut
+  pub tables : (c e : ℕ) → depth_in d.depths c ≡ Some (suc e)
+      → (cut : PlainCut) × (slice_get d.cuts (c / 2) ≡ Some cut) × IsTableCut g most d.depths c (suc e) cut

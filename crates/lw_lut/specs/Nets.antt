@@ -15,7 +15,8 @@ table_classes tables = map (λ (t : Table). t.out.0) tables
 -- the name of each table: that of the first output of its class, or else the next of n1, n2 and so on that no port has
 abbrev pub table_names : TablePorts → List Table → List (List ℕ)
 table_names ports tables =
-    gate_names ports.outputs (numbers ports.roots) (free_names (ports.inputs ++ ports.outputs) (length tables)) (table_classes tables)
+    gate_names ports.outputs (numbers ports.roots) (free_names (ports.inputs ++ ports.outputs) (length tables))
+    (table_classes tables)
 
 -- the ports, the class of each input, the tables, and a name for each of them
 pub record PlainTableNet : Type 0 where
@@ -43,7 +44,8 @@ pub record AreFit (g : Graph) (ports : TablePorts) : Type 0 where
   pub apart : AreDistinctLeaves g
 
 -- One table for each needed class that is no input's, and the names of these tables.
-pub record IsTableNetOf (g : Graph) (most : ℕ) (depths : List (Option ℕ)) (ports : TablePorts) (n : PlainTableNet) : Type 0 where
+pub record IsTableNetOf (g : Graph) (most : ℕ) (depths : List (Option ℕ)) (ports : TablePorts)
+    (n : PlainTableNet) : Type 0 where
   pub ports_are : n.ports ≡ ports
   pub inputs : numbers n.inputs ≡ g.leaves
   pub tables : AreTables g most depths (numbers ports.roots) n.tables

@@ -1,5 +1,6 @@
 -- What a network of tables keeps for its text.
-use Rattle.std.specs.Prelude.{ℕ, ◌+◌, ◌^◌, ◌<◌, ◌≤◌, ◌≡◌, List, [], ◌∷◌, ◌++◌, All, Contains, length, take, codes, Some, slice_get}
+use Rattle.std.specs.Prelude.{ℕ, ◌+◌, ◌^◌, ◌<◌, ◌≤◌, ◌≡◌, List, [], ◌∷◌, ◌++◌, All, Contains, length, take, codes, Some}
+use Rattle.std.specs.Prelude.{slice_get}
 use Rattle.lw_pool.specs.declared.id.ClassId.{ClassId}
 use Rattle.lw_pool.specs.declared.latch.Frame.{Frame}
 use Rattle.lw_pool.specs.Numbers.{numbers}
@@ -21,7 +22,8 @@ pub record ArePlaceable (n : ℕ) (inputs : List ClassId) (tables : List Table) 
   pub few : length inputs + length tables < 2 ^ 32
   pub inputs_below : All (λ (input : ClassId). input.0 < n) inputs
   pub tables_below : All (λ (x : Table). x.out.0 < n) tables
-  pub once : (i j c : ℕ) → slice_get (numbers inputs ++ table_classes tables) i ≡ Some c → slice_get (numbers inputs ++ table_classes tables) j ≡ Some c → i ≡ j
+  pub once : (i j c : ℕ) → slice_get (numbers inputs ++ table_classes tables) i ≡ Some c
+      → slice_get (numbers inputs ++ table_classes tables) j ≡ Some c → i ≡ j
 
 -- a root below n for each output
 pub record HaveRootsBelow (n : ℕ) (ports : TablePorts) : Type 0 where
@@ -29,8 +31,8 @@ pub record HaveRootsBelow (n : ℕ) (ports : TablePorts) : Type 0 where
   pub one_root : length ports.roots ≡ length ports.outputs
   pub below : All (λ (root : ClassId). root.0 < n) ports.roots
 
--- A network of tables with a name for each net, an output for each root and no more than six fan-ins, and the places of its
--- classes.
+-- A network of tables with a name for each net, an output for each root and no more than six fan-ins, and the places of
+-- its classes.
 pub record IsPlaced (n : PlainTableNet) (places : List ℕ) : Type 0 where
   pub kept : IsTableNet n
   pub inputs : length n.ports.inputs ≡ length n.inputs
@@ -49,7 +51,8 @@ pub record HasNets (n : PlainTableNet) (t : Table) : Type 0 where
 abbrev pub header_text : PlainTableNet → Frame → List ℕ
 header_text n frame =
     line (codes ".model") (n.ports.model ∷ [])
-    ++ (line (codes ".inputs") (take frame.inputs n.ports.inputs) ++ line (codes ".outputs") (take frame.outputs n.ports.outputs))
+    ++ (line (codes ".inputs") (take frame.inputs n.ports.inputs)
+    ++ line (codes ".outputs") (take frame.outputs n.ports.outputs))
 
 -- a node that passes a net on to an output
 abbrev pub wire : List ℕ → List ℕ → List ℕ

@@ -1,5 +1,6 @@
 -- Which classes hold pairs with a class, between two numbers.
-use Rattle.std.specs.Prelude.{ℕ, ◌*◌, ◌/◌, ◌<◌, ◌≤◌, ◌≡◌, List, All, Contains, Option, length, slice_index, slice_index_or}
+use Rattle.std.specs.Prelude.{ℕ, ◌*◌, ◌/◌, ◌<◌, ◌≤◌, ◌≡◌, List, All, Contains, Option, length, slice_index}
+use Rattle.std.specs.Prelude.{slice_index_or}
 use Rattle.lw_graph.specs.declared.pair.Pair.{Pair}
 use Rattle.lw_laws.specs.Graphs.{Graph, HoldsPair}
 use Rattle.lw_lut.specs.Searches.{IsBoundedAt, IsKnown, count_at}
@@ -32,7 +33,7 @@ pub record AreGrown (old new : List Span) : Type 0 where
 abbrev pub IsSeen : List Span → ℕ → ℕ → ℕ → Type 0
 IsSeen reach c x y = IsIn (span_at reach (x / 2)) c × IsIn (span_at reach (y / 2)) c
 
--- the same for each pair of a row
+-- class c is in the spans of the places of both classes of each pair of a row
 abbrev pub AreSeen : List Span → ℕ → List Pair → Type 0
 AreSeen reach c row = (p : Pair) → Contains row p → IsSeen reach c p.x.0 p.y.0
 
@@ -59,7 +60,8 @@ IsOutside span place = (c : ℕ) → c / 2 ≡ place → IsIn span c → ⊥
 
 -- each class that has few enough leaves, and whose place is outside the span, is known
 abbrev pub AreKnownBut : ℕ → List ℕ → List (Option ℕ) → Span → Type 0
-AreKnownBut most counts depths span = (c : ℕ) → c / 2 < length counts → IsOutside span (c / 2) → count_at counts c ≤ most → IsKnown depths c
+AreKnownBut most counts depths span =
+    (c : ℕ) → c / 2 < length counts → IsOutside span (c / 2) → count_at counts c ≤ most → IsKnown depths c
 
 -- Counts have fallen at one place at most, and where they have, its span is within another.
 pub record FallsAt (reach : List Span) (old new : List ℕ) (place : ℕ) (span : Span) : Type 0 where

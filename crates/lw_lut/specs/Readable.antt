@@ -26,12 +26,14 @@ rules_on before line =
 
 -- behind these the line breaks none of them but the limit on the number of signals
 abbrev pub IsUnlimited : List LogicalLine → LogicalLine → Type 0
-IsUnlimited before line = All (λ (rule : Rule). rule.broken ≡ true → rule.kind ≡ kind.LimitSignals) (rules_on before line)
+IsUnlimited before line =
+    All (λ (rule : Rule). rule.broken ≡ true → rule.kind ≡ kind.LimitSignals) (rules_on before line)
 
 -- nor does any of the lines, behind those before it
 abbrev pub AreUnlimited : List LogicalLine → Type 0
 AreUnlimited lines =
-    (before : List LogicalLine) (line : LogicalLine) (after : List LogicalLine) → lines ≡ before ++ line ∷ after → IsUnlimited before line
+    (before : List LogicalLine) (line : LogicalLine) (after : List LogicalLine) → lines ≡ before ++ line ∷ after
+    → IsUnlimited before line
 
 -- the lines of a text up to its end
 abbrev pub lines_in : List ℕ → List LogicalLine
@@ -50,9 +52,9 @@ pub record IsTablesRead (text : List ℕ) (draft : Draft) (frame : Frame) : Type
 abbrev pub names_of_nets : PlainTableNet → List (List ℕ)
 names_of_nets n = n.ports.inputs ++ n.names
 
--- A network of tables of at most six fan-ins, with a name for each input and table and a root for each output. The model, the nets
--- and the outputs have names of the format, those of the nets differ, and a net with an output's name is at the output's root. The
--- frame fits, and its latches can be read.
+-- A network of tables of at most six fan-ins, with a name for each input and table and a root for each output. The
+-- model, the nets and the outputs have names of the format, those of the nets differ, and a net with an output's name
+-- is at the output's root. The frame fits, and its latches can be read.
 pub record IsSayable (n : PlainTableNet) (frame : Frame) : Type 0 where
   pub net : IsTableNet n
   pub few_fanins : All (λ (t : Table). length t.fanins ≤ 6) n.tables
@@ -63,14 +65,15 @@ pub record IsSayable (n : PlainTableNet) (frame : Frame) : Type 0 where
   pub signals : All IsSignalName (names_of_nets n)
   pub outputs : All IsSignalName n.ports.outputs
   pub differ : AreDifferent (names_of_nets n)
-  pub owned : (j k : ℕ) (name : List ℕ) → slice_get (names_of_nets n) j ≡ Some name → slice_get n.ports.outputs k ≡ Some name →
+  pub owned : (j k : ℕ) (name : List ℕ) → slice_get (names_of_nets n) j ≡ Some name
+      → slice_get n.ports.outputs k ≡ Some name →
       slice_get (net_classes n) j ≡ slice_get (numbers n.ports.roots) k
   pub frame_fits : Fits frame n.ports.inputs n.ports.outputs
   pub latches : All IsReadableLatch frame.latches
 
--- Ports of which a network of tables is made that can be said, where these are the classes of the inputs: the model and the ports have
--- names of the format, the inputs' differ, and an output with an input's name is at the input's class. The frame fits, and its latches
--- can be read.
+-- Ports of which a network of tables is made that can be said, where these are the classes of the inputs: the model and
+-- the ports have names of the format, the inputs' differ, and an output with an input's name is at the input's class.
+-- The frame fits, and its latches can be read.
 pub record AreSayablePorts (ports : TablePorts) (leaves : List ℕ) (frame : Frame) : Type 0 where
   pub model : IsSignalName ports.model
   pub inputs : All IsSignalName ports.inputs

@@ -1,5 +1,6 @@
 -- What the text of a network of tables says, read as BLIF.
-use Rattle.std.specs.Prelude.{ℕ, zero, suc, ◌+◌, ◌^◌, ◌==◌, ◌&&◌, ◌≡◌, ◌≤◌, Bool, true, not, List, [], ◌∷◌, ◌++◌, length, map, Some, if◌then◌else◌, codes, slice_get, slice_index_or, max}
+use Rattle.std.specs.Prelude.{ℕ, zero, suc, ◌+◌, ◌^◌, ◌==◌, ◌&&◌, ◌≡◌, ◌≤◌, Bool, true, not, List, [], ◌∷◌, ◌++◌}
+use Rattle.std.specs.Prelude.{length, map, Some, if◌then◌else◌, codes, slice_get, slice_index_or, max}
 use Rattle.std.specs.Str.{bytes_eq}
 use Rattle.lw_pool.specs.declared.id.ClassId.{ClassId}
 use Rattle.lw_pool.specs.declared.id.NetId.{NetId}
@@ -30,7 +31,12 @@ table_node n t = record {
 -- the node of a wire, for a root whose net has another name
 abbrev pub wire_nodes : PlainTableNet → List (List ℕ) → List ClassId → List DraftNode
 wire_nodes n (output ∷ outputs) (root ∷ roots) =
-    (if bytes_eq (net_name n root.0) output then [] else record { out = output; fanins = net_name n root.0 ∷ []; rows = codes "1" ∷ []; on = true } ∷ [])
+    (if bytes_eq (net_name n root.0) output then [] else record {
+      out = output;
+      fanins = net_name n root.0 ∷ [];
+      rows = codes "1" ∷ [];
+      on = true;
+    } ∷ [])
     ++ wire_nodes n outputs roots
 wire_nodes n [] roots = []
 wire_nodes n (output ∷ outputs) [] = []
@@ -46,7 +52,9 @@ draft_said n = record {
 
 -- a node that passes the value of its one fan-in on, by the row `1 1`
 abbrev pub is_wire : Node → Bool
-is_wire node = (length node.fanins == 1) && (node.on && (length node.rows == 1) && bytes_eq (slice_index_or node.rows 0 []) (codes "1"))
+is_wire node =
+    (length node.fanins == 1)
+    && (node.on && (length node.rows == 1) && bytes_eq (slice_index_or node.rows 0 []) (codes "1"))
 
 -- the greatest of the depths of some nets
 abbrev pub deepest : List ℕ → List NetId → ℕ
@@ -57,4 +65,5 @@ deepest depths (s ∷ nets) = max (slice_index_or depths s.0 0) (deepest depths 
 pub record AreTableDepths (net : NetworkParts) (depths : List ℕ) : Type 0 where
   pub one_each : length depths ≡ net.inputs + length net.nodes
   pub inputs : (i : ℕ) → suc i ≤ net.inputs → slice_get depths i ≡ Some 0
-  pub nodes : (j : ℕ) (node : Node) → slice_get net.nodes j ≡ Some node → slice_get depths (net.inputs + j) ≡ Some ((if is_wire node then 0 else 1) + deepest depths node.fanins)
+  pub nodes : (j : ℕ) (node : Node) → slice_get net.nodes j ≡ Some node
+      → slice_get depths (net.inputs + j) ≡ Some ((if is_wire node then 0 else 1) + deepest depths node.fanins)

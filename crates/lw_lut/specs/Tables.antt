@@ -1,5 +1,6 @@
 -- Tables: fan-ins at classes, and bits.
-use Rattle.std.specs.Prelude.{ℕ, ◌^◌, ◌<◌, ◌≤◌, ◌≡◌, ◌==◌, ◌↔◌, ◌⊎◌, ◌++◌, Bool, false, List, [], ◌∷◌, length, Contains, Some, if◌then◌else◌, slice_get}
+use Rattle.std.specs.Prelude.{ℕ, ◌^◌, ◌<◌, ◌≤◌, ◌≡◌, ◌==◌, ◌↔◌, ◌⊎◌, ◌++◌, Bool, false, List, [], ◌∷◌, length, Contains}
+use Rattle.std.specs.Prelude.{Some, if◌then◌else◌, slice_get}
 use Rattle.lw_pool.specs.declared.id.ClassId.{ClassId}
 use Rattle.lw_laws.specs.Trees.{Tree, tree_value}
 use Rattle.lw_laws.specs.Graphs.{Graph, Stands}
@@ -9,9 +10,9 @@ use Rattle.lw_lut.specs.Cuts.{PlainCut, spelled, is_set, pin_value, turned, is_o
 use Rattle.lw_lut.specs.Packed.{packed}
 use Rattle.lw_pool.specs.Numbers.{numbers}
 
--- The table stands for a table of a cover at the class: some tree over at most so many pins at the fan-ins' classes, each pin
--- in it exactly once, stands there, and for all values of the classes the bit whose number the fan-ins' values spell, the
--- first as the highest bit, is the tree's value.
+-- The table stands for a table of a cover at the class: some tree over at most so many pins at the fan-ins' classes,
+-- each pin in it exactly once, stands there, and for all values of the classes the bit whose number the fan-ins' values
+-- spell, the first as the highest bit, is the tree's value.
 pub record IsTableAt (g : Graph) (most c : ℕ) (fanins : List ℕ) (bits : ℕ) : Type 0 where
   pub pins : List ℕ
   pub tree : Tree
@@ -26,7 +27,7 @@ abbrev pub AreRisingClasses : List ClassId → Type 0
 AreRisingClasses classes =
     (i j : ℕ) (x y : ClassId) → slice_get classes i ≡ Some x → slice_get classes j ≡ Some y → i < j → x.0 < y.0
 
--- the same classes, each once
+-- the classes of a list, each once and in rising order
 pub record AreRisingOf (classes rising : List ClassId) : Type 0 where
   pub are_rising : AreRisingClasses rising
   pub same : (c : ClassId) → Contains rising c ↔ Contains classes c

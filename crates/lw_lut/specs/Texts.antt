@@ -1,5 +1,6 @@
 -- The BLIF text of a network of tables.
-use Rattle.std.specs.Prelude.{ℕ, zero, suc, ◌+◌, ◌^◌, ◌==◌, ◌&&◌, ◌≤◌, Bool, not, List, [], ◌∷◌, ◌++◌, length, map, take, if◌then◌else◌, codes}
+use Rattle.std.specs.Prelude.{ℕ, zero, suc, ◌+◌, ◌^◌, ◌==◌, ◌&&◌, ◌≤◌, Bool, not, List, [], ◌∷◌, ◌++◌, length, map}
+use Rattle.std.specs.Prelude.{take, if◌then◌else◌, codes}
 use Rattle.std.specs.Int.{bit_at}
 use Rattle.std.specs.List.{flat_map}
 use Rattle.std.specs.Str.{bytes_eq}
@@ -41,8 +42,8 @@ rows_from t place (suc count) =
 abbrev pub is_buffer : Table → Bool
 is_buffer t = (length t.fanins == 1) && (not (is_set t.bits 0) && is_set t.bits 1)
 
--- The rows where the table is true. One that has the value of its one fan-in says where it is false, so that the row `1 1`
--- marks a wire.
+-- The rows where the table is true. One that has the value of its one fan-in says where it is false, so that the row `1
+-- 1` marks a wire.
 abbrev pub table_rows : Table → List ℕ
 table_rows t = if is_buffer t then codes "0 0\n" else rows_from t 0 (2 ^ length t.fanins)
 

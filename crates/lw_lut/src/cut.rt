@@ -1,6 +1,8 @@
 // Cuts with their bits.
-ghost use Rattle.std.specs.Prelude.{◌≡◌, ◌+◌, ◌*◌, ◌^◌, ◌<◌, ◌≤◌, ◌++◌, ◌&&◌, [], ◌∷◌, not, length, if◌then◌else◌};
-ghost use Rattle.lw_lut.specs.Cuts.{ArePinsOfCut, IsConstantCut, IsPinCut, PlainCut, is_set, turned, is_odd};
+ghost use Rattle.std.specs.Prelude.{◌≡◌, ◌+◌, ◌*◌, ◌^◌, ◌<◌, ◌≤◌, ◌++◌, ◌&&◌, [], ◌∷◌, not, length};
+ghost use Rattle.std.specs.Prelude.{if◌then◌else◌};
+ghost use Rattle.lw_lut.specs.Cuts.{ArePinsOfCut, IsConstantCut, IsPinCut, PlainCut, is_set};
+ghost use Rattle.lw_lut.specs.Cuts.{turned, is_odd};
 ghost use Rattle.lw_lut.specs.Packed.{joined_bits, joined_value};
 
 use lw_graph::Pair;

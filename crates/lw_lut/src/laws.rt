@@ -1,6 +1,7 @@
 //! Laws about depths, about networks of tables and about their text: functions whose clauses are
 //! the laws.
-ghost use Rattle.std.specs.Prelude.{◌≡◌, ◌≤◌, ◌<◌, ◌+◌, ◌^◌, ◌++◌, ℕ, All, List, [], length, Option, Some, None};
+ghost use Rattle.std.specs.Prelude.{◌≡◌, ◌≤◌, ◌<◌, ◌+◌, ◌^◌, ◌++◌, ℕ, All, List, [], length};
+ghost use Rattle.std.specs.Prelude.{Option, Some, None};
 ghost use Rattle.lw_blif.specs.declared.fault.BlifKind.TheVariants.{LimitSignals};
 ghost use Rattle.lw_blif.specs.LineFaults.{FaultAt, first_fault};
 ghost use Rattle.lw_laws.specs.Classes.{IsGraphOf, class_in};
@@ -17,7 +18,8 @@ ghost use Rattle.lw_net.specs.Networks.{NetworkParts};
 ghost use Rattle.lw_net.specs.Plain.{plain};
 ghost use Rattle.lw_lut.specs.Covers.{HasLeastDepth, IsLeastDepth};
 ghost use Rattle.lw_lut.specs.Depths.{DepthLists, AreLeastDepths};
-ghost use Rattle.lw_lut.specs.Meaning.{AreNamedApart, ArePortsApart, ArePortsOf, HaveRoots, IsDraftOfAnySize, IsTableMapping, IsTableNetwork};
+ghost use Rattle.lw_lut.specs.Meaning.{AreNamedApart, ArePortsApart, ArePortsOf, HaveRoots};
+ghost use Rattle.lw_lut.specs.Meaning.{IsDraftOfAnySize, IsTableMapping, IsTableNetwork};
 ghost use Rattle.lw_lut.specs.Nets.{PlainTableNet, AreFit, IsTableNetOf, IsTableNet};
 ghost use Rattle.lw_lut.specs.Readable.{AreSayablePorts, AreUnlimited, IsSayable, IsTablesRead};
 ghost use Rattle.lw_lut.specs.Searches.{IsKnown};
@@ -164,7 +166,8 @@ pub fn table_texts_are_mappings()
         IsGraphOf mode from.inputs (listing_of width from) g → AreLeastDepths g most lists →
         ArePortsOf width from outer g ports → AreFit g ports →
         1 + (length g.pairs + (length ports.inputs + length ports.outputs)) < 2 ^ 64 →
-        IsTableNetOf g most lists.depths ports n → (net : NetworkParts) × IsClosed (draft_said n) net }
+        IsTableNetOf g most lists.depths ports n →
+        (net : NetworkParts) × IsClosed (draft_said n) net }
     ensures each { (mode : Mode) (width : ℕ) (from : Network) (outer : Ports) (g : Graph)
         (most : ℕ) (lists : DepthLists) (ports : TablePorts) (n : PlainTableNet)
         (net : NetworkParts) → 2 ≤ width → 1 ≤ most → IsInOrder from → HasPorts from outer →

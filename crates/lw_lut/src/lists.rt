@@ -27,12 +27,14 @@ impl Tables {
         Tables { items }
     }
 
+    /// How many tables there are.
     pub fn len(&self) -> usize
         ensures { result ≡ length self.now }
     {
         self.items.len()
     }
 
+    /// The tables, in order.
     pub fn as_slice(&self) -> &[Table]
         ensures { result.now ≡ self.now }
     {

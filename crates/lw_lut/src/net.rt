@@ -27,14 +27,27 @@ impl Model for TableNet {
 
     ghost Value = { PlainTableNet };
 
-    ghost view = { λ n. record { ports = n.ports; inputs = n.inputs; tables = n.tables; names = n.names } };
+    ghost view = { λ n. record {
+      ports = n.ports;
+      inputs = n.inputs;
+      tables = n.tables;
+      names = n.names;
+    } };
 
-    ghost invariant = { λ n. IsPlaced (record { ports = n.ports; inputs = n.inputs; tables = n.tables; names = n.names }) n.places.items };
+    ghost invariant = { λ n. IsPlaced
+        (record {
+          ports = n.ports;
+          inputs = n.inputs;
+          tables = n.tables;
+          names = n.names;
+        })
+        n.places.items };
 }
 
 impl TableNet {
     ghost use Rattle.lw_lut.specs.Nets.{IsTableNet};
 
+    /// The names of inputs and outputs, with the classes of the outputs.
     pub fn ports(&self) -> &TablePorts
         ensures { result.now ≡ self.now.ports }
     {
@@ -48,6 +61,7 @@ impl TableNet {
         &self.inputs
     }
 
+    /// The tables, those of fewer levels first.
     pub fn tables(&self) -> &Tables
         ensures { result.now ≡ self.now.tables }
     {

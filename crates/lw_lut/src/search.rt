@@ -1,8 +1,12 @@
 // The search for depths, leaf count by leaf count.
-ghost use Rattle.std.specs.Prelude.{◌≡◌, ◌+◌, ◌*◌, ◌/◌, ◌<◌, ◌≤◌, ◌^◌, ◌||◌, length, All, MatchOption, Some, None};
-ghost use Rattle.lw_lut.specs.Searches.{HasFewer, HasSide, IsBoundedAt, IsDeepened, IsServing, ServesAsSide, count_at};
+ghost use Rattle.std.specs.Prelude.{◌≡◌, ◌+◌, ◌*◌, ◌/◌, ◌<◌, ◌≤◌, ◌^◌, ◌||◌, length, All};
+ghost use Rattle.std.specs.Prelude.{MatchOption, Some, None};
+ghost use Rattle.lw_lut.specs.Searches.{HasFewer, HasSide, IsBoundedAt, IsDeepened, IsServing};
+ghost use Rattle.lw_lut.specs.Searches.{ServesAsSide, count_at};
 ghost use Rattle.lw_lut.specs.Reaches.{AreBoundedBut};
-ghost use Rattle.lw_lut.specs.Sweeps.{AreInPlace, Deepens, IsAtDepth, IsSweptBut, LowersCount, LowersAll, LowersIn, LowersRound, MayLower, SeesPlace, Settles, SettlesAll};
+ghost use Rattle.lw_lut.specs.Sweeps.{AreInPlace, Deepens, IsAtDepth, IsSweptBut, LowersCount};
+ghost use Rattle.lw_lut.specs.Sweeps.{LowersAll, LowersIn, LowersRound, MayLower, SeesPlace};
+ghost use Rattle.lw_lut.specs.Sweeps.{Settles, SettlesAll};
 ghost use Rattle.lw_pool.specs.declared.id.ClassId.{ClassId};
 
 use crate::cut::{Cut, Joint, joined};

@@ -2,7 +2,8 @@
 ghost use Rattle.std.specs.Prelude.{◌≡◌, ◌≤◌, ◌^◌, ◌↔◌, length, Contains, IfOk, IsTrue, OnOk};
 ghost use Rattle.lw_facts.specs.Sorting.{AreSortedFrom};
 ghost use Rattle.lw_lut.specs.Packed.{packed};
-ghost use Rattle.lw_lut.specs.Tables.{AreRisingOf, IsAdded, IsSpelledNumber, IsTableOf, given, table_value};
+ghost use Rattle.lw_lut.specs.Tables.{AreRisingOf, IsAdded, IsSpelledNumber, IsTableOf, given};
+ghost use Rattle.lw_lut.specs.Tables.{table_value};
 ghost use Rattle.lw_pool.specs.Numbers.{numbers};
 
 use crate::cut::{Cut, PinCount, appended, is_odd, is_set, numbers_of, turned};

@@ -4,6 +4,7 @@ use Rattle.std.specs.List.{AllZip, IsDistinct}
 use Rattle.std.specs.Str.{bytes_eq}
 use Rattle.std.proofs.lemmas.List.{length-map, length-take-le, take_at}
 use Rattle.std.proofs.lemmas.Option.{get_or_from_slice_get, slice_get_within}
+use Rattle.lw_naming.proofs.GivenNames.{own_names}
 use Rattle.lw_pool.specs.declared.id.NetId.{NetId}
 use Rattle.lw_pool.specs.declared.id.ClassId.{ClassId}
 use Rattle.lw_fixed.specs.declared.micro.Micro.{Micro}
@@ -53,7 +54,7 @@ use Rattle.lw_map.specs.Choices.{AreChoicesOf}
 use Rattle.lw_map.specs.Ports.{ArePortsOf}
 use Rattle.lw_map.specs.Trading.{AreEarliest, HasLeastArea, IsTradedNetlist}
 use Rattle.lw_extract.proofs.PortLists.{port_name, zip_outputs}
-use Rattle.lw_map.proofs.NetNames.{names_tell, own_names}
+use Rattle.lw_map.proofs.NetNames.{names_tell}
 use Rattle.lw_map.proofs.PortNames.{port_list, port_names, few_outputs}
 use Rattle.lw_map.proofs.Traded.{IsBest, StandsFor-cost, best_area, best_values, tree_back}
 use Rattle.lw_map.proofs.Once.{zip_at}

@@ -1,28 +1,23 @@
 -- The certificate of a mapped netlist is one.
-use Rattle.std.proofs.Common.{ℕ, suc, ◌<◌, ◌≤◌, ◌≡◌, ◌⊎◌, List, [], ◌∷◌, length, map, Option, Some, None, option_map, slice_get, slice_index_or, refl, ap, ap₂, sym, ◌∙◌, subst, subst₂, arith}
+use Rattle.std.proofs.Common.{ℕ, suc, ◌≡◌, List, [], ◌∷◌, length, map, Option, Some, None, option_map, slice_index_or, refl, ap, ap₂, sym, ◌∙◌, subst, arith}
 use mathlib.Core.Path.{fun_ext}
-use Rattle.std.specs.List.{AllByRecursion}
-use Rattle.std.proofs.lemmas.Option.{slice_get_within}
+use Rattle.lw_laws.proofs.NetlistOnce.{least_cover_once, gates_too}
 use Rattle.lw_pool.specs.declared.id.ClassId.{ClassId}
 use Rattle.lw_fixed.specs.declared.micro.Micro.{Micro}
 use Rattle.lw_laws.specs.Graphs.{Graph}
 use Rattle.lw_laws.specs.Costs.{Cost}
 use Rattle.lw_laws.specs.Covers.{Pattern}
-use Rattle.lw_laws.specs.Choices.{Labels, HaveLabels, IsHeight}
+use Rattle.lw_laws.specs.Choices.{Labels, IsHeight}
 use Rattle.lw_laws.specs.Matches.{choices_of, IsLeastCover}
 use Rattle.lw_laws.specs.Rounds.{labels_in}
 use Rattle.lw_laws.specs.Delays.{delay_cost}
 use Rattle.lw_laws.specs.Listings.{listing_of}
-use Rattle.lw_laws.specs.Netlists.{Netlist}
-use Rattle.lw_laws.specs.Extracts.{Match, Supports, IsChosen, IsNeeded, AreGateClasses, IsExtracted}
-use Rattle.lw_laws.specs.Extracts.IsNeeded.{by_root, by_pin}
+use Rattle.lw_laws.specs.Extracts.{AreGateClasses, IsExtracted}
 use Rattle.lw_laws.specs.MappedNetlists.{root_classes}
 use Rattle.lw_laws.proofs.Unique.{IsHeight_once}
 use Rattle.lw_laws.proofs.ClassLaws.{graphs_once}
 use Rattle.lw_laws.proofs.ExtractLaws.{gate_classes_once}
 use Rattle.lw_laws.proofs.Listed.{occurring_is_listing}
-use Rattle.lw_laws.proofs.Lists.{slice_get_some}
-use Rattle.lw_laws.proofs.NetlistOnce.{least_cover_once}
 use Rattle.lw_net.specs.Networks.{NetworkParts}
 use Rattle.lw_net.specs.Plain as network
 use Rattle.lw_genlib.specs.Cells.{CellParts}
@@ -37,56 +32,6 @@ use Rattle.lw_map.specs.Options.{Options, IsWide}
 use Rattle.lw_map.specs.Mapped.{IsMappedNetlist}
 use Rattle.lw_net.specs.Ports.{ports_of}
 use Rattle.lw_graph.proofs.Shared.{same_class}
-
--- heights that agree where there are labels choose the same matches, and so need the same classes
-module _ (g : Graph) (cost : Cost) (pats : List Pattern) (labels : Labels) where
-  abbrev Agree : (ℕ → ℕ) → (ℕ → ℕ) → Type 0
-  Agree heights others = (c l : ℕ) → labels c ≡ Some l → heights c ≡ others c
-
-  lower_too : (heights others : ℕ → ℕ) → Agree heights others → (h : ℕ) (ps ls : List ℕ) → HaveLabels labels ps ls → AllByRecursion (λ q. suc (heights q) ≤ h) ps → AllByRecursion (λ q. suc (others q) ≤ h) ps
-  lower_too heights others agree h [] ls a b = tt
-  lower_too heights others agree h (p ∷ ps) [] a b = absurd a
-  lower_too heights others agree h (p ∷ ps) (l ∷ ls) (e, a) (lt, b) = let s = agree p l e in (omega arith, lower_too heights others agree h ps ls a b)
-
-  supports_too : (heights others : ℕ → ℕ) → Agree heights others → (c : ℕ) (m : Match) (p : Pattern) → Supports g cost pats labels heights c m p → Supports g cost pats labels others c m p
-  supports_too heights others agree c m p s = record {
-    matches = s.matches;
-    pin_labels = s.pin_labels;
-    have = s.have;
-    value = s.value;
-    lower = subst (λ h. AllByRecursion (λ q. suc (others q) ≤ h) m.pins) (agree c (cost.value p.cell s.pin_labels) s.value) (lower_too heights others agree (heights c) m.pins s.pin_labels s.have s.lower);
-  }
-
-  chosen_too : (heights others : ℕ → ℕ) → Agree heights others → Agree others heights → (c : ℕ) (m : Match) (p : Pattern) → IsChosen g cost pats labels heights c m p → IsChosen g cost pats labels others c m p
-  chosen_too heights others agree back c m p is = record {
-    supports = supports_too heights others agree c m p is.supports;
-    first = λ k q s. is.first k q (supports_too others heights back c k q s);
-  }
-
-  needed_too : (roots : List ℕ) (heights others : ℕ → ℕ) → Agree heights others → Agree others heights → {c : ℕ} → IsNeeded g cost pats labels heights roots c → IsNeeded g cost pats labels others roots c
-  needed_too roots heights others agree back (by_root at) = by_root at
-  needed_too roots heights others agree back (by_pin {c = c} {q = q} {m = m} {p = p} n out is at) = by_pin (needed_too roots heights others agree back n) out (chosen_too heights others agree back c m p is) at
-
-  module _ (roots : List ℕ) (heights others : ℕ → ℕ) (agree : Agree heights others) (back : Agree others heights) (gates : List ℕ) (n : Netlist) (is : IsExtracted g cost pats labels heights gates n) where
-    -- each class with a gate has a label
-    gate_label : (j c : ℕ) → slice_get gates j ≡ Some c → (l : ℕ) × (labels c ≡ Some l)
-    gate_label j c e =
-        let lt = slice_get_within gates j c e in
-        let count = is.one_each in
-        let (gt, f) = slice_get_some n.gates j (omega arith) in
-        let (d, m, p, at, chosen, cell, nets) = is.chosen j gt f in
-        let same : d ≡ c = cc in
-        (cost.value p.cell chosen.supports.pin_labels, subst (λ k. labels k ≡ Some (cost.value p.cell chosen.supports.pin_labels)) same chosen.supports.value)
-
-    gates_too : AreGateClasses g cost pats labels heights roots gates → AreGateClasses g cost pats labels others roots gates
-    gates_too are = record {
-      needed = λ j c e. let (need, out) = are.needed j c e in (needed_too roots heights others agree back need, out);
-      all = λ c need out. are.all c (needed_too roots others heights back agree need) out;
-      sorted = λ i j c d e f lt.
-          let (k, at) = gate_label i c e in
-          let (l, bt) = gate_label j d f in
-          subst₂ (λ x y. (x < y) ⊎ ((x ≡ y) × (c < d))) (agree c k at) (agree d l bt) (are.sorted i j c d e f lt);
-    }
 
 -- Lists that say the same.
 

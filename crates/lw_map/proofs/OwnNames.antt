@@ -1,14 +1,13 @@
 -- The names of the nets of a netlist of least area: which they are, and that they differ.
-use Rattle.std.proofs.Common.{ℕ, zero, suc, ◌+◌, ◌^◌, ◌<◌, ◌≤◌, ◌≡◌, ◌==◌, ◌⊎◌, inl, inr, Bool, true, false, not, if◌then◌else◌, List, [], ◌∷◌, ◌++◌, map, take, length, Contains, Option, Some, None, slice_get, refl, ap, sym, ◌∙◌, subst, arith, length-append}
-use Rattle.std.specs.List.{AllByRecursion, IsDistinct, range_with_len}
+use Rattle.std.proofs.Common.{ℕ, ◌+◌, ◌^◌, ◌<◌, ◌≡◌, if◌then◌else◌, List, [], ◌∷◌, ◌++◌, map, take, length, Contains, Some, slice_get, refl, ap, sym, ◌∙◌, subst, arith, length-append}
+use Rattle.std.specs.List.{IsDistinct, range_with_len}
 use Rattle.std.specs.Str.{bytes_eq}
 use Rattle.std.proofs.lemmas.List.{length-map, length-take-le, take_at}
-use Rattle.std.proofs.lemmas.List.Elements.{All-filter, All-from_recursion, recursion_from_All}
 use Rattle.std.proofs.lemmas.List.FromFn.{length-range_with_len}
 use Rattle.std.proofs.lemmas.Option.{slice_get_within}
 use Rattle.lw_pool.specs.declared.id.ClassId.{ClassId}
 use Rattle.lw_fixed.specs.declared.micro.Micro.{Micro}
-use Rattle.lw_laws.specs.Names.{AreDifferent, AreNameable, is_name_among, numbered_name, numbered_names, free_names, output_name, gate_names, net_names}
+use Rattle.lw_laws.specs.Names.{AreDifferent, AreNameable, free_names, gate_names, net_names}
 use Rattle.lw_laws.specs.Classes.{class_in}
 use Rattle.lw_laws.specs.Listings.{listing_of}
 use Rattle.lw_laws.specs.MappedNetlists.{AreNetNames, ArePortNames}
@@ -16,9 +15,9 @@ use Rattle.lw_laws.specs.Headline.{Port as PlainPort}
 use Rattle.lw_laws.proofs.InputClasses.{distinct_leaves}
 use Rattle.lw_laws.proofs.MappedNames.{input_sop}
 use Rattle.lw_laws.proofs.NameLaws.{names_differ, names_owned}
-use Rattle.lw_laws.proofs.Lists.{slice_get_some, all_contains, all_append, contains_all}
+use Rattle.lw_laws.proofs.Lists.{slice_get_some}
 use Rattle.lw_laws.proofs.Numbers.{slice_get_map, slice_get_map_back}
-use Rattle.lw_naming.proofs.FreeNames.{enough_free}
+use Rattle.lw_naming.proofs.GivenNames.{IsOwnName, own_names}
 use Rattle.lw_net.specs.Networks.{NetworkParts, IsNetwork, name_in, input_names, output_names}
 use Rattle.lw_net.specs.Plain as network
 use Rattle.lw_genlib.specs.Cells.{CellParts, IsLibrary}
@@ -38,42 +37,6 @@ use Rattle.lw_map.proofs.TradedNames.{range_back, range_some, ranges_back, place
 use Rattle.lw_map.proofs.PortNames.{few_outputs, port_list, port_names}
 use Rattle.lw_net.specs.Ports.{output_port, ports_of}
 use Rattle.lw_netlist.specs.Plain.{plain_port, mapped_ports, port_name}
-
--- what holds of the outputs' names and of n1, n2 and so on holds of the gates' names
-module _ (P : List ℕ → Type 0) (each : (k : ℕ) → k < 2 ^ 64 → P (numbered_name k)) where
-  numbered_each : (first count : ℕ) → first + count < 2 ^ 64 → AllByRecursion P (numbered_names first count)
-  numbered_each first zero lt = tt
-  numbered_each first (suc count) lt = (each first (omega arith), numbered_each (suc first) count (omega arith))
-
-  free_each : (taken : List (List ℕ)) (count : ℕ) → 1 + (count + length taken) < 2 ^ 64 → AllByRecursion P (free_names taken count)
-  free_each taken count room =
-      let names = numbered_names 1 (count + length taken) in
-      recursion_from_All P (free_names taken count) (All-filter (λ name. not (is_name_among name taken)) P names (All-from_recursion P names (numbered_each 1 (count + length taken) room)))
-
-  output_one : (outputs : List (List ℕ)) (roots : List ℕ) (c : ℕ) (name : List ℕ) → AllByRecursion P outputs → output_name outputs roots c ≡ Some name → P name
-  output_one [] [] c name all e = cc
-  output_one [] (r ∷ roots) c name all e = cc
-  output_one (n ∷ outputs) [] c name all e = cc
-  output_one (n ∷ outputs) (r ∷ roots) c name all e = by_test (r == c) e (output_one outputs roots c name all.1)
-    where
-      by_test : (t : Bool) → (if t then Some n else output_name outputs roots c) ≡ Some name → (output_name outputs roots c ≡ Some name → P name) → P name
-      by_test true f others = let same : n ≡ name = cc in subst P same all.0
-      by_test false f others = others f
-
-  gates_each : (outputs : List (List ℕ)) (roots : List ℕ) (frees : List (List ℕ)) (gates : List ℕ) → AllByRecursion P outputs → length gates ≤ length frees → AllByRecursion P frees → AllByRecursion P (gate_names outputs roots frees gates)
-  gates_each outputs roots frees [] named le all = tt
-  gates_each outputs roots [] (c ∷ gates) named le all = absurd (omega arith)
-  gates_each outputs roots (f ∷ frees) (c ∷ gates) named le all =
-      by_name (output_name outputs roots c) refl (gates_each outputs roots (f ∷ frees) gates named (omega arith) all) (gates_each outputs roots frees gates named (omega arith) all.1)
-    where
-      by_name : (n : Option (List ℕ)) → output_name outputs roots c ≡ n → AllByRecursion P (gate_names outputs roots (f ∷ frees) gates) → AllByRecursion P (gate_names outputs roots frees gates) →
-          AllByRecursion P (elim n as (λ o. List (List ℕ)) [ Some m ↦ m ∷ gate_names outputs roots (f ∷ frees) gates | None ↦ f ∷ gate_names outputs roots frees gates ])
-      by_name None e p q = (all.0, q)
-      by_name (Some m) e p q = (output_one outputs roots c m named e, p)
-
-  names_each : (inputs outputs : List (List ℕ)) (roots gates : List ℕ) → 1 + (length gates + length (inputs ++ outputs)) < 2 ^ 64 → AllByRecursion P inputs → AllByRecursion P outputs → AllByRecursion P (net_names inputs outputs roots gates)
-  names_each inputs outputs roots gates room ins outs =
-      all_append P inputs (gate_names outputs roots (free_names (inputs ++ outputs) (length gates)) gates) ins (gates_each outputs roots (free_names (inputs ++ outputs) (length gates)) gates outs (enough_free (inputs ++ outputs) (length gates) room) (free_each (inputs ++ outputs) (length gates) room))
 
 module _ (net : NetworkParts) (starts : List Micro) (c : Choices) (cells : List CellParts) (kept : IsNetwork net) (are : AreChoicesOf net c) (times : List Micro) (deadline : Micro) (earliest : AreEarliest (plain_options c.options) cells net starts (micros times)) (ports : Ports) (named : ArePortsOf net c ports) (later : List Micro) (later_are : later ≡ map (put_off deadline) times) (n : NetlistParts) (own : IsNetlist n) (is : IsTraded (s net starts c cells kept are times deadline earliest) (targets net starts c cells kept are times deadline earliest ports named later later_are) n) (outputs_differ : IsDistinct bytes_eq (output_names net)) where
   abbrev gates_of : List ℕ
@@ -100,14 +63,9 @@ module _ (net : NetworkParts) (starts : List Micro) (c : Choices) (cells : List 
       let k = few_outputs net kept outputs_differ in
       omega (arith, length-append (input_names net) (output_names net))
 
-  abbrev IsOwn : List ℕ → Type 0
-  IsOwn name = Contains (input_names net) name ⊎ (Contains (output_names net) name ⊎ ((k : ℕ) × (k < 2 ^ 64) × (name ≡ numbered_name k)))
-
-  pub traded_own_names : (name : List ℕ) → Contains n.names name → IsOwn name
+  pub traded_own_names : (name : List ℕ) → Contains n.names name → IsOwnName (input_names net) (output_names net) name
   traded_own_names name holds =
-      all_contains IsOwn (net_names (input_names net) (output_names net) (output_nets n) gates_of) name
-      (names_each IsOwn (λ k lt. inr (inr (k, lt, refl))) (input_names net) (output_names net) (output_nets n) gates_of room (contains_all IsOwn (input_names net) (λ m h. inl h)) (contains_all IsOwn (output_names net) (λ m h. inr (inl h))))
-      (subst (λ ns. Contains ns name) names_are holds)
+      own_names (input_names net) (output_names net) (output_nets n) gates_of room name (subst (λ ns. Contains ns name) names_are holds)
 
   module _ (differ : IsDistinct bytes_eq net.names) (inputs_differ : IsDistinct bytes_eq (input_names net)) where
     apart : ArePortNames (network.plain net) (ports_of net)

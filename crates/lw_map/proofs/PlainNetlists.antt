@@ -1,5 +1,6 @@
 -- The plain data of a netlist, its ports and the names of its nets give the netlist.
 use Rattle.std.proofs.Common.{ℕ, suc, ◌+◌, ◌≡◌, List, [], ◌∷◌, map, Some, slice_get, refl, ap, ap₂, sym, ◌∙◌, arith}
+use Rattle.lw_net.proofs.Nets.{same_net}
 use Rattle.lw_pool.specs.declared.id.CellId.{CellId}
 use Rattle.lw_pool.specs.declared.id.NetId.{NetId}
 use Rattle.lw_laws.specs.Netlists as laws
@@ -19,9 +20,6 @@ map_injective {X = X} {Y = Y} f back (x ∷ xs) (y ∷ ys) e =
     let q : map f xs ≡ map f ys = cc in
     ap₂ (λ (z : X) (zs : List X). z ∷ zs) (back x y p) (map_injective f back xs ys q)
 
-net_back : (x y : NetId) → x.0 ≡ y.0 → x ≡ y
-net_back x y e = let f : ℕ → NetId = λ n. record { 0 = n } in ap f e
-
 cell_back : (x y : CellId) → x.0 ≡ y.0 → x ≡ y
 cell_back x y e = let f : ℕ → CellId = λ n. record { 0 = n } in ap f e
 
@@ -32,8 +30,8 @@ gate_back : (g h : Gate) → plain_gate g ≡ plain_gate h → g.out.0 ≡ h.out
 unfolding gate_of
 gate_back g h e o =
     let c = cell_back g.cell h.cell (ap (λ (x : laws.Gate). x.cell) e) in
-    let p = map_injective net_number net_back g.pins h.pins (ap (λ (x : laws.Gate). x.pins) e) in
-    ap₂ (λ (d : CellId) (ps : List NetId). gate_of d ps g.out) c p ∙ ap (λ (n : NetId). gate_of h.cell h.pins n) (net_back g.out h.out o)
+    let p = map_injective net_number same_net g.pins h.pins (ap (λ (x : laws.Gate). x.pins) e) in
+    ap₂ (λ (d : CellId) (ps : List NetId). gate_of d ps g.out) c p ∙ ap (λ (n : NetId). gate_of h.cell h.pins n) (same_net g.out h.out o)
 
 -- the gates drive the nets from a first one on
 abbrev AreDriving : ℕ → List Gate → Type 0
@@ -54,7 +52,7 @@ port_of name net = record { name = name; net = net }
 
 port_back : (p q : Port) → plain_port p ≡ plain_port q → p ≡ q
 unfolding port_of
-port_back p q e = ap₂ (λ (name : List ℕ) (net : NetId). port_of name net) (ap (λ (x : PlainPort). x.name) e) (net_back p.net q.net (ap (λ (x : PlainPort). x.net) e))
+port_back p q e = ap₂ (λ (name : List ℕ) (net : NetId). port_of name net) (ap (λ (x : PlainPort). x.name) e) (same_net p.net q.net (ap (λ (x : PlainPort). x.net) e))
 
 netlist_of : List ℕ → List (List ℕ) → ℕ → List Gate → List Port → NetlistParts
 netlist_of model names inputs gates outputs = record { model = model; names = names; inputs = inputs; gates = gates; outputs = outputs }

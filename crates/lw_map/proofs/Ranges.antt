@@ -47,9 +47,15 @@ numbered_low next (d ∷ cs) i c (inr (low, are)) e = by_test (d == 2 * next) re
     by_test false is rises rest zero e = let r = rises next in let same : d ≡ c = cc in omega arith
     by_test false is rises rest (suc i) e = rest i e
 
-choice_low : (t : Bool) (c m : ℕ) → c / 2 < m → (if t then c else flip c) / 2 < m
+pub choice_low : (t : Bool) (c m : ℕ) → c / 2 < m → (if t then c else flip c) / 2 < m
 choice_low true c m lt = lt
 choice_low false c m lt = let h = half-flip c in omega arith
+
+-- what is listed is low, and so is what stands for the places past the list
+pub listed_low : (cs : List ℕ) (b m : ℕ) → 0 < m → ((c : ℕ) → slice_get cs b ≡ Some c → c / 2 < m) → slice_index cs b / 2 < m
+listed_low [] b m pos low = omega arith
+listed_low (c ∷ cs) zero m pos low = low c refl
+listed_low (c ∷ cs) (suc b) m pos low = listed_low cs b m pos low
 
 -- a row that holds something is one of the rows
 row_low : (rows : List (List Pair)) (c k : ℕ) → k < length (slice_index_or rows c []) → c < length rows
@@ -66,12 +72,7 @@ module _ (g : Graph) (bases inputs : ℕ) (written : IsWritten bases inputs g) (
       by_list (c ∷ cs) e are = let low = numbered_low 0 (c ∷ cs) 0 c are refl in omega arith
 
   base_low : (b : ℕ) → slice_index g.forms b / 2 < pair_count 0 g.forms
-  base_low b = by_list g.forms b some_pairs (λ c e. numbered_low 0 g.forms b c written.numbered e)
-    where
-      by_list : (cs : List ℕ) (b : ℕ) → 0 < pair_count 0 g.forms → ((c : ℕ) → slice_get cs b ≡ Some c → c / 2 < pair_count 0 g.forms) → slice_index cs b / 2 < pair_count 0 g.forms
-      by_list [] b pos low = omega arith
-      by_list (c ∷ cs) zero pos low = low c refl
-      by_list (c ∷ cs) (suc b) pos low = by_list cs b pos low
+  base_low b = listed_low g.forms b (pair_count 0 g.forms) some_pairs (λ c e. numbered_low 0 g.forms b c written.numbered e)
 
   -- the class of any form is one of the pairs
   form_low : (f : ℕ) → class_of g f / 2 < pair_count 0 g.forms

@@ -18,10 +18,12 @@ use Rattle.lw_map.specs.Options.{Options}
 use Rattle.lw_map.specs.Mapped.{IsWithinLimits}
 
 -- the verdict on the netlist, over the graph of the network's forms and the classes of its outputs
-pub record HasVerdict (options : Options) (cells : List CellParts) (model : Parsed) (mapped : Mapped) (v : Verdict) : Type 0 where
+pub record HasVerdict (options : Options) (cells : List CellParts) (model : Parsed) (mapped : Mapped)
+    (v : Verdict) : Type 0 where
   pub within : IsWithinLimits options model.network
   pub graph : Graph
   pub is_graph : IsGraphOf options.mode model.network.inputs (listing_of options.width (plain model.network)) graph
   pub roots : List ClassId
-  pub roots_are : numbers roots ≡ root_classes options.width (plain model.network) graph (ports_of model.network).outputs
+  pub roots_are : numbers roots ≡ root_classes options.width (plain model.network) graph
+      (ports_of model.network).outputs
   pub is : IsVerdict model.network model.frame model.starts cells graph (library_patterns cells) roots mapped v

@@ -19,7 +19,8 @@ use Rattle.lw_net.specs.Ports.{ports_of}
 abbrev pub root_of : NumberedForms → Graph → NetId → ℕ
 root_of forms g output = class_of g (slice_index_or forms.sops output.0 0)
 
--- how many base forms occur in the network, the graph of their classes, and the classes of the outputs' sums of products
+-- how many base forms occur in the network, the graph of their classes, and the classes of the outputs' sums of
+-- products
 pub record AreChoicesOf (net : NetworkParts) (c : Choices) : Type 0 where
   pub wide : IsWide (plain_options c.options)
   pub within : IsWithinLimits (plain_options c.options) net

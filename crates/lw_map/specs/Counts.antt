@@ -51,8 +51,8 @@ drawing_options = record { width = 6; mode = plain_mode }
 abbrev pub at_once : ℕ → List Micro
 at_once inputs = replicate inputs (record { 0 = 0 })
 
--- The nodes, the classes of the graph, the gates of the netlist that the network is mapped to, the greatest arrival of an output, and how
--- often settling reads the matches of the graph.
+-- The nodes, the classes of the graph, the gates of the netlist that the network is mapped to, the greatest arrival of
+-- an output, and how often settling reads the matches of the graph.
 pub record AreSizes (count : ℕ) (cells : List CellParts) (net : NetworkParts) (s : Sizes) : Type 0 where
   pub within : IsWithinLimits drawing_options net
   pub netlist : NetlistParts
@@ -72,4 +72,5 @@ HasSizes seed count cells s = (net : NetworkParts) × IsGenerated seed count net
 -- Why the network that is drawn is not mapped. Running out of memory needs no reason.
 abbrev pub IsDrawingFault : ℕ → ℕ → List CellParts → MapFault → Type 0
 IsDrawingFault seed count cells Memory = ⊤
-IsDrawingFault seed count cells other = (net : NetworkParts) × IsGenerated seed count net × IsMapFault drawing_options cells net (at_once net.inputs) other
+IsDrawingFault seed count cells other =
+    (net : NetworkParts) × IsGenerated seed count net × IsMapFault drawing_options cells net (at_once net.inputs) other

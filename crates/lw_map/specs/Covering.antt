@@ -27,18 +27,20 @@ use Rattle.lw_map.specs.Labelled.{AreStepsBy}
 use Rattle.lw_map.specs.Mappings.{IsMappingOf}
 use Rattle.lw_map.specs.Ports.{ArePortsOf}
 
--- The choices are those of a network whose outputs' names differ, the patterns are of the cells that the cost is for, and the least cover of
--- an input's class costs what the input does.
+-- The choices are those of a network whose outputs' names differ, the patterns are of the cells that the cost is for,
+-- and the least cover of an input's class costs what the input does.
 pub record CanBeMapped (cost : Cost) (p : Problem) : Type 0 where
   pub chosen : AreChoicesOf p.net.now p.choices.now
   pub outputs : IsDistinct bytes_eq (output_names p.net.now)
   pub counts : cost.pin_counts ≡ map length (delays_of_cells p.lib.now)
   pub of_cells : AreOfCells cost.pin_counts p.pats
-  pub leaves : (i c : ℕ) → slice_get p.choices.now.graph.leaves i ≡ Some c → IsLeastCover p.choices.now.graph p.pats cost c (Some (cost.leaf i))
+  pub leaves : (i c : ℕ) → slice_get p.choices.now.graph.leaves i ≡ Some c
+      → IsLeastCover p.choices.now.graph p.pats cost c (Some (cost.leaf i))
 
 -- the matches that marks choose for the outputs, over the library's cells
 pub record IsCoverAtPorts (cost : Cost) (p : Problem) (marks : List (Option Mark)) (cover : Cover) : Type 0 where
-  pub extracted : (ports : Ports) × ArePortsOf p.net.now p.choices.now ports × IsExtractedCover p.choices.now.graph cost p.pats marks ports cover
+  pub extracted : (ports : Ports) × ArePortsOf p.net.now p.choices.now ports
+      × IsExtractedCover p.choices.now.graph cost p.pats marks ports cover
   pub over : IsOver p.lib.now cover.netlist
 
 -- the cover in a mapping
@@ -54,7 +56,8 @@ pub record IsMappedBy (labeller : Labeller) (cost : Cost) (p : Problem) (m : Map
 -- The output is the first that has no label, by least labels. Running out of memory needs no reason.
 abbrev pub LacksLeastLabel : Cost → Problem → ExtractFault → Type 0
 LacksLeastLabel cost p (NoCover k) =
-    (marks : List (Option Mark)) × AreLeastMarks p.choices.now.graph cost p.pats marks × IsFirstUncovered marks p.choices.now.roots k
+    (marks : List (Option Mark)) × AreLeastMarks p.choices.now.graph cost p.pats marks
+    × IsFirstUncovered marks p.choices.now.roots k
 LacksLeastLabel cost p Memory = Unit {0}
 
 -- the netlist that the network is mapped to, over the library's cells, of no more gates than there are classes

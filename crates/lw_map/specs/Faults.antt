@@ -45,7 +45,8 @@ IsCoverFault cells net starts c other = ⊥
 -- The first output without a cover, or else too many points. Running out of memory needs no reason.
 abbrev pub IsTradeFault : List CellParts → NetworkParts → List Micro → Choices → Option Micro → MapFault → Type 0
 IsTradeFault cells net starts c deadline (NoCover name) = LacksCover (plain_options c.options) cells net starts name
-IsTradeFault cells net starts c (Some deadline) Points = HasTooManyPoints (plain_options c.options) cells net starts deadline
+IsTradeFault cells net starts c (Some deadline) Points =
+    HasTooManyPoints (plain_options c.options) cells net starts deadline
 IsTradeFault cells net starts c deadline Memory = ⊤
 IsTradeFault cells net starts c deadline other = ⊥
 
@@ -56,7 +57,8 @@ abbrev pub IsMapFault : Options → List CellParts → NetworkParts → List Mic
 IsMapFault options cells net starts (NoCover name) = LacksCover options cells net starts name
 IsMapFault options cells net starts other = IsChoiceFault options net other
 
--- the same, or too many points by the deadline; without a deadline no points are counted
+-- Why a trade has no netlist: as for a mapping, or there are too many points by the deadline. Without a deadline no
+-- points are counted.
 abbrev pub IsTradingFault : Option Micro → Options → List CellParts → NetworkParts → List Micro → MapFault → Type 0
 IsTradingFault (Some deadline) options cells net starts Points = HasTooManyPoints options cells net starts deadline
 IsTradingFault deadline options cells net starts other = IsMapFault options cells net starts other

@@ -21,12 +21,14 @@ use Rattle.lw_netlist.specs.Plain.{mapped_ports}
 
 -- Ports.
 
--- The netlist is the one that the network is mapped to: of all covers of all trees that the rules derive for an output, it has one of the
--- least time from the starts of the inputs on.
-pub record IsMappedNetlist (options : Options) (cells : List CellParts) (net : NetworkParts) (starts : List Micro) (n : NetlistParts) : Type 0 where
+-- The netlist is the one that the network is mapped to: of all covers of all trees that the rules derive for an output,
+-- it has one of the least time from the starts of the inputs on.
+pub record IsMappedNetlist (options : Options) (cells : List CellParts) (net : NetworkParts) (starts : List Micro)
+    (n : NetlistParts) : Type 0 where
   pub kept : IsNetlist n
   pub model_name : n.model ≡ net.model
-  pub is : IsNetlistOf options.mode options.width (network.plain net) (ports_of net) (library_patterns cells) (timing_of cells starts) most_time (netlist.plain n) n.names (mapped_ports n)
+  pub is : IsNetlistOf options.mode options.width (network.plain net) (ports_of net) (library_patterns cells)
+      (timing_of cells starts) most_time (netlist.plain n) n.names (mapped_ports n)
 
 -- Limits.
 
@@ -53,14 +55,17 @@ HasTooManySplits options net = (base_count options net ≤ most_bases) × (most_
 
 -- no cover by the library's cells is of a tree that the rules derive for the output
 abbrev pub IsUncovered : Options → List CellParts → NetworkParts → List Micro → NetId → Type 0
-IsUncovered options cells net starts output = HasNoCover options.mode options.width (network.plain net) (library_patterns cells) (timing_of cells starts) output.0
+IsUncovered options cells net starts output =
+    HasNoCover options.mode options.width (network.plain net) (library_patterns cells) (timing_of cells starts) output.0
 
 -- the name is that of the first output that no cover is of
-pub record LacksCover (options : Options) (cells : List CellParts) (net : NetworkParts) (starts : List Micro) (name : List ℕ) : Type 0 where
+pub record LacksCover (options : Options) (cells : List CellParts) (net : NetworkParts) (starts : List Micro)
+    (name : List ℕ) : Type 0 where
   pub within : IsWithinLimits options net
   pub place : ℕ
   pub output : NetId
   pub at : slice_get net.outputs place ≡ Some output
   pub named : name ≡ name_in net output
   pub lacks : IsUncovered options cells net starts output
-  pub first : (i : ℕ) (other : NetId) → i < place → slice_get net.outputs i ≡ Some other → IsUncovered options cells net starts other → ⊥
+  pub first : (i : ℕ) (other : NetId) → i < place → slice_get net.outputs i ≡ Some other
+      → IsUncovered options cells net starts other → ⊥

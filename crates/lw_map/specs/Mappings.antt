@@ -18,9 +18,10 @@ use Rattle.lw_map.specs.Labelled.{AreStepsBy}
 use Rattle.lw_map.specs.Mapped.{IsMappedNetlist}
 use Rattle.lw_pool.specs.Numbers.{numbers}
 
--- the netlist that the network is mapped to, over the graph of the choices, with the classes of its gates, the least labels of the classes, and
--- how often stored matches are read to find them
-pub record IsMappingOf (labeller : Labeller) (cells : List CellParts) (net : NetworkParts) (starts : List Micro) (c : Choices) (m : Mapping) : Type 0 where
+-- the netlist that the network is mapped to, over the graph of the choices, with the classes of its gates, the least
+-- labels of the classes, and how often stored matches are read to find them
+pub record IsMappingOf (labeller : Labeller) (cells : List CellParts) (net : NetworkParts) (starts : List Micro)
+    (c : Choices) (m : Mapping) : Type 0 where
   pub mapped : IsMappedNetlist (plain_options c.options) cells net starts m.netlist
   pub graph : mapped.is.graph ≡ c.graph
   pub labels : mapped.is.labels ≡ costs_of m.labels
@@ -33,6 +34,7 @@ abbrev pub label_of : Mark → Micro
 label_of mark = record { 0 = mark.cost }
 
 -- the labels of marks, and these classes
-pub record AreCertified (labels : List (Option Mark)) (classes : List ClassId) (certificate : Certificate) : Type 0 where
+pub record AreCertified (labels : List (Option Mark)) (classes : List ClassId)
+    (certificate : Certificate) : Type 0 where
   pub labels_are : certificate.labels ≡ map (option_map label_of) labels
   pub nets_are : certificate.nets ≡ map Some classes

@@ -12,8 +12,8 @@ use Rattle.lw_map.specs.declared.choices.Choices.{Choices}
 use Rattle.lw_map.specs.declared.problem.Problem.{Problem}
 use Rattle.lw_map.specs.Choices.{AreChoicesOf}
 
--- A network with what listed its choices, the cells that they are covered by with their patterns, and starts that are no later than inputs
--- may start.
+-- A network with what listed its choices, the cells that they are covered by with their patterns, and starts that are
+-- no later than inputs may start.
 pub record IsProblem (p : Problem) : Type 0 where
   pub library : IsLibrary p.lib.now
   pub network : IsNetwork p.net.now
@@ -24,7 +24,8 @@ pub record IsProblem (p : Problem) : Type 0 where
   pub of_cells : AreOfCells (area_cost p.lib.now).pin_counts p.pats
 
 -- the problem of these cells, this network with these starts, and these choices
-pub record IsProblemOf (cells : List CellParts) (net : NetworkParts) (starts : List Micro) (c : Choices) (p : Problem) : Type 0 where
+pub record IsProblemOf (cells : List CellParts) (net : NetworkParts) (starts : List Micro) (c : Choices)
+    (p : Problem) : Type 0 where
   pub lib : p.lib.now ≡ cells
   pub network : p.net.now ≡ net
   pub starts_are : p.starts.now ≡ starts

@@ -25,8 +25,8 @@ pub record AreLeaves (most : ℕ) : Type 0 where
   pub least : 2 ≤ most
   pub limit : most ≤ 6
 
--- The tables are over the graph of the network's forms, in which each class has its least depth of tables with at most so many fan-ins, and
--- for the classes of the outputs' sums of products. They have the network's names.
+-- The tables are over the graph of the network's forms, in which each class has its least depth of tables with at most
+-- so many fan-ins, and for the classes of the outputs' sums of products. They have the network's names.
 pub record IsTabled (options : Options) (most : ℕ) (net : NetworkParts) (n : PlainTableNet) : Type 0 where
   pub kept : IsTableNet n
   pub graph : Graph
@@ -40,7 +40,8 @@ pub record IsTabled (options : Options) (most : ℕ) (net : NetworkParts) (n : P
   pub fit : AreFit graph n.ports
   pub is_net : IsTableNetOf graph most lists.depths n.ports n
 
--- the model, the inputs and the outputs of the network have names of the format, and so have the latches of the frame, which fits it
+-- the model, the inputs and the outputs of the network have names of the format, and so have the latches of the frame,
+-- which fits it
 pub record HasReadableNames (net : NetworkParts) (frame : Frame) : Type 0 where
   pub model : IsSignalName net.model
   pub inputs : All IsSignalName (input_names net)
@@ -48,10 +49,12 @@ pub record HasReadableNames (net : NetworkParts) (frame : Frame) : Type 0 where
   pub latches : All IsReadableLatch frame.latches
   pub frame_fits : Fits frame (input_names net) (output_names net)
 
--- The text is read as BLIF, with the limit on the number of signals left out: its lines say this frame, inputs that start at 0, and a network
--- with the names of the network's model, inputs and outputs, in which no node has more than so many fan-ins, and each output has the network's
--- value under every assignment and is as deep, wires not counted, as the shallowest cover by tables of any tree that the rules derive for it.
-pub record IsTablesTextOf (options : Options) (most : ℕ) (net : NetworkParts) (frame : Frame) (text : List ℕ) : Type 0 where
+-- The text is read as BLIF, with the limit on the number of signals left out: its lines say this frame, inputs that
+-- start at 0, and a network with the names of the network's model, inputs and outputs, in which no node has more than
+-- so many fan-ins, and each output has the network's value under every assignment and is as deep, wires not counted, as
+-- the shallowest cover by tables of any tree that the rules derive for it.
+pub record IsTablesTextOf (options : Options) (most : ℕ) (net : NetworkParts) (frame : Frame)
+    (text : List ℕ) : Type 0 where
   pub draft : Draft
   pub tables : NetworkParts
   pub read : IsTablesRead text draft frame

@@ -39,10 +39,12 @@ pub record AreLeastTimes (p : Problem) (times : List Micro) : Type 0 where
 
 -- the ports of the network, whose outputs arrive by these times, or the deadline where that is later
 pub record AreTargets (p : Problem) (deadline : Micro) (least : List Micro) (t : Targets) : Type 0 where
-  pub ports : ArePortsOf p.net.now p.choices.now (record { model = t.model; inputs = t.inputs; outputs = t.outputs; roots = t.roots })
+  pub ports : ArePortsOf p.net.now p.choices.now
+      (record { model = t.model; inputs = t.inputs; outputs = t.outputs; roots = t.roots })
   pub times : t.times ≡ map (put_off deadline) least
 
--- a netlist of least area by the deadline, which is traded for where each output has a cover and there are no more points than are dealt with
+-- a netlist of least area by the deadline, which is traded for where each output has a cover and there are no more
+-- points than are dealt with
 pub record IsTrade (p : Problem) (deadline : Option Micro) (n : NetlistParts) : Type 0 where
   pub netlist : IsTradedNetlist (plain_options p.choices.now.options) p.lib.now p.net.now p.starts.now deadline n
   pub tradeable : IsTradeable (plain_options p.choices.now.options) p.lib.now p.net.now p.starts.now deadline
@@ -52,7 +54,8 @@ abbrev pub IsFault : Problem → Option Micro → MapFault → Type 0
 IsFault p deadline fault = IsTradeFault p.lib.now p.net.now p.starts.now p.choices.now deadline fault
 
 -- what a model comes to by the deadline: a netlist of least area, which is traded for within the limits
-pub record IsTraded (deadline : Option Micro) (options : Options) (cells : List CellParts) (model : Parsed) (n : NetlistParts) : Type 0 where
+pub record IsTraded (deadline : Option Micro) (options : Options) (cells : List CellParts) (model : Parsed)
+    (n : NetlistParts) : Type 0 where
   pub within : IsWithinLimits options model.network
   pub netlist : IsTradedNetlist options cells model.network model.starts deadline n
   pub tradeable : IsTradeable options cells model.network model.starts deadline

@@ -1,5 +1,6 @@
 -- The netlist of least area under a deadline that a network comes to.
-use Rattle.std.specs.Prelude.{ℕ, ◌^◌, ◌<◌, ◌≤◌, ◌≡◌, ◌⊎◌, Contains, max, Bool, List, [], ◌∷◌, map, length, Option, Some, None, slice_get, slice_index_or}
+use Rattle.std.specs.Prelude.{ℕ, ◌^◌, ◌<◌, ◌≤◌, ◌≡◌, ◌⊎◌, Contains, max, Bool, List, [], ◌∷◌, map, length, Option, Some}
+use Rattle.std.specs.Prelude.{None, slice_get, slice_index_or}
 use Rattle.std.specs.List.{AllZip, IsDistinct}
 use Rattle.std.specs.Str.{bytes_eq}
 use Rattle.lw_pool.specs.declared.id.ClassId.{ClassId}
@@ -37,43 +38,59 @@ use Rattle.lw_net.specs.Ports.{ports_of}
 use Rattle.lw_netlist.specs.Plain.{mapped_ports}
 
 -- the cover is one by the library's cells of a tree that the rules derive for the net's sum of products
-pub record IsCoverOf (options : Options) (cells : List CellParts) (net : NetworkParts) (s : ℕ) (k : Cover) : Type 0 where
+pub record IsCoverOf (options : Options) (cells : List CellParts) (net : NetworkParts) (s : ℕ)
+    (k : Cover) : Type 0 where
   pub is_cover : IsCover (map length (delays_of_cells cells)) (library_patterns cells) k
-  pub has_tree : HasTree options.mode options.width (signals_of options.width (plain net)) (sop_at (signals_of options.width (plain net)) s) (tree_of k)
+  pub has_tree : HasTree options.mode options.width (signals_of options.width (plain net))
+      (sop_at (signals_of options.width (plain net)) s) (tree_of k)
 
--- the time is no later than the deadline, or than the least one where that is later; without a deadline each time will do
+-- the time is no later than the deadline, or than the least one where that is later; without a deadline each time will
+-- do
 abbrev pub IsInTime : Option Micro → ℕ → ℕ → Type 0
 IsInTime None least time = Unit {0}
 IsInTime (Some deadline) least time = time ≤ max deadline.0 least
 
--- The net of a netlist stands for such a cover of the network's net, whose time is the arrival and whose area, in which each use of a shared
--- part counts, is this one. It is in time, and of all such covers that are in time none has less area.
-pub record HasLeastArea (options : Options) (cells : List CellParts) (net : NetworkParts) (starts : List Micro) (deadline : Option Micro) (n : NetlistParts) (s k arrival area : ℕ) : Type 0 where
+-- The net of a netlist stands for such a cover of the network's net, whose time is the arrival and whose area, in which
+-- each use of a shared part counts, is this one. It is in time, and of all such covers that are in time none has less
+-- area.
+pub record HasLeastArea (options : Options) (cells : List CellParts) (net : NetworkParts) (starts : List Micro)
+    (deadline : Option Micro) (n : NetlistParts) (s k arrival area : ℕ) : Type 0 where
   pub earliest : ℕ
-  pub is_earliest : HasLeastArrival options.mode options.width (plain net) (library_patterns cells) (timing_of cells starts) s earliest
+  pub is_earliest : HasLeastArrival options.mode options.width (plain net) (library_patterns cells)
+      (timing_of cells starts) s earliest
   pub by : Cover
   pub is_cover : IsCoverOf options cells net s by
   pub stands : StandsFor (netlist.plain n) by k
   pub time_is : time_of (timing_of cells starts) by ≡ arrival
   pub area_is : cost_of (area_cost cells) by ≡ area
   pub in_time : IsInTime deadline earliest arrival
-  pub least : (other : Cover) → IsCoverOf options cells net s other → IsInTime deadline earliest (time_of (timing_of cells starts) other) → area ≤ cost_of (area_cost cells) other
+  pub least : (other : Cover) → IsCoverOf options cells net s other
+      → IsInTime deadline earliest (time_of (timing_of cells starts) other) → area ≤ cost_of (area_cost cells) other
 
--- A netlist of the library's cells with the network's model, inputs and outputs by name. It computes each output for all values of the inputs,
--- and each output has the least area of all covers of all trees that the rules derive for it, of those that are in time. Its gates stand by
--- depth. The names of its nets differ, and an output's net owns its name, where the names of the network's nets, inputs and outputs differ, as those
--- of each network do that is read.
-pub record IsTradedNetlist (options : Options) (cells : List CellParts) (net : NetworkParts) (starts : List Micro) (deadline : Option Micro) (n : NetlistParts) : Type 0 where
+-- A netlist of the library's cells with the network's model, inputs and outputs by name. It computes each output for
+-- all values of the inputs, and each output has the least area of all covers of all trees that the rules derive for it,
+-- of those that are in time. Its gates stand by depth. The names of its nets differ, and an output's net owns its name,
+-- where the names of the network's nets, inputs and outputs differ, as those of each network do that is read.
+pub record IsTradedNetlist (options : Options) (cells : List CellParts) (net : NetworkParts) (starts : List Micro)
+    (deadline : Option Micro) (n : NetlistParts) : Type 0 where
   pub kept : IsNetlist n
   pub over : netlist.IsOver cells n
   pub model_name : n.model ≡ net.model
   pub inputs : n.inputs ≡ net.inputs
   pub inputs_named : (mapped_ports n).inputs ≡ (ports_of net).inputs
   pub outputs_named : AllZip (λ p q. p.name ≡ q.name) (ports_of net).outputs (mapped_ports n).outputs
-  pub values : (x : ℕ → Bool) (vs ws : List Bool) → AreValues (plain net) x vs → AreNetlistValues (truth_of_cells cells) (netlist.plain n) x ws → AllZip (λ p q. slice_get vs p.net ≡ slice_get ws q.net) (ports_of net).outputs (mapped_ports n).outputs
-  pub outputs : (ds areas : List ℕ) → AreArrivals (timing_of cells starts) (netlist.plain n) ds → AreNetCosts (area_cost cells) (netlist.plain n) areas → AllZip (λ p q. HasLeastArea options cells net starts deadline n p.net q.net (slice_index_or ds q.net 0) (slice_index_or areas q.net 0)) (ports_of net).outputs (mapped_ports n).outputs
-  pub names : IsDistinct bytes_eq net.names → IsDistinct bytes_eq (input_names net) → IsDistinct bytes_eq (output_names net) → AreNetNames (netlist.plain n) n.names (mapped_ports n)
-  pub own_names : (name : List ℕ) → Contains n.names name → Contains (input_names net) name ⊎ (Contains (output_names net) name ⊎ ((k : ℕ) × (k < 2 ^ 64) × (name ≡ numbered_name k)))
+  pub values : (x : ℕ → Bool) (vs ws : List Bool) → AreValues (plain net) x vs
+      → AreNetlistValues (truth_of_cells cells) (netlist.plain n) x ws
+      → AllZip (λ p q. slice_get vs p.net ≡ slice_get ws q.net) (ports_of net).outputs (mapped_ports n).outputs
+  pub outputs : (ds areas : List ℕ) → AreArrivals (timing_of cells starts) (netlist.plain n) ds
+      → AreNetCosts (area_cost cells) (netlist.plain n) areas
+      → AllZip (λ p q. HasLeastArea options cells net starts deadline n p.net q.net (slice_index_or ds q.net 0)
+      (slice_index_or areas q.net 0)) (ports_of net).outputs (mapped_ports n).outputs
+  pub names : IsDistinct bytes_eq net.names → IsDistinct bytes_eq (input_names net)
+      → IsDistinct bytes_eq (output_names net) → AreNetNames (netlist.plain n) n.names (mapped_ports n)
+  pub own_names : (name : List ℕ) → Contains n.names name
+      → Contains (input_names net) name
+      ⊎ (Contains (output_names net) name ⊎ ((k : ℕ) × (k < 2 ^ 64) × (name ≡ numbered_name k)))
   pub by_depth : AreByDepth (netlist.plain n)
 
 -- Limits.
@@ -81,7 +98,8 @@ pub record IsTradedNetlist (options : Options) (cells : List CellParts) (net : N
 -- the least time of each output
 abbrev pub AreEarliest : Options → List CellParts → NetworkParts → List Micro → List ℕ → Type 0
 AreEarliest options cells net starts times =
-    AllZip (λ (output : NetId) (d : ℕ). HasLeastArrival options.mode options.width (plain net) (library_patterns cells) (timing_of cells starts) output.0 d) net.outputs times
+    AllZip (λ (output : NetId) (d : ℕ). HasLeastArrival options.mode options.width (plain net) (library_patterns cells)
+    (timing_of cells starts) output.0 d) net.outputs times
 
 abbrev pub micros : List Micro → List ℕ
 micros times = map (λ (time : Micro). time.0) times
@@ -93,7 +111,8 @@ put_off deadline time = record { 0 = max time.0 deadline.0 }
 -- the labels of the first of these classes
 pub record HaveLabelsTo (marks : List (Option Mark)) (roots : List ClassId) (k : ℕ) (labels : List Micro) : Type 0 where
   pub count : length labels ≡ k
-  pub each : (i : ℕ) (c : ClassId) → i < k → slice_get roots i ≡ Some c → (m : Mark) × (slice_index_or marks c.0 None ≡ Some m) × (slice_get labels i ≡ Some (record { 0 = m.cost }))
+  pub each : (i : ℕ) (c : ClassId) → i < k → slice_get roots i ≡ Some c
+      → (m : Mark) × (slice_index_or marks c.0 None ≡ Some m) × (slice_get labels i ≡ Some (record { 0 = m.cost }))
 
 -- the first of these classes that has no label
 abbrev pub LacksLabel : List (Option Mark) → List ClassId → ExtractFault → Type 0
@@ -105,9 +124,10 @@ abbrev pub latest_of : ℕ → List ℕ → ℕ
 latest_of deadline [] = deadline
 latest_of deadline (time ∷ times) = max time (latest_of deadline times)
 
--- Each output has a cover, and up to the latest of the deadline and of their least times all classes of the graph of the network's forms have
--- more points together than are dealt with.
-pub record HasTooManyPoints (options : Options) (cells : List CellParts) (net : NetworkParts) (starts : List Micro) (deadline : Micro) : Type 0 where
+-- Each output has a cover, and up to the latest of the deadline and of their least times all classes of the graph of
+-- the network's forms have more points together than are dealt with.
+pub record HasTooManyPoints (options : Options) (cells : List CellParts) (net : NetworkParts) (starts : List Micro)
+    (deadline : Micro) : Type 0 where
   pub within : IsWithinLimits options net
   pub times : List ℕ
   pub earliest : AreEarliest options cells net starts times
@@ -121,7 +141,8 @@ HasFewPoints options cells net starts None = Unit {0}
 HasFewPoints options cells net starts (Some deadline) = HasTooManyPoints options cells net starts deadline → ⊥
 
 -- each output has a cover, and there are no more points than are dealt with
-pub record IsTradeable (options : Options) (cells : List CellParts) (net : NetworkParts) (starts : List Micro) (deadline : Option Micro) : Type 0 where
+pub record IsTradeable (options : Options) (cells : List CellParts) (net : NetworkParts) (starts : List Micro)
+    (deadline : Option Micro) : Type 0 where
   pub times : List ℕ
   pub earliest : AreEarliest options cells net starts times
   pub few : HasFewPoints options cells net starts deadline

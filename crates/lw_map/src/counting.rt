@@ -4,7 +4,8 @@ ghost use Rattle.std.specs.List.{IsDistinct};
 ghost use Rattle.std.specs.Str.{bytes_eq};
 ghost use Rattle.lw_net.specs.Networks.{output_names};
 ghost use Rattle.lw_big.specs.Generated.{most_nodes};
-ghost use Rattle.lw_map.specs.Counts.{AreCounts, AreSizes, HasSizes, IsDrawingFault, at_once, drawing_options, pair_total};
+ghost use Rattle.lw_map.specs.Counts.{AreCounts, AreSizes, HasSizes, IsDrawingFault, at_once};
+ghost use Rattle.lw_map.specs.Counts.{drawing_options, pair_total};
 ghost use Rattle.lw_map.specs.Faults.{IsChoiceFault, IsMapFault};
 ghost use Rattle.lw_map.specs.Options.{plain_options};
 

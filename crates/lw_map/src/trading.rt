@@ -7,7 +7,8 @@ ghost use Rattle.lw_map.specs.Covering.{IsLack};
 ghost use Rattle.lw_map.specs.Faults.{IsTradeFault, IsTradingFault};
 ghost use Rattle.lw_map.specs.Options.{plain_options};
 ghost use Rattle.lw_map.specs.Problems.{IsProblem};
-ghost use Rattle.lw_map.specs.Trades.{AreLeastTimes, AreTargets, CanBeRead, HasTimes, HaveLabels, IsFault, IsTrade, IsTraded};
+ghost use Rattle.lw_map.specs.Trades.{AreLeastTimes, AreTargets, CanBeRead, HasTimes, HaveLabels};
+ghost use Rattle.lw_map.specs.Trades.{IsFault, IsTrade, IsTraded};
 ghost use Rattle.lw_map.specs.Trading.{LacksLabel, latest_of, micros, put_off};
 
 use crate::covering::ports;
@@ -167,7 +168,8 @@ fn of_choices(
     requires late { IfSome deadline IsSmall }
     ensures traded { IfOk result (IsTraded deadline (plain_options choices.now.options) lib.now
         model.now) }
-    ensures fault { IfErr result (IsTradeFault lib.now model.now.network model.now.starts choices.now
+    ensures fault { IfErr result
+        (IsTradeFault lib.now model.now.network model.now.starts choices.now
         deadline) }
 {
     let problem = Problem::new(alloc, lib, &model.network, &model.starts, choices)?;

@@ -1,5 +1,5 @@
 -- The draft that is said of a netlist's text is closed to the netlist.
-use Rattle.std.proofs.Common.{ℕ, zero, suc, ◌≡◌, ◌<◌, ◌≤◌, ◌+◌, ◌-◌, ◌⊎◌, inl, inr, Bool, true, false, ◌||◌, max, cond, List, [], ◌∷◌, ◌++◌, length, map, take, drop, get_or, Some, None, Contains, refl, ap, ap₂, sym, ◌∙◌, subst, arith}
+use Rattle.std.proofs.Common.{ℕ, zero, suc, ◌≡◌, ◌<◌, ◌≤◌, ◌+◌, ◌-◌, ◌⊎◌, inl, inr, Bool, true, false, ◌||◌, max, cond, List, [], ◌∷◌, ◌++◌, length, map, take, drop, get_or, Some, Contains, refl, ap, ap₂, sym, ◌∙◌, subst, arith}
 use Rattle.std.specs.Prelude.{slice_get}
 use Rattle.std.specs.List.{IsDistinct, AllByRecursion as Each}
 use Rattle.std.specs.Str.{bytes_eq}
@@ -22,10 +22,10 @@ use Rattle.lw_netlist.specs.declared.draft.GateDraft.{GateDraft}
 use Rattle.lw_netlist.specs.declared.draft.Wire.{Wire}
 use Rattle.lw_netlist.specs.declared.gate.Gate.{Gate}
 use Rattle.lw_netlist.specs.declared.gate.Port.{Port}
-use Rattle.lw_netlist.specs.Closing.{AreNameDepths, IsClosed, IsNetNamed, HasNoCycle, Hangs, Reaches, Link, by_depth, closed_gate, drivers, first_twice, first_undriven, gate_link, wire_link, greatest, is_among, links, netlist_in, out_of, port_at}
+use Rattle.lw_netlist.specs.Closing.{AreNameDepths, IsClosed, IsNetNamed, HasNoCycle, Hangs, Reaches, Link, by_depth, closed_gate, drivers, gate_link, wire_link, greatest, is_among, links, netlist_in, out_of, port_at}
 use Rattle.lw_netlist.specs.Closing.IsNetNamed.{at_input, at_gate, at_wire}
 use Rattle.lw_netlist.specs.Closing.Reaches.{by_step, by_path}
-use Rattle.lw_netlist.specs.Netlists.{NetlistParts, IsNetlist, IsGateAt}
+use Rattle.lw_netlist.specs.Netlists.{NetlistParts, IsNetlist}
 use Rattle.lw_netlist.specs.Numbered.{number_in}
 use Rattle.lw_netlist.specs.Plain.{plain, plain_gate, port_name}
 use Rattle.lw_netlist.proofs.Names.{to_of}
@@ -59,51 +59,6 @@ module _ (n : NetlistParts) (is : IsNetlist n) (named : AreNetNames (plain n) n.
   abbrev IsStrange : Wire → Type 0
   IsStrange w = Each (λ x. bytes_eq x w.to ≡ false) names
 
-  many : length names ≡ m + length n.gates
-  many = back.many n is named
-
-  number : (k : ℕ) → k < length names → number_in names (at k) ≡ k
-  number = back.number n is named
-
-  among-at : (k : ℕ) → k < length names → is_among names (at k) ≡ true
-  among-at = back.among-at n is named
-
-  gate-at : (j : ℕ) (gate : Gate) → slice_get n.gates j ≡ Some gate → IsGateAt m j gate
-  gate-at = back.gate-at n is named
-
-  gate-within : (j : ℕ) (gate : Gate) → slice_get n.gates j ≡ Some gate → m + j < length names
-  gate-within = back.gate-within n is named
-
-  pin-before : (j : ℕ) (gate : Gate) → slice_get n.gates j ≡ Some gate → Each (λ (net : NetId). net.0 < m + j) gate.pins
-  pin-before = back.pin-before n is named
-
-  port-within : Each (λ (port : Port). port.net.0 < length names) n.outputs
-  port-within = back.port-within n is named
-
-  outs : map out_of d.gates ≡ drop m names
-  outs = back.outs n is named
-
-  ends-are : d.inputs ++ map out_of d.gates ≡ names
-  ends-are = back.ends-are n is named
-
-  driven-are : drivers d ≡ names ++ map to_of d.wires
-  driven-are = back.driven-are n is named
-
-  strange-port : (k : ℕ) (port : Port) → slice_get n.outputs k ≡ Some port → bytes_eq (net_name names port.net) port.name ≡ false → Each (λ x. bytes_eq x port.name ≡ false) names
-  strange-port = back.strange-port n is named
-
-  strange : Each IsStrange d.wires
-  strange = back.strange n is named
-
-  outputs-distinct : IsDistinct bytes_eq (map port_name n.outputs)
-  outputs-distinct = back.outputs-distinct n is named
-
-  once : first_twice d ≡ None
-  once = back.once n is named
-
-  driven : first_undriven d ≡ None
-  driven = back.driven n is named
-
   -- The net of a name, and its depth.
 
   net : List ℕ → ℕ
@@ -111,7 +66,7 @@ module _ (n : NetlistParts) (is : IsNetlist n) (named : AreNetNames (plain n) n.
 
   net-at : (k : ℕ) → k < length names → net (at k) ≡ k
   unfolding net
-  net-at k lt = ap (λ b. cond b (number_in names (at k)) (net_of_output n.outputs (at k))) (among-at k lt) ∙ number k lt
+  net-at k lt = ap (λ b. cond b (number_in names (at k)) (net_of_output n.outputs (at k))) (back.among-at n is named k lt) ∙ back.number n is named k lt
 
   none-among : (name : List ℕ) (xs : List (List ℕ)) → Each (λ x. bytes_eq x name ≡ false) xs → is_among xs name ≡ false
   none-among name [] each = refl
@@ -136,18 +91,18 @@ module _ (n : NetlistParts) (is : IsNetlist n) (named : AreNetNames (plain n) n.
   net-of-port k port e = by_test (bytes_eq (net_name names port.net) port.name) refl
     where
       within : port.net.0 < length names
-      within = at-each (λ (p : Port). p.net.0 < length names) n.outputs k port port-within e
+      within = at-each (λ (p : Port). p.net.0 < length names) n.outputs k port (back.port-within n is named) e
 
       by_test : (b : Bool) → bytes_eq (net_name names port.net) port.name ≡ b → net port.name ≡ port.net.0
       by_test true f = ap net (sym ((bytes_decides (net_name names port.net) port.name).0 f)) ∙ net-at port.net.0 within
       by_test false f =
-          ap (λ b. cond b (number_in names port.name) (net_of_output n.outputs port.name)) (none-among port.name names (strange-port k port e f))
-          ∙ output-found n.outputs k port outputs-distinct e
+          ap (λ b. cond b (number_in names port.name) (net_of_output n.outputs port.name)) (none-among port.name names (back.strange-port n is named k port e f))
+          ∙ output-found n.outputs k port (back.outputs-distinct n is named) e
 
   ordered : laws.AreOrdered (plain n)
   ordered j g e =
       let gate = slice_get_map_back plain_gate n.gates j g e in
-      subst (λ (h : laws.Gate). Each (λ p. p < m + j) h.pins) gate.2 (each-map (λ p. p < m + j) net_number gate.0.pins (pin-before j gate.0 gate.1))
+      subst (λ (h : laws.Gate). Each (λ p. p < m + j) h.pins) gate.2 (each-map (λ p. p < m + j) net_number gate.0.pins (back.pin-before n is named j gate.0 gate.1))
 
   depths : List ℕ
   depths = (some_net_depths (plain n) ordered).0
@@ -174,13 +129,13 @@ module _ (n : NetlistParts) (is : IsNetlist n) (named : AreNetNames (plain n) n.
 
   gate-pins-within : (j : ℕ) (gate : Gate) → slice_get n.gates j ≡ Some gate → Each (λ (net : NetId). net.0 < length names) gate.pins
   gate-pins-within j gate e =
-      each-weaker (λ (net : NetId). net.0 < m + j) (λ (net : NetId). net.0 < length names) (λ net lt. omega (arith, lt, gate-within j gate e)) gate.pins (pin-before j gate e)
+      each-weaker (λ (net : NetId). net.0 < m + j) (λ (net : NetId). net.0 < length names) (λ net lt. omega (arith, lt, back.gate-within n is named j gate e)) gate.pins (back.pin-before n is named j gate e)
 
   gate-deep : (j : ℕ) (gate : Gate) → slice_get n.gates j ≡ Some gate → depth (net_name names gate.out) ≡ 1 + greatest (map depth (map (net_name names) gate.pins))
   gate-deep j gate e =
-      let own : gate.out.0 ≡ m + j = (gate-at j gate e).drives in
+      let own : gate.out.0 ≡ m + j = (back.gate-at n is named j gate e).drives in
       ap (λ k. depth (at k)) own
-      ∙ (depth-at (m + j) (gate-within j gate e)
+      ∙ (depth-at (m + j) (back.gate-within n is named j gate e)
       ∙ (get_or_from_slice_get depths (m + j) _ 0 (are-depths.gates j (plain_gate gate) (plain-get n.gates j gate e))
       ∙ ap (λ g. 1 + g) (sym (pins-deep gate.pins (gate-pins-within j gate e)))))
 
@@ -189,10 +144,10 @@ module _ (n : NetlistParts) (is : IsNetlist n) (named : AreNetNames (plain n) n.
     where
       input : (i : ℕ) (name : List ℕ) → slice_get (take m names) i ≡ Some name → depth name ≡ 0
       input i name e =
-          let few : length (take m names) ≡ m = length-take-le m names (omega (arith, many)) in
+          let few : length (take m names) ≡ m = length-take-le m names (omega (arith, back.many n is named)) in
           let below : i < m = omega (arith, slice_get_within (take m names) i name e, few) in
           let here : at i ≡ name = sym (get_or-take m names i [] below) ∙ get_or_from_slice_get (take m names) i name [] e in
-          ap depth (sym here) ∙ (depth-at i (omega (arith, below, many)) ∙ get_or_from_slice_get depths i 0 0 (are-depths.inputs i below))
+          ap depth (sym here) ∙ (depth-at i (omega (arith, below, back.many n is named)) ∙ get_or_from_slice_get depths i 0 0 (are-depths.inputs i below))
 
   wires-deep : (ports : List Port) → ((i : ℕ) (port : Port) → slice_get ports i ≡ Some port → (k : ℕ) × (slice_get n.outputs k ≡ Some port)) → Each (λ (w : Wire). depth w.to ≡ depth w.from) (wires_of names ports)
   unfolding depth
@@ -203,7 +158,7 @@ module _ (n : NetlistParts) (is : IsNetlist n) (named : AreNetNames (plain n) n.
       place = here 0 port refl
 
       same : net port.name ≡ net (net_name names port.net)
-      same = net-of-port place.0 port place.1 ∙ sym (net-at port.net.0 (at-each (λ (p : Port). p.net.0 < length names) n.outputs place.0 port port-within place.1))
+      same = net-of-port place.0 port place.1 ∙ sym (net-at port.net.0 (at-each (λ (p : Port). p.net.0 < length names) n.outputs place.0 port (back.port-within n is named) place.1))
 
       own : (b : Bool) → Each (λ (w : Wire). depth w.to ≡ depth w.from) (wires_of names ports) → Each (λ (w : Wire). depth w.to ≡ depth w.from) (cond b [] (port_wire names port ∷ []) ++ wires_of names ports)
       own true rest = rest
@@ -251,9 +206,9 @@ module _ (n : NetlistParts) (is : IsNetlist n) (named : AreNetNames (plain n) n.
       at_place : (i : ℕ) (gate : DraftGate) → slice_get d.gates i ≡ Some gate → (deep gate ≡ get_or depths (m + (0 + i)) 0) × (0 + i < length n.gates)
       at_place i gate e =
           let g = named-get i gate e in
-          let own : g.0.out.0 ≡ m + i = (gate-at i g.0 g.1).drives in
+          let own : g.0.out.0 ≡ m + i = (back.gate-at n is named i g.0 g.1).drives in
           let same : m + i ≡ m + (0 + i) = omega arith in (
-            ap deep (sym g.2) ∙ (ap (λ k. depth (at k)) own ∙ (depth-at (m + i) (gate-within i g.0 g.1) ∙ ap (λ k. get_or depths k 0) same)),
+            ap deep (sym g.2) ∙ (ap (λ k. depth (at k)) own ∙ (depth-at (m + i) (back.gate-within n is named i g.0 g.1) ∙ ap (λ k. get_or depths k 0) same)),
             omega (arith, slice_get_within n.gates i g.0 g.1),
           )
 
@@ -270,7 +225,7 @@ module _ (n : NetlistParts) (is : IsNetlist n) (named : AreNetNames (plain n) n.
 
   rank-at : (k : ℕ) → k < length names → rank (at k) ≡ k
   unfolding rank
-  rank-at k lt = ap (λ b. cond b (number_in names (at k)) (length names)) (among-at k lt) ∙ number k lt
+  rank-at k lt = ap (λ b. cond b (number_in names (at k)) (length names)) (back.among-at n is named k lt) ∙ back.number n is named k lt
 
   rank-past : (name : List ℕ) → Each (λ x. bytes_eq x name ≡ false) names → rank name ≡ length names
   unfolding rank
@@ -286,8 +241,8 @@ module _ (n : NetlistParts) (is : IsNetlist n) (named : AreNetNames (plain n) n.
 
   gate-down : (j : ℕ) (gate : Gate) → slice_get n.gates j ≡ Some gate → GoesDown (gate_link (named_gate names gate))
   gate-down j gate e =
-      let own : rank (net_name names gate.out) ≡ m + j = ap (λ k. rank (at k)) (gate-at j gate e).drives ∙ rank-at (m + j) (gate-within j gate e) in
-      subst (λ r. Each (λ to. rank to < r) (map (net_name names) gate.pins)) (sym own) (pins-down j (gate-within j gate e) gate.pins (pin-before j gate e))
+      let own : rank (net_name names gate.out) ≡ m + j = ap (λ k. rank (at k)) (back.gate-at n is named j gate e).drives ∙ rank-at (m + j) (back.gate-within n is named j gate e) in
+      subst (λ r. Each (λ to. rank to < r) (map (net_name names) gate.pins)) (sym own) (pins-down j (back.gate-within n is named j gate e) gate.pins (back.pin-before n is named j gate e))
 
   gates-down : (gates : List Gate) → ((i : ℕ) (gate : Gate) → slice_get gates i ≡ Some gate → (j : ℕ) × (slice_get n.gates j ≡ Some gate)) → Each GoesDown (map gate_link (map (named_gate names) gates))
   gates-down [] here = tt
@@ -302,7 +257,7 @@ module _ (n : NetlistParts) (is : IsNetlist n) (named : AreNetNames (plain n) n.
       own false h rest = ((omega (arith, rank-at port.net.0 each.0, rank-past port.name h.0, each.0), tt), rest h.1)
 
   links-down : Each GoesDown (links d)
-  links-down = each-append GoesDown (map gate_link d.gates) (map wire_link d.wires) (gates-down n.gates (λ i gate e. (i, e))) (wires-down n.outputs port-within strange)
+  links-down = each-append GoesDown (map gate_link d.gates) (map wire_link d.wires) (gates-down n.gates (λ i gate e. (i, e))) (wires-down n.outputs (back.port-within n is named) (back.strange n is named))
 
   hangs-down : (from to : List ℕ) → Hangs (links d) from to → rank to < rank from
   hangs-down from to h =
@@ -320,16 +275,16 @@ module _ (n : NetlistParts) (is : IsNetlist n) (named : AreNetNames (plain n) n.
   -- Nets.
 
   few : length (take m names) ≡ m
-  few = length-take-le m names (omega (arith, many))
+  few = length-take-le m names (omega (arith, back.many n is named))
 
   net-is-at : (k : ℕ) → k < length names → IsNetNamed d d.gates (at k) k
   net-is-at k lt = by_place (cases_lt k m)
     where
       gate-place : (m ≤ k) → slice_get (map out_of d.gates) (k - m) ≡ Some (at k)
       gate-place le =
-          let within : k - m < length (drop m names) = omega (arith, length-drop m names, many) in
+          let within : k - m < length (drop m names) = omega (arith, length-drop m names, back.many n is named) in
           let same : m + (k - m) ≡ k = omega arith in
-          ap (λ l. slice_get l (k - m)) outs ∙ (slice_get-get_or (drop m names) (k - m) [] within ∙ ap (λ x. Some x) (get_or-drop m names (k - m) [] ∙ ap at same))
+          ap (λ l. slice_get l (k - m)) (back.outs n is named) ∙ (slice_get-get_or (drop m names) (k - m) [] within ∙ ap (λ x. Some x) (get_or-drop m names (k - m) [] ∙ ap at same))
 
       by_place : (k < m) ⊎ (m ≤ k) → IsNetNamed d d.gates (at k) k
       by_place (inl below) = at_input k (slice_get-get_or (take m names) k [] (omega (arith, few)) ∙ ap (λ x. Some x) (get_or-take m names k [] below))
@@ -345,7 +300,7 @@ module _ (n : NetlistParts) (is : IsNetlist n) (named : AreNetNames (plain n) n.
       place = here 0 port refl
 
       within : port.net.0 < length names
-      within = at-each (λ (p : Port). p.net.0 < length names) n.outputs place.0 port port-within place.1
+      within = at-each (λ (p : Port). p.net.0 < length names) n.outputs place.0 port (back.port-within n is named) place.1
 
       own : (b : Bool) → Each (λ (w : Wire). Contains d.wires w → IsNetNamed d d.gates w.to (net w.to)) (wires_of names ports) → Each (λ (w : Wire). Contains d.wires w → IsNetNamed d d.gates w.to (net w.to)) (cond b [] (port_wire names port ∷ []) ++ wires_of names ports)
       own true rest = rest
@@ -355,7 +310,7 @@ module _ (n : NetlistParts) (is : IsNetlist n) (named : AreNetNames (plain n) n.
       )
 
   net-is : (name : List ℕ) → Contains (drivers d) name → IsNetNamed d d.gates name (net name)
-  net-is name among = by_part (Contains-append_cases names (map to_of d.wires) name (subst (λ l. Contains l name) driven-are among))
+  net-is name among = by_part (Contains-append_cases names (map to_of d.wires) name (subst (λ l. Contains l name) (back.driven-are n is named) among))
     where
       by_part : Contains names name ⊎ Contains (map to_of d.wires) name → IsNetNamed d d.gates name (net name)
       by_part (inl c) =
@@ -378,7 +333,7 @@ module _ (n : NetlistParts) (is : IsNetlist n) (named : AreNetNames (plain n) n.
   gates-again [] here = refl
   gates-again (gate ∷ gates) here =
       let place = here 0 gate refl in
-      let own : gate.out.0 < length names = omega (arith, (gate-at place.0 gate place.1).drives, gate-within place.0 gate place.1) in
+      let own : gate.out.0 < length names = omega (arith, (back.gate-at n is named place.0 gate place.1).drives, back.gate-within n is named place.0 gate place.1) in
       ap₂ (λ g gs. g ∷ gs)
       (ap₂ (λ ps o. let g : Gate = record { cell = gate.cell; pins = ps; out = record { 0 = o } } in g) (pins-again gate.pins (gate-pins-within place.0 gate place.1)) (net-at gate.out.0 own))
       (gates-again gates (λ i g e. here (suc i) g e))
@@ -391,14 +346,14 @@ module _ (n : NetlistParts) (is : IsNetlist n) (named : AreNetNames (plain n) n.
 
   again : netlist_in d d.gates net ≡ n
   again =
-      ap₂ (λ ns k. let p : NetlistParts = record { model = n.model; names = ns; inputs = k; gates = map (closed_gate net) d.gates; outputs = map (port_at net) d.outputs } in p) ends-are few
+      ap₂ (λ ns k. let p : NetlistParts = record { model = n.model; names = ns; inputs = k; gates = map (closed_gate net) d.gates; outputs = map (port_at net) d.outputs } in p) (back.ends-are n is named) few
       ∙ ap₂ (λ gs ps. let p : NetlistParts = record { model = n.model; names = names; inputs = m; gates = gs; outputs = ps } in p) (gates-again n.gates (λ i gate e. (i, e))) (outputs-again n.outputs (λ i port e. (i, e)))
 
   -- The draft is closed to the netlist.
   pub closed-back : IsClosed d n
   closed-back = record {
-    once = once;
-    driven = driven;
+    once = back.once n is named;
+    driven = back.driven n is named;
     no_cycle = no-cycle;
     depth = depth;
     depths = right-depths;

@@ -1,5 +1,5 @@
 -- The draft that is said of a netlist's text: what it drives, each name once, and that nothing else is asked for.
-use Rattle.std.proofs.Common.{ℕ, zero, suc, ◌≡◌, ◌<◌, ◌≤◌, ◌+◌, Bool, true, false, not, ◌||◌, cond, List, [], ◌∷◌, ◌++◌, length, map, take, drop, get_or, Some, None, Contains, refl, ap, ap₂, sym, ◌∙◌, subst, arith, append_assoc}
+use Rattle.std.proofs.Common.{ℕ, zero, suc, ◌≡◌, ◌<◌, ◌≤◌, ◌+◌, Bool, true, false, not, cond, List, [], ◌∷◌, ◌++◌, length, map, take, drop, get_or, Some, None, Contains, refl, ap, ap₂, sym, ◌∙◌, subst, arith, append_assoc}
 use Rattle.std.specs.Prelude.{slice_get}
 use Rattle.std.specs.List.{flat_map, IsDistinct, AllByRecursion as Each}
 use Rattle.std.specs.Str.{bytes_eq}
@@ -8,7 +8,7 @@ use Rattle.std.proofs.Math.Seq.{drop-cons}
 use Rattle.std.proofs.lemmas.List.{take-append-drop, drop_all}
 use Rattle.std.proofs.lemmas.Map.Keys.{IsDistinct-cons, IsDistinct-head, IsDistinct-tail, IsDistinct-from_apart}
 use Rattle.std.proofs.lemmas.Option.{slice_get-get_or, slice_get_within, get_or_from_slice_get}
-use Rattle.lw_facts.proofs.Lists.{contains_map, bytes_eq_same, bytes_differ_turned, get_left, get_right, at_contained, contained_at}
+use Rattle.lw_facts.proofs.Lists.{contains_map, bytes_eq_same, get_left, get_right, at_contained, contained_at, none_among}
 use Rattle.lw_laws.specs.MappedNetlists.{AreNetNames}
 use Rattle.lw_pool.specs.declared.id.NetId.{NetId}
 use Rattle.lw_netlist.specs.declared.draft.GateDraft.{GateDraft}
@@ -39,16 +39,10 @@ head-differs : (x name : List ℕ) (seen names : List (List ℕ)) → Each (λ y
 head-differs x name [] names each = each.0
 head-differs x name (s ∷ seen) names each = head-differs x name seen names each.1
 
-not-seen : (seen : List (List ℕ)) (name : List ℕ) (names : List (List ℕ)) → IsDistinct bytes_eq (seen ++ name ∷ names) → is_among seen name ≡ false
-not-seen [] name names distinct = refl
-not-seen (s ∷ seen) name names distinct =
-    ap₂ (λ a b. a || b) (bytes_differ_turned s name (head-differs s name seen names (IsDistinct-head bytes_eq s (seen ++ name ∷ names) distinct)))
-    (not-seen seen name names (IsDistinct-tail bytes_eq s (seen ++ name ∷ names) distinct))
-
 never-twice : (seen names : List (List ℕ)) → IsDistinct bytes_eq (seen ++ names) → twice_after seen names ≡ None
 never-twice seen [] distinct = refl
 never-twice seen (name ∷ names) distinct =
-    ap (λ b. cond b (Some name) (twice_after (seen ++ name ∷ []) names)) (not-seen seen name names distinct)
+    ap (λ b. cond b (Some name) (twice_after (seen ++ name ∷ []) names)) (none_among seen name names distinct)
     ∙ never-twice (seen ++ name ∷ []) names (subst (IsDistinct bytes_eq) (sym (append_assoc seen (name ∷ []) names)) distinct)
 
 none-missing : (driven names : List (List ℕ)) → Each (Contains driven) names → undriven_in driven names ≡ None

@@ -11,7 +11,7 @@ pub record AreSameMapped (a b : Mapped) : Type 0 where
   pub starts : a.starts ≡ b.starts
   pub certificates : AreSameCertificates a.cert b.cert
 
--- The same is read, or one fault comes.
+-- Two outcomes are alike: one netlist is read, or one fault comes.
 abbrev pub AreSameOutcomes : Result Mapped MappedFault → Result Mapped MappedFault → Type 0
 AreSameOutcomes (Ok a) (Ok b) = AreSameMapped a b
 AreSameOutcomes (Err e) (Err f) = e ≡ f

@@ -2,7 +2,9 @@
 use Rattle.std.specs.Prelude.{ℕ, ◌||◌, List, if◌then◌else◌, codes}
 use Rattle.std.specs.Str.{bytes_eq}
 use Rattle.lw_mapped.specs.declared.command.Command.{Command}
-use Rattle.lw_mapped.specs.declared.command.Command.TheVariants.{Model, Inputs, Outputs, Gate, Names, Latch, InputArrival, DefaultArrival, Certificate, End, Ignored, Unknown, Plain}
+use Rattle.lw_mapped.specs.declared.command.Command.TheVariants.{Model, Inputs, Outputs, Gate, Names, Latch}
+use Rattle.lw_mapped.specs.declared.command.Command.TheVariants.{InputArrival, DefaultArrival, Certificate, End}
+use Rattle.lw_mapped.specs.declared.command.Command.TheVariants.{Ignored, Unknown, Plain}
 use Rattle.lw_words.specs.Words.{is_ignored_word, has_point}
 
 -- what a word that begins with `.` asks for, if it is none of a netlist's own lines
@@ -28,4 +30,5 @@ point_command word =
 
 -- what a first word asks for
 unfoldable pub command_of : List ℕ → Command
-command_of word = if has_point word then point_command word else (if bytes_eq word (codes "#@") then Certificate else Plain)
+command_of word =
+    if has_point word then point_command word else (if bytes_eq word (codes "#@") then Certificate else Plain)

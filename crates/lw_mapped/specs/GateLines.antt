@@ -1,5 +1,6 @@
 -- The gate of a line: its cell, and the nets of the cell's pins and of its output.
-use Rattle.std.specs.Prelude.{ℕ, ◌==◌, Bool, not, ◌&&◌, ◌||◌, nat_lt, List, [], ◌∷◌, ◌++◌, length, map, Option, Some, None, if◌then◌else◌}
+use Rattle.std.specs.Prelude.{ℕ, ◌==◌, Bool, not, ◌&&◌, ◌||◌, nat_lt, List, [], ◌∷◌, ◌++◌, length, map, Option, Some}
+use Rattle.std.specs.Prelude.{None, if◌then◌else◌}
 use Rattle.std.specs.List.{before_first, after_first, list_all, list_any}
 use Rattle.std.specs.Option.{option_or}
 use Rattle.std.specs.Str.{bytes_eq}
@@ -52,7 +53,8 @@ tie_fault cell before word =
 -- the first rule that one of the words breaks, behind these
 unfoldable pub first_tie_fault : CellParts → List (List ℕ) → List (List ℕ) → Option MappedKind
 first_tie_fault cell before [] = None
-first_tie_fault cell before (word ∷ words) = option_or (tie_fault cell before word) (first_tie_fault cell (before ++ word ∷ []) words)
+first_tie_fault cell before (word ∷ words) =
+    option_or (tie_fault cell before word) (first_tie_fault cell (before ++ word ∷ []) words)
 
 -- each pin and the output has a net
 abbrev pub gives_all : CellParts → List (List ℕ) → Bool
@@ -78,4 +80,5 @@ net_for [] formal = []
 net_for (word ∷ words) formal = if is_for formal word then actual_of word else net_for words formal
 
 abbrev pub gate_of : ℕ → CellParts → List (List ℕ) → DraftGate
-gate_of number cell ties = record { cell = record { 0 = number }; pins = map (net_for ties) cell.pins; out = net_for ties cell.output }
+gate_of number cell ties =
+    record { cell = record { 0 = number }; pins = map (net_for ties) cell.pins; out = net_for ties cell.output }

@@ -1,5 +1,6 @@
 -- The first rule that a line of a mapped text breaks, behind the lines before it.
-use Rattle.std.specs.Prelude.{ℕ, Bool, true, false, not, List, [], ◌∷◌, ◌++◌, Option, Some, None, Result, Ok, Err, ⊤, if◌then◌else◌, is_some, codes}
+use Rattle.std.specs.Prelude.{ℕ, Bool, true, false, not, List, [], ◌∷◌, ◌++◌, Option, Some, None, Result, Ok, Err, ⊤}
+use Rattle.std.specs.Prelude.{if◌then◌else◌, is_some, codes}
 use Rattle.std.specs.List.{flat_map}
 use Rattle.std.specs.Str.{bytes_eq}
 use Rattle.lw_words.specs.Lines.{LogicalLine}
@@ -113,7 +114,8 @@ fault_or number None other = other
 -- the first of the lines behind these that breaks a rule
 unfoldable pub first_fault : List CellParts → List LogicalLine → List LogicalLine → Option FaultAt
 first_fault cells before [] = None
-first_fault cells before (line ∷ lines) = fault_or line.number (line_fault cells before line) (first_fault cells (before ++ line ∷ []) lines)
+first_fault cells before (line ∷ lines) =
+    fault_or line.number (line_fault cells before line) (first_fault cells (before ++ line ∷ []) lines)
 
 abbrev pub fault_else : Option FaultAt → Option ℕ → Option FaultAt
 fault_else (Some fault) wire = Some fault

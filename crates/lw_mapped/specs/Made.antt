@@ -13,12 +13,14 @@ use Rattle.lw_mapped.specs.Texts.{net_name}
 use Rattle.lw_mapped.specs.Unmapped.{HasWholeFault}
 
 -- these parts, with the netlist of the draft and the classes that its nets have
-pub record IsMade (draft : GateDraft) (frame : Frame) (starts : List Micro) (labels : List (Option Micro)) (class : List ℕ → Option ClassId) (mapped : Mapped) : Type 0 where
+pub record IsMade (draft : GateDraft) (frame : Frame) (starts : List Micro) (labels : List (Option Micro))
+    (class : List ℕ → Option ClassId) (mapped : Mapped) : Type 0 where
   pub netlist : IsClosed draft mapped.netlist
   pub the_frame : mapped.frame ≡ frame
   pub the_starts : mapped.starts ≡ starts
   pub the_labels : mapped.cert.labels ≡ labels
-  pub classes : mapped.cert.nets ≡ map (λ (gate : Gate). class (net_name mapped.netlist.names gate.out)) mapped.netlist.gates
+  pub classes : mapped.cert.nets ≡ map
+      (λ (gate : Gate). class (net_name mapped.netlist.names gate.out)) mapped.netlist.gates
 
 -- The fault of the whole is told. Running out of memory is always allowed.
 abbrev pub TellsWhole : GateDraft → MappedFault → Type 0

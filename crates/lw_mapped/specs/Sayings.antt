@@ -1,5 +1,6 @@
 -- What a line of a mapped text says by itself, or the first rule that it breaks.
-use Rattle.std.specs.Prelude.{ℕ, ◌==◌, Bool, true, not, ◌&&◌, nat_lt, nat_le, List, [], ◌∷◌, length, drop, position, Option, Some, None, Result, Ok, Err, if◌then◌else◌, codes, decimal, slice_get}
+use Rattle.std.specs.Prelude.{ℕ, ◌==◌, Bool, true, not, ◌&&◌, nat_lt, nat_le, List, [], ◌∷◌, length, drop, position}
+use Rattle.std.specs.Prelude.{Option, Some, None, Result, Ok, Err, if◌then◌else◌, codes, decimal, slice_get}
 use Rattle.std.specs.List.{list_all}
 use Rattle.std.specs.Char.{is_ascii_digit}
 use Rattle.std.specs.Str.{bytes_eq}
@@ -31,7 +32,8 @@ said None what = Ok what
 
 -- the first rule that is broken, of a right number of words and of names in places of names
 abbrev pub fault_in : Bool → Bool → Option MappedKind
-fault_in has_shape has_names = if not has_shape then Some kind.Shape else (if not has_names then Some kind.BadName else None)
+fault_in has_shape has_names =
+    if not has_shape then Some kind.Shape else (if not has_names then Some kind.BadName else None)
 
 abbrev pub are_names : List (List ℕ) → Bool
 are_names words = list_all is_name words
@@ -48,7 +50,8 @@ abbrev pub outputs_say : List (List ℕ) → Result Saying MappedKind
 outputs_say words = said (fault_in true (are_names words)) (saying.Outputs words)
 
 abbrev pub wire_says : List (List ℕ) → Result Saying MappedKind
-wire_says words = said (fault_in (length words == 2) (are_names words)) (saying.Wire (record { from = first_word words; to = second_word words }))
+wire_says words = said (fault_in (length words == 2) (are_names words))
+    (saying.Wire (record { from = first_word words; to = second_word words }))
 
 -- two names, and none to three further ones
 abbrev pub latch_says : List (List ℕ) → Result Saying MappedKind
@@ -84,7 +87,8 @@ default_arrival (Err fault) = Err (kind.Decimal fault)
 
 -- an input, and the decimals of its rise and of its fall
 abbrev pub arrival_says : List (List ℕ) → Result Saying MappedKind
-arrival_says (name ∷ rise ∷ fall ∷ words) = if is_name name then named_arrival name (start_said rise fall) else Err kind.BadName
+arrival_says (name ∷ rise ∷ fall ∷ words) =
+    if is_name name then named_arrival name (start_said rise fall) else Err kind.BadName
 arrival_says words = Err kind.Shape
 
 abbrev pub default_says : List (List ℕ) → Result Saying MappedKind
@@ -96,7 +100,8 @@ default_says words = Err kind.Shape
 -- the class of which the word is the decimal
 unfoldable pub class_said : List ℕ → Option ℕ
 class_said word =
-    if list_all is_ascii_digit word && nat_lt (digits_value 10 word) most_classes && bytes_eq (decimal (digits_value 10 word)) word
+    if list_all is_ascii_digit word && nat_lt (digits_value 10 word) most_classes
+    && bytes_eq (decimal (digits_value 10 word)) word
     then Some (digits_value 10 word) else None
 
 abbrev pub label_of : Option ℕ → Result Micro DecimalFault → Result Saying MappedKind

@@ -1,5 +1,6 @@
 -- What a reader stands for: the lines that it was given, over one library.
-use Rattle.std.specs.Prelude.{ℕ, ◌≡◌, ◌<◌, ◌≤◌, Bool, not, List, [], Option, Some, None, Result, Ok, Err, ⊤, length, sum_by, All, IfSome, IsSome}
+use Rattle.std.specs.Prelude.{ℕ, ◌≡◌, ◌<◌, ◌≤◌, Bool, not, List, [], Option, Some, None, Result, Ok, Err, ⊤, length}
+use Rattle.std.specs.Prelude.{sum_by, All, IfSome, IsSome}
 use Rattle.lw_words.specs.Lines.{LogicalLine}
 use Rattle.lw_genlib.specs.Cells.{CellParts}
 use Rattle.lw_mapped.specs.declared.certificate.Certificate.{Certificate}
@@ -66,7 +67,8 @@ pub record KeepsLines (parts : Parts) (cells : List CellParts) (lines : List Log
   pub said : Keeps parts.contents (lines_say cells lines)
 
 -- This is kept of the lines that were given.
-pub record IsKept (is_begun is_ended : Bool) (stopped : Option Stop) (parts : Parts) (cells : List CellParts) (lines : List LogicalLine) : Type 0 where
+pub record IsKept (is_begun is_ended : Bool) (stopped : Option Stop) (parts : Parts) (cells : List CellParts)
+    (lines : List LogicalLine) : Type 0 where
   pub stop : Stops stopped (first_fault cells [] (lines_read lines))
   pub begun : stopped ≡ None → is_begun ≡ not (is_first lines)
   pub ended : stopped ≡ None → is_ended ≡ has_ended lines

@@ -1,5 +1,6 @@
 -- The mapped text of a netlist.
-use Rattle.std.specs.Prelude.{ℕ, suc, ◌≡◌, ◌==◌, ◌<◌, ◌≤◌, All, List, [], ◌∷◌, ◌++◌, Option, Some, None, ⊤, length, map, take, if◌then◌else◌, codes, decimal, slice_get, slice_index_or}
+use Rattle.std.specs.Prelude.{ℕ, suc, ◌≡◌, ◌==◌, ◌<◌, ◌≤◌, All, List, [], ◌∷◌, ◌++◌, Option, Some, None, ⊤, length, map}
+use Rattle.std.specs.Prelude.{take, if◌then◌else◌, codes, decimal, slice_get, slice_index_or}
 use Rattle.std.specs.List.{flat_map}
 use Rattle.std.specs.Borrow.{Bor}
 use Rattle.std.specs.Str.{bytes_eq}
@@ -40,7 +41,8 @@ ties names (pin ∷ pins) [] = []
 
 -- the cell, the pins and then the output
 abbrev pub gate_words : List (List ℕ) → Gate → CellParts → List (List ℕ)
-gate_words names gate cell = cell.name ∷ ties names cell.pins gate.pins ++ tie cell.output (net_name names gate.out) ∷ []
+gate_words names gate cell =
+    cell.name ∷ ties names cell.pins gate.pins ++ tie cell.output (net_name names gate.out) ∷ []
 
 abbrev pub gate_line : List (List ℕ) → Gate → Option CellParts → List ℕ
 gate_line names gate None = []
@@ -55,7 +57,8 @@ wire net output = codes ".names" ++ spaced_word net ++ spaced_word output ++ cod
 
 -- an output whose net has another name has a wire
 abbrev pub wire_text : List (List ℕ) → Port → List ℕ
-wire_text names port = if bytes_eq (net_name names port.net) port.name then [] else wire (net_name names port.net) port.name
+wire_text names port =
+    if bytes_eq (net_name names port.net) port.name then [] else wire (net_name names port.net) port.name
 
 -- The frame.
 
@@ -98,7 +101,8 @@ optional_net name (Some class) = net_line name class
 
 -- the classes of the gates that have one
 abbrev pub net_lines : List (List ℕ) → List Gate → List (Option ClassId) → List ℕ
-net_lines names (gate ∷ gates) (class ∷ classes) = optional_net (net_name names gate.out) class ++ net_lines names gates classes
+net_lines names (gate ∷ gates) (class ∷ classes) =
+    optional_net (net_name names gate.out) class ++ net_lines names gates classes
 net_lines names [] classes = []
 net_lines names (gate ∷ gates) [] = []
 
@@ -145,7 +149,8 @@ pub record IsFramed (n : NetlistParts) (frame : Frame) (starts : List Micro) : T
   pub one_start : length starts ≡ n.inputs
 
 -- a netlist of these cells has a text: with this frame, these starts and this certificate
-pub record HasMappedText (cells : List CellParts) (n : NetlistParts) (frame : Frame) (starts : List Micro) (certificate : Option Certificate) : Type 0 where
+pub record HasMappedText (cells : List CellParts) (n : NetlistParts) (frame : Frame) (starts : List Micro)
+    (certificate : Option Certificate) : Type 0 where
   pub over : IsOver cells n
   pub framed : IsFramed n frame starts
   pub classes : HasGateClasses n certificate

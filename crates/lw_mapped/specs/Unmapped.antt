@@ -1,5 +1,7 @@
--- What the lines of a mapped text come to: one netlist, with what stands around it and with its certificate, or one fault.
-use Rattle.std.specs.Prelude.{ℕ, ◌≡◌, List, [], ◌∷◌, ◌++◌, length, map, Option, Some, None, Result, Ok, Err, ⊤, codes, slice_index_or}
+-- What the lines of a mapped text come to: one netlist, with what stands around it and with its certificate, or one
+-- fault.
+use Rattle.std.specs.Prelude.{ℕ, ◌≡◌, List, [], ◌∷◌, ◌++◌, length, map, Option, Some, None, Result, Ok, Err, ⊤, codes}
+use Rattle.std.specs.Prelude.{slice_index_or}
 use Rattle.std.specs.List.{flat_map}
 use Rattle.lw_words.specs.Lines.{LogicalLine}
 use Rattle.lw_fixed.specs.declared.micro.Micro.{Micro}
@@ -18,7 +20,8 @@ use Rattle.lw_mapped.specs.declared.closing.Mapped.{Mapped}
 use Rattle.lw_mapped.specs.declared.fault.MappedFault.{MappedFault}
 use Rattle.lw_mapped.specs.declared.fault.MappedFault.TheVariants as fault
 use Rattle.lw_mapped.specs.declared.saying.Saying.{Saying}
-use Rattle.lw_mapped.specs.Said.{models_in, inputs_in, outputs_in, gates_in, wires_in, latches_in, arrivals_in, labels_in, nets_in, label_among, class_among}
+use Rattle.lw_mapped.specs.Said.{models_in, inputs_in, outputs_in, gates_in, wires_in, latches_in, arrivals_in}
+use Rattle.lw_mapped.specs.Said.{labels_in, nets_in, label_among, class_among}
 use Rattle.lw_mapped.specs.LineFaults.{FaultAt, text_fault, lines_read, lines_say}
 use Rattle.lw_mapped.specs.Texts.{net_name}
 use Rattle.lw_words.specs.Words.{first_word}

@@ -28,6 +28,7 @@ impl OptMicros {
         OptMicros { items }
     }
 
+    /// The labels, one for each class.
     pub fn as_slice(&self) -> &[Option<Micro>]
         ensures { result.now ≡ self.now }
     {
@@ -58,6 +59,7 @@ impl OptClasses {
         OptClasses { items }
     }
 
+    /// The classes of the gates, in order.
     pub fn as_slice(&self) -> &[Option<ClassId>]
         ensures { result.now ≡ self.now }
     {

@@ -1,6 +1,7 @@
 // The lines of a certificate.
 ghost use Rattle.std.specs.Prelude.{◌≡◌, ◌<◌, length, All};
-ghost use Rattle.lw_mapped.specs.Texts.{label_line, optional_label, label_lines, net_line, optional_net, net_lines, HasNames};
+ghost use Rattle.lw_mapped.specs.Texts.{label_line, optional_label, label_lines, net_line};
+ghost use Rattle.lw_mapped.specs.Texts.{optional_net, net_lines, HasNames};
 ghost use Rattle.lw_io.specs.Writers.{Writes};
 
 use crate::lines::{name_of, put_word};

@@ -1,5 +1,6 @@
 // The netlist of what lines say, with its frame, its starts and its certificate.
-ghost use Rattle.std.specs.Prelude.{◌≡◌, ◌<◌, length, map, All, IfOk, IfErr, unwrap_or, codes, slice_get, Some};
+ghost use Rattle.std.specs.Prelude.{◌≡◌, ◌<◌, length, map, All, IfOk, IfErr, unwrap_or, codes};
+ghost use Rattle.std.specs.Prelude.{slice_get, Some};
 ghost use Rattle.std.specs.Str.{bytes_eq};
 ghost use Rattle.indexmap.specs.IndexMap.{get};
 ghost use Rattle.indexmap.specs.IndexSet.{index_set_len};

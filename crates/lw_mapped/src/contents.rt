@@ -1,5 +1,6 @@
 // What lines say together, as far as they were read.
-ghost use Rattle.std.specs.Prelude.{◌≡◌, ◌==◌, ◌<◌, ◌≤◌, ◌++◌, [], ℕ, List, None, Some, max, is_some, length, slice_index_or, OnOk, if◌then◌else◌};
+ghost use Rattle.std.specs.Prelude.{◌≡◌, ◌==◌, ◌<◌, ◌≤◌, ◌++◌, [], ℕ, List, None, Some, max};
+ghost use Rattle.std.specs.Prelude.{is_some, length, slice_index_or, OnOk, if◌then◌else◌};
 ghost use Rattle.std.specs.Str.{bytes_eq};
 ghost use Rattle.indexmap.specs.IndexMap.{get};
 ghost use Rattle.indexmap.specs.IndexSet.{insert_all};
@@ -35,6 +36,7 @@ impl Contents {
     ghost use Rattle.lw_mapped.specs.Keeping.{Keeps, Takes};
     ghost use Rattle.lw_mapped.specs.declared.fault.MappedKind.{MappedKind};
 
+    /// Nothing was read yet.
     pub fn new(alloc: Global) -> Self
         ensures { Keeps result [] }
     {

@@ -1,33 +1,11 @@
 // Words in places of names.
 ghost use Rattle.std.specs.Prelude.{◌≡◌, ◌<◌, length, drop, slice_index_or, [], IfOk};
 ghost use Rattle.lw_mapped.specs.Sayings.{fault_in, are_names};
-ghost use Rattle.lw_words.specs.Words.{is_name};
 
 use crate::MappedKind;
 use lw_pool::{Name, Names};
-use lw_words::Words;
+use lw_words::{Words, are_names};
 use std::alloc::{AllocError, Global};
-
-const NAME_MAX: usize = 2000;
-
-/// Whether a word may be a name.
-pub(crate) fn is_name(word: &[u8]) -> bool
-    ensures { result ≡ is_name word.now }
-{
-    word.len() <= NAME_MAX && !word.ends_with(b"\\")
-}
-
-// Whether all words but the first are names.
-fn are_names(words: &Words) -> bool
-    ensures { result ≡ are_names (drop 1 words.now) }
-{
-    for i in 1..words.len() {
-        if !is_name(words.get(i)) {
-            return false;
-        }
-    }
-    true
-}
 
 /// The first rule that a line of names breaks.
 pub(crate) fn names_fault(has_shape: bool, words: &Words) -> Option<MappedKind>
@@ -36,7 +14,7 @@ pub(crate) fn names_fault(has_shape: bool, words: &Words) -> Option<MappedKind>
     if !has_shape {
         return Some(MappedKind::Shape);
     }
-    if !are_names(words) {
+    if !are_names(words, 1) {
         return Some(MappedKind::BadName);
     }
     None

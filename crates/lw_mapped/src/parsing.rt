@@ -10,7 +10,7 @@ ghost use Rattle.lw_mapped.specs.Limits.{label_units};
 ghost use Rattle.lw_laws.specs.Graphs.{most_classes};
 
 use crate::command::Command;
-use crate::naming::{is_name, name_at, names_fault, names_from};
+use crate::naming::{name_at, names_fault, names_from};
 use crate::ties::{gate_of, ties_fault};
 use crate::{MappedKind, Refusal, Saying};
 use itoa::Buffer;
@@ -19,7 +19,7 @@ use lw_frame::read_start;
 use lw_genlib::Library;
 use lw_netlist::Wire;
 use lw_pool::{ClassId, Latch};
-use lw_words::{Words, is};
+use lw_words::{Words, is, is_name};
 use std::alloc::Global;
 
 // How many class numbers there are.

@@ -46,6 +46,7 @@ impl Parts {
     ghost use Rattle.lw_mapped.specs.declared.saying.Saying.{Saying as Told};
     ghost use Rattle.lw_mapped.specs.Standing.{KeepsLines};
 
+    /// Nothing was said yet.
     pub fn new(alloc: Global) -> Self
         ensures { (cells : List CellParts) → KeepsLines result cells [] }
     {

@@ -69,9 +69,11 @@ impl MappedReader {
     ghost use Rattle.lw_genlib.specs.Cells.{CellParts};
     ghost use Rattle.lw_mapped.specs.LineFaults.{first_fault, lines_read};
     ghost use Rattle.lw_mapped.specs.Unmapped.{IsUnmapped};
-    ghost use Rattle.lw_mapped.specs.Standing.{StandsFor, IsGivenFew, Tells, StaysStopped, stop_of, fault_of};
+    ghost use Rattle.lw_mapped.specs.Standing.{StandsFor, IsGivenFew, Tells, StaysStopped, stop_of};
+    ghost use Rattle.lw_mapped.specs.Standing.{fault_of};
     ghost use Rattle.lw_mapped.specs.Closings.{IsReadOver, HasFewGates};
 
+    /// A reader of a mapped netlist, before its first line.
     pub fn new(alloc: Global) -> Self
         ensures { (cells : List CellParts) → StandsFor result cells [] }
     {

@@ -1,15 +1,17 @@
 // The words of a gate: `PIN=NET` for each pin, and `OUTPUT=NET`.
-ghost use Rattle.std.specs.Prelude.{◌≡◌, ◌<◌, [], All, ◌≤◌, None, length, drop, map, ◌++◌, IfOk, OnOk, slice_index_or};
+ghost use Rattle.std.specs.Prelude.{◌≡◌, ◌<◌, [], All, ◌≤◌, None, length, drop, map, ◌++◌, IfOk};
+ghost use Rattle.std.specs.Prelude.{OnOk, slice_index_or};
 ghost use Rattle.std.specs.List.{before_first, after_first, slice_range, position, position_or_len};
-ghost use Rattle.lw_mapped.specs.GateLines.{is_equals, is_for, gives, is_formal, tie_fault, first_tie_fault, gives_all, ties_fault, net_for, gate_of};
+ghost use Rattle.lw_mapped.specs.GateLines.{is_equals, is_for, gives, is_formal, tie_fault};
+ghost use Rattle.lw_mapped.specs.GateLines.{first_tie_fault, gives_all, ties_fault, net_for};
+ghost use Rattle.lw_mapped.specs.GateLines.{gate_of};
 ghost use Rattle.lw_words.specs.Words.{is_among};
 
 use crate::MappedKind;
-use crate::naming::is_name;
 use lw_genlib::Cell;
 use lw_netlist::SpelledGate;
 use lw_pool::{CellId, Name};
-use lw_words::Words;
+use lw_words::{Words, is_name};
 use std::alloc::{AllocError, Global};
 
 // The place of the first of these words.

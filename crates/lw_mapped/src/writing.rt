@@ -1,7 +1,8 @@
 // The mapped text of a netlist.
 ghost use Rattle.std.specs.Prelude.{◌≡◌, ◌≤◌, length, take};
 ghost use Rattle.lw_netlist.specs.Plain.{IsOver};
-ghost use Rattle.lw_mapped.specs.Texts.{mapped_text, certificate_text, header_text, now_of, HasGateClasses, HasMappedText, IsFramed};
+ghost use Rattle.lw_mapped.specs.Texts.{mapped_text, certificate_text, header_text, now_of};
+ghost use Rattle.lw_mapped.specs.Texts.{HasGateClasses, HasMappedText, IsFramed};
 ghost use Rattle.lw_io.specs.Waitings.{IsTaken};
 ghost use Rattle.lw_io.specs.Writers.{Writes};
 

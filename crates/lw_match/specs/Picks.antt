@@ -13,7 +13,7 @@ use Rattle.lw_cost.specs.Least.{Priced, IsPricedAt, IsMarkBefore}
 use Rattle.lw_bounds.specs.Cuts.{cuts_state, root_side}
 use Rattle.lw_match.specs.Cutting.{AreCertified}
 use Rattle.lw_bounds.specs.Places.{list_at, list_of, root_of}
-use Rattle.lw_match.specs.Queries.{AreTrue, IsPricedIn, IsQuery}
+use Rattle.lw_match.specs.Queries.{AreCertifiedFor, AreTrue, IsPricedIn, IsQuery}
 use Rattle.lw_branch.specs.Searching.{Improves}
 
 -- a mark that is not before the bound when it is one higher
@@ -36,6 +36,12 @@ pub record IsPick {C : Type 0} (costs : C → Cost) (q : Query C) (p : Pick) : T
   pub bounds : AreTrue q
   pub rooted : length q.site.pats.now ≤ length q.site.cuts.now.roots.now
   pub sure : AreCertified (costs q.site.cost.now) q.site.pats.now (cuts_state q.site.cuts.now).gaps p.top
+  pub last : AreLastIn costs q (plain_mark p.bound)
+
+-- the gaps are certified at the top, which is above the cost of the bound, and the matches are last before that
+pub record IsSurePick {C : Type 0} (costs : C → Cost) (q : Query C) (p : Pick) : Type 0 where
+  pub sure : AreCertifiedFor costs q p.top
+  pub below : p.bound.cost < p.top
   pub last : AreLastIn costs q (plain_mark p.bound)
 
 -- such a choice, by a query

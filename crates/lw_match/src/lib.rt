@@ -45,6 +45,7 @@ mod finding;
 mod hunting;
 mod improving;
 mod query;
+mod scratch;
 mod site;
 mod sweeping;
 mod target;
@@ -59,4 +60,5 @@ pub use lw_cost::{
     Best, Cost, Mark, Match, Pins, library_patterns_are_of_cells, matches_have_cells,
 };
 pub use lw_cursor::Cursor;
+pub use scratch::Scratch;
 pub use tops::Tops;

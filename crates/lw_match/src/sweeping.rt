@@ -6,10 +6,10 @@ ghost use Rattle.lw_match.specs.Hunts.{HuntsOn, HasNoneAtAll, HasNoneByRoot, Has
 
 use crate::hunting::find_better_by;
 use crate::query::Query;
+use crate::scratch::Scratch;
 use crate::target::Target;
 use crate::want::{Want, target_after, target_of};
 use lw_bounds::{Root, list_at, shifted};
-use lw_branch::Unbound;
 use lw_cost::{Best, Cost};
 use lw_pool::PatId;
 
@@ -19,19 +19,19 @@ use lw_pool::PatId;
 pub(crate) struct Hunt {
     pub(crate) target: Target,
     pub(crate) found: Option<Best>,
-    pub(crate) unbound: Unbound,
+    pub(crate) scratch: Scratch,
 }
 
 impl Hunt {
     /// A hunt that has found nothing.
     #[inline(always)]
-    pub(crate) fn new(want: Want) -> Self
+    pub(crate) fn new(want: Want, scratch: Scratch) -> Self
         ensures { IsNewHunt want result }
     {
         Hunt {
             target: target_of(want),
             found: None,
-            unbound: Unbound::new(),
+            scratch,
         }
     }
 
@@ -73,7 +73,7 @@ pub(crate) fn hunt_by<C: Cost>(query: &Query<C>, pat: PatId, hunt: &mut Hunt)
     ensures goes_on { HuntsOn C.costs query.now hunt.old hunt.new }
     ensures none { IsWholeHunt hunt.new → HasNoneLeft C.costs query.now hunt.new pat.0 }
 {
-    if let Some(best) = find_better_by(query, pat, hunt.target, &mut hunt.unbound) {
+    if let Some(best) = find_better_by(query, pat, hunt.target, &mut hunt.scratch) {
         hunt.target = target_after(hunt.target, best.mark);
         hunt.found = Some(best);
     }

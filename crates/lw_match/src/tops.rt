@@ -1,16 +1,19 @@
 // Costs at which the gaps of all patterns may be trusted, remembered over many searches.
-ghost use Rattle.std.specs.Prelude.{◌≡◌, ◌<◌, ◌≤◌, ◌≢◌, IsTrue, ℕ, length};
+ghost use Rattle.std.specs.Prelude.{◌≡◌, ◌<◌, ◌≤◌, ◌≢◌, IfOk, IsTrue, ℕ, length};
 ghost use Rattle.lw_cost.specs.Least.{AreOfCells};
 ghost use Rattle.lw_bounds.specs.Numbers.{never};
 ghost use Rattle.lw_match.specs.Queries.{AreCertifiedFor, AreKnownFor, HasPatternsOfCells};
 ghost use Rattle.lw_match.specs.Cutting.{AreCertified, AreKnown, IsLikeLast, most_tops};
 
 use crate::query::Query;
+use crate::scratch::Scratch;
 use lw_bounds::{Bounds, gaps_at, is_certified_by, known_of};
 use lw_cost::Cost;
 use lw_pattern::Patterns;
 use lw_pool::PatId;
+use std::alloc::{AllocError, Global};
 use std::marker::Model;
+use std::mem;
 
 /// How many costs are remembered at most, besides the one up to which all are known.
 const PLACES: usize = 4096;
@@ -76,6 +79,7 @@ fn place_of(top: u64) -> usize
 pub struct Tops {
     known: u64,
     tops: [u64; PLACES],
+    scratch: Scratch,
 }
 
 impl Model for Tops {
@@ -91,14 +95,34 @@ impl Model for Tops {
 
 impl Tops {
     /// What is known of the patterns' gaps by the cost alone, without a call of `value`.
-    pub fn new<C: Cost>(pats: &Patterns, cost: &C, bounds: &Bounds) -> Self
+    pub fn new<C: Cost>(
+        alloc: Global,
+        pats: &Patterns,
+        cost: &C,
+        bounds: &Bounds,
+    ) -> Result<Self, AllocError>
         requires { AreOfCells (C.costs cost.now).pin_counts pats.now }
-        ensures { AreKnown (C.costs cost.now) pats.now bounds.now.gaps result }
+        ensures { IfOk result (AreKnown (C.costs cost.now) pats.now bounds.now.gaps) }
     {
-        Tops {
+        Ok(Tops {
             known: known_up_to(pats, cost, bounds.cuts().gaps),
             tops: [u64::MAX; PLACES],
-        }
+            scratch: Scratch::with_room(alloc)?,
+        })
+    }
+
+    /// Lends what searches use, until it is given back.
+    pub(crate) fn lent(&mut self) -> Scratch
+        ensures { self.new ≡ self.old }
+    {
+        mem::replace(&mut self.scratch, Scratch::new())
+    }
+
+    /// Takes back what searches use.
+    pub(crate) fn give_back(&mut self, scratch: Scratch)
+        ensures { self.new ≡ self.old }
+    {
+        drop(mem::replace(&mut self.scratch, scratch));
     }
 
     /// Whether the gaps of all patterns are certified at the cost `top`, so that a search that

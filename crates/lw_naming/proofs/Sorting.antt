@@ -7,7 +7,7 @@ use Rattle.std.proofs.lemmas.List.Elements.{All-contains, Contains-push_cases}
 use Rattle.std.proofs.lemmas.List.Sorted.{Contains-permutation, IsPermutation-sym}
 use Rattle.std.proofs.lemmas.Map.Keys.{IsDistinct-from_apart, IsDistinct-IsPermutation, apart_from_distinct}
 use Rattle.std.proofs.lemmas.Option.{none-some, slice_get_within, slice_get-get_or, get_or_from_slice_get}
-use Rattle.lw_facts.proofs.Lists.{at_contained, get_push_cases}
+use Rattle.lw_facts.proofs.Lists.{at_contained, get_last_cases}
 use Rattle.lw_facts.proofs.Tests.{eq_lower}
 use Rattle.lw_naming.specs.declared.places.Place.{Place}
 use Rattle.lw_naming.specs.Places.{place_key, IsPlaceBefore, AreInClassOrder, AreInDepthOrder}
@@ -27,18 +27,18 @@ in_order_none = record {
 pub in_order_push : (count : ℕ) (places : List Place) (p : Place) → p.class.0 ≡ count → AreInOrderBelow count places → AreInOrderBelow (count + 1) (places ++ p ∷ [])
 in_order_push count places p is are = record {
   below = λ q k. below_at q (Contains-push_cases places p q k);
-  rising = λ i j q r e f lt. rising_at i j q r lt (get_push_cases places p i q e) (get_push_cases places p j r f);
+  rising = λ i j q r e f lt. rising_at i j q r lt (get_last_cases places p i q e) (get_last_cases places p j r f);
 }
   where
     below_at : (q : Place) → Contains places q ⊎ (p ≡ q) → q.class.0 < count + 1
     below_at q (inl k) = let lt = are.below q k in omega arith
     below_at q (inr e) = let s : p.class.0 ≡ q.class.0 = ap (λ (z : Place). z.class.0) e in omega (arith, s, is)
 
-    rising_at : (i j : ℕ) (q r : Place) → i < j → (slice_get places i ≡ Some q) ⊎ ((i ≡ length places) × (p ≡ q)) → (slice_get places j ≡ Some r) ⊎ ((j ≡ length places) × (p ≡ r)) → q.class.0 < r.class.0
+    rising_at : (i j : ℕ) (q r : Place) → i < j → (slice_get places i ≡ Some q) ⊎ ((i ≡ length places) × (q ≡ p)) → (slice_get places j ≡ Some r) ⊎ ((j ≡ length places) × (r ≡ p)) → q.class.0 < r.class.0
     rising_at i j q r lt (inl e) (inl f) = are.rising i j q r e f lt
     rising_at i j q r lt (inl e) (inr (s, f)) =
         let low = are.below q (at_contained places i q e) in
-        let t : p.class.0 ≡ r.class.0 = ap (λ (z : Place). z.class.0) f in
+        let t : r.class.0 ≡ p.class.0 = ap (λ (z : Place). z.class.0) f in
         omega (arith, low, t, is)
     rising_at i j q r lt (inr (s, e)) (inl f) = let in' = slice_get_within places j r f in absurd (omega (arith, in', s, lt))
     rising_at i j q r lt (inr (s, e)) (inr (t, f)) = absurd (omega (arith, s, t, lt))

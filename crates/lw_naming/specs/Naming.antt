@@ -1,5 +1,6 @@
 -- The numbered names that are still to come, and the first outputs of classes.
-use Rattle.std.specs.Prelude.{ℕ, ◌-◌, ◌^◌, ◌<◌, ◌≤◌, ◌≡◌, ◌==◌, ◌||◌, not, List, ◌∷◌, length, filter, Option, None, MatchOption, slice_index_or}
+use Rattle.std.specs.Prelude.{ℕ, ◌-◌, ◌^◌, ◌<◌, ◌≤◌, ◌≡◌, ◌==◌, ◌||◌, not, List, ◌∷◌, length, filter, Option, None}
+use Rattle.std.specs.Prelude.{MatchOption, slice_index_or}
 use Rattle.std.specs.List.{position_from}
 use Rattle.lw_pool.specs.declared.id.ClassId.{ClassId}
 use Rattle.lw_laws.specs.Names.{is_name_among, numbered_names}
@@ -7,7 +8,8 @@ use Rattle.lw_naming.specs.declared.free_names.FreeNames.{FreeNames}
 
 -- the new names are the old ones and these
 abbrev pub HoldsAlso : List (List ℕ) → List (List ℕ) → List (List ℕ) → Type 0
-HoldsAlso old new names = (name : List ℕ) → is_name_among name new ≡ (is_name_among name old || is_name_among name names)
+HoldsAlso old new names =
+    (name : List ℕ) → is_name_among name new ≡ (is_name_among name old || is_name_among name names)
 
 -- the names with the numbers from one on and below another that are not taken
 abbrev pub free_between : List (List ℕ) → ℕ → ℕ → List (List ℕ)
@@ -25,7 +27,8 @@ pub record HasFree (free : FreeNames) (count : ℕ) : Type 0 where
 
 -- the name came next, whatever the last number is
 abbrev pub IsNextFree : FreeNames → List ℕ → FreeNames → Type 0
-IsNextFree old name new = (last : ℕ) → 0 < length (still_free old last) → still_free old last ≡ name ∷ still_free new last
+IsNextFree old name new =
+    (last : ℕ) → 0 < length (still_free old last) → still_free old last ≡ name ∷ still_free new last
 
 -- the name that is given, or else the next free one
 abbrev pub IsGivenOrFree : Option (List ℕ) → FreeNames → List ℕ → FreeNames → Type 0

@@ -11,8 +11,10 @@ IsPlaceBefore p q = (p.depth < q.depth) ⊎ ((p.depth ≡ q.depth) × (p.class.0
 
 -- in the order of the classes' numbers
 abbrev pub AreInClassOrder : List Place → Type 0
-AreInClassOrder places = (i j : ℕ) (p q : Place) → slice_get places i ≡ Some p → slice_get places j ≡ Some q → i < j → p.class.0 < q.class.0
+AreInClassOrder places =
+    (i j : ℕ) (p q : Place) → slice_get places i ≡ Some p → slice_get places j ≡ Some q → i < j → p.class.0 < q.class.0
 
 -- by depth and then class
 abbrev pub AreInDepthOrder : List Place → Type 0
-AreInDepthOrder places = (i j : ℕ) (p q : Place) → slice_get places i ≡ Some p → slice_get places j ≡ Some q → i < j → IsPlaceBefore p q
+AreInDepthOrder places =
+    (i j : ℕ) (p q : Place) → slice_get places i ≡ Some p → slice_get places j ≡ Some q → i < j → IsPlaceBefore p q

@@ -58,7 +58,8 @@ impl<'a> Owners<'a> {
 
     // The name of the first output of a class.
     pub(crate) fn name(&self, class: ClassId) -> Option<&Name>
-        ensures { let name = output_name self.now.outputs.now (numbers self.now.roots.now) class.0 in
+        ensures { let name = output_name self.now.outputs.now
+            (numbers self.now.roots.now) class.0 in
             MatchOption result (name ≡ None) (λ first. name ≡ Some first.now) }
     {
         let first = self.firsts.get(class.0 as usize)?;

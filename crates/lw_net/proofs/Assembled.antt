@@ -9,6 +9,7 @@ use Rattle.std.specs.List.{IsDistinct, flat_map}
 use Rattle.std.specs.List.Sorted.{IsPermutation, IsNonDecreasingBy}
 use Rattle.std.specs.Str.{bytes_eq}
 use Rattle.std.proofs.Math.Nat.{add-sub_cancel_left}
+use Rattle.lw_facts.proofs.Lists.{IsImage, image_at}
 use Rattle.lw_pool.specs.declared.id.NetId.{NetId}
 use Rattle.lw_net.specs.declared.draft.Draft.{Draft}
 use Rattle.lw_net.specs.declared.draft.DraftNode.{DraftNode}
@@ -19,7 +20,6 @@ use Rattle.lw_net.specs.Plain.{plain_node, HasRisingDepths}
 use Rattle.lw_laws.specs.Networks as laws
 use Rattle.lw_laws.specs.Networks.{greatest_depth}
 use Rattle.lw_net.specs.Ordering.{AreRight, TellDepths}
-use Rattle.lw_net.proofs.Filling.{IsImage, image_at}
 use Rattle.lw_dag.proofs.Sorting.{greatest-above}
 use Rattle.lw_dag.proofs.Numbering.{number_at, number_of, number_below, name_again, none_unknown, none_split, distinct_moved}
 use Rattle.lw_dag.proofs.Named.{fanins_known}

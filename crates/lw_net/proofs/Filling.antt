@@ -1,10 +1,11 @@
 -- Values of nets, filled in one node after another.
-use Rattle.std.proofs.Common.{◌≡◌, ◌≢◌, ℕ, zero, suc, ◌+◌, ◌<◌, ◌⊎◌, inl, inr, Bool, true, false, not, ◌&&◌, cond, List, [], ◌∷◌, length, map, drop, get_or, set, slice_get, All, Option, Some, None, refl, sym, ap, ap₂, ◌∙◌, arith, eqb, get_or-set_same, get_or-set_other}
+use Rattle.std.proofs.Common.{◌≡◌, ◌≢◌, ℕ, ◌+◌, ◌<◌, ◌⊎◌, inl, inr, Bool, true, false, not, ◌&&◌, cond, List, [], ◌∷◌, length, map, drop, get_or, set, slice_get, All, Option, Some, None, refl, sym, ap, ap₂, ◌∙◌, arith, eqb, get_or-set_same, get_or-set_other}
 use Rattle.std.proofs.lemmas.List.{drop_more, get_or-map, length-map}
 use Rattle.std.proofs.lemmas.List.Elements.{All-weaker}
-use Rattle.std.proofs.lemmas.Option.{same_Some, none-some, slice_get_within, slice_get-get_or}
+use Rattle.std.proofs.lemmas.Option.{same_Some, slice_get_within, slice_get-get_or}
 use Rattle.std.proofs.lemmas.Bool.{cases_eq}
 use Rattle.std.specs.List.{list_any}
+use Rattle.lw_facts.proofs.Lists.{image_at}
 use Rattle.lw_laws.specs.Networks.{row_value, node_value, agrees, AreValues, given}
 use Rattle.lw_pool.specs.declared.id.NetId.{NetId}
 use Rattle.lw_net.specs.declared.node.Node.{Node}
@@ -65,17 +66,6 @@ IsFilled-more nodes first n values v node facts within here is filled = record {
         let apart : first + j ≢ first + n = omega arith in
         let before = All-weaker (λ (net : NetId). net.0 < first + j) (λ (net : NetId). net.0 < first + n) (λ net lt. omega arith) other.fanins (facts j other at).before in
         get_or-set_other values (first + n) (first + j) v false apart ∙ (filled.each j other lower at ∙ sym (node_value-set values (first + n) v other before))
-
--- an element of a map
-pub record IsImage {A B : Type 0} (f : A → B) (xs : List A) (j : ℕ) (y : B) : Type 0 where
-  pub from : A
-  pub at : slice_get xs j ≡ Some from
-  pub is : f from ≡ y
-
-pub image_at : {A B : Type 0} (f : A → B) (xs : List A) (j : ℕ) (y : B) → slice_get (map f xs) j ≡ Some y → IsImage f xs j y
-image_at f [] j y e = absurd (none-some y e)
-image_at f (x ∷ xs) zero y e = record { from = x; at = refl; is = same_Some (f x) y e }
-image_at f (x ∷ xs) (suc j) y e = let i = image_at f xs j y e in record { from = i.from; at = i.at; is = i.is }
 
 -- inputs that are copied, and nodes that are filled in
 pub filled_values : (net : NetworkParts) (x before values : List Bool) → length x ≡ net.inputs → length values ≡ net.inputs + length net.nodes → ((i : ℕ) → i < length x → get_or values i false ≡ get_or before i false) → ((i : ℕ) → i < length x → get_or before i false ≡ get_or x i false) → ((j : ℕ) (node : Node) → slice_get net.nodes j ≡ Some node → get_or values (length x + j) false ≡ node_value values (plain_node node)) → AreValues (plain net) (given x) values

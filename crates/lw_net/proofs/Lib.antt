@@ -4,7 +4,9 @@ pub mod Closed
 pub mod Filling
 pub mod NamedOrder
 pub mod Names
+pub mod Nets
 pub mod Paths
 pub mod Placing
 pub mod Rise
+pub mod Unions
 pub mod Writing

@@ -5,8 +5,9 @@ use Rattle.std.proofs.lemmas.List.{take_more, at_drop_more, get_or_read, get_or-
 use Rattle.std.proofs.lemmas.Bool.{false≢true}
 use Rattle.std.specs.List.{list_any, flat_map, IsDistinct}
 use Rattle.std.specs.Str.{bytes_eq}
+use Rattle.lw_facts.proofs.Lists.{none_before}
 use Rattle.indexmap.specs.IndexSet.{insert_key}
-use Rattle.lw_dag.proofs.Names.{find_first, find_later, none_before}
+use Rattle.lw_dag.proofs.Names.{find_first, find_later}
 use Rattle.lw_net.specs.declared.draft.DraftNode.{DraftNode}
 use Rattle.lw_net.specs.declared.fault.NetFault.{NetFault}
 use Rattle.lw_net.specs.declared.fault.NetFault.TheVariants.{Undefined, Cycle, Memory}

@@ -1,11 +1,11 @@
 -- The plain network of a closed draft: in order, with depths that rise.
 use Rattle.std.proofs.Common.{ℕ, ◌+◌, ◌<◌, map, Contains, sym, subst}
 use Rattle.std.proofs.lemmas.List.Elements.{All-map, All-contains}
+use Rattle.lw_facts.proofs.Lists.{IsImage, image_at}
 use Rattle.lw_laws.specs.Networks as laws
 use Rattle.lw_laws.specs.Networks.{IsInOrder}
 use Rattle.lw_net.specs.Networks.{NetworkParts, IsNetwork}
 use Rattle.lw_net.specs.Plain.{plain, plain_node}
-use Rattle.lw_net.proofs.Filling.{IsImage, image_at}
 use Rattle.lw_pool.specs.Numbers.{net_number}
 
 pub in_order : (net : NetworkParts) → IsNetwork net → IsInOrder (plain net)

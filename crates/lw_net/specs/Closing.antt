@@ -1,5 +1,6 @@
 -- What a draft is closed to: a network, or the first signal that nothing drives, or the first node on a cycle.
-use Rattle.std.specs.Prelude.{ℕ, ◌+◌, ◌<◌, ◌≤◌, ◌≡◌, ◌==◌, not, Option, Some, None, ⊤, List, ◌++◌, map, length, filter, find, slice_get, Contains, All}
+use Rattle.std.specs.Prelude.{ℕ, ◌+◌, ◌<◌, ◌≤◌, ◌≡◌, ◌==◌, not, Option, Some, None, ⊤, List, ◌++◌, map, length, filter}
+use Rattle.std.specs.Prelude.{find, slice_get, Contains, All}
 use Rattle.std.specs.List.{flat_map, range_with_len, IsDistinct}
 use Rattle.std.specs.Str.{bytes_eq}
 use Rattle.lw_pool.specs.Numbers.{most_signals}
@@ -27,7 +28,8 @@ signals_of draft = draft.inputs ++ map out_of draft.nodes
 pub record IsDraft (draft : Draft) : Type 0 where
   pub signals : IsDistinct bytes_eq (signals_of draft)
   pub outputs : IsDistinct bytes_eq draft.outputs
-  pub columns : All (λ (node : DraftNode). All (λ (row : List ℕ). length row ≡ length node.fanins) node.rows) draft.nodes
+  pub columns : All
+      (λ (node : DraftNode). All (λ (row : List ℕ). length row ≡ length node.fanins) node.rows) draft.nodes
   pub few : length (signals_of draft) ≤ most_signals
 
 -- the first of some names that is none of the signals
@@ -40,8 +42,10 @@ first_undefined draft = undefined_in (signals_of draft) (flat_map fanins_of draf
 
 -- From one name the other is reached through fan-ins: it is a fan-in of what drives the first, or is reached from one.
 pub data Reaches (nodes : List DraftNode) : List ℕ → List ℕ → Type 0 where
-  by_fanin : {from to : List ℕ} (node : DraftNode) → Contains nodes node → node.out ≡ from → Contains node.fanins to → Reaches nodes from to
-  by_path : {from next to : List ℕ} (node : DraftNode) → Contains nodes node → node.out ≡ from → Contains node.fanins next → Reaches nodes next to → Reaches nodes from to
+  by_fanin : {from to : List ℕ} (node : DraftNode) → Contains nodes node → node.out ≡ from → Contains node.fanins to
+      → Reaches nodes from to
+  by_path : {from next to : List ℕ} (node : DraftNode) → Contains nodes node → node.out ≡ from
+      → Contains node.fanins next → Reaches nodes next to → Reaches nodes from to
 
 -- no node reaches itself
 abbrev pub HasNoCycle : List DraftNode → Type 0
@@ -53,7 +57,8 @@ pub record IsFirstOnCycle (nodes : List DraftNode) (name : List ℕ) : Type 0 wh
   pub within : place < length nodes
   pub named : slice_get (map out_of nodes) place ≡ Some name
   pub cycle : Reaches nodes name name
-  pub first : (j : ℕ) (other : List ℕ) → j < place → slice_get (map out_of nodes) j ≡ Some other → Reaches nodes other other → ⊥
+  pub first : (j : ℕ) (other : List ℕ) → j < place → slice_get (map out_of nodes) j ≡ Some other
+      → Reaches nodes other other → ⊥
 
 -- The depths of the signals: 0 at an input, and at a node 1 more than the greatest of its fan-ins.
 pub record AreSignalDepths (draft : Draft) (depth : List ℕ → ℕ) : Type 0 where
@@ -63,14 +68,16 @@ pub record AreSignalDepths (draft : Draft) (depth : List ℕ → ℕ) : Type 0 w
 -- the nodes by depth, and at one depth as they are written
 abbrev pub by_depth : (List ℕ → ℕ) → List DraftNode → List DraftNode
 by_depth depth nodes =
-    flat_map (λ d. filter (λ (node : DraftNode). depth node.out == d) nodes) (range_with_len 1 (greatest (map (λ (node : DraftNode). depth node.out) nodes)))
+    flat_map (λ d. filter (λ (node : DraftNode). depth node.out == d) nodes)
+    (range_with_len 1 (greatest (map (λ (node : DraftNode). depth node.out) nodes)))
 
 abbrev pub net_in : List (List ℕ) → List ℕ → NetId
 net_in names name = record { 0 = number_in names name }
 
 -- a node with nets in place of names
 abbrev pub closed_node : List (List ℕ) → DraftNode → Node
-closed_node names node = record { out = net_in names node.out; fanins = map (net_in names) node.fanins; rows = node.rows; on = node.on }
+closed_node names node =
+    record { out = net_in names node.out; fanins = map (net_in names) node.fanins; rows = node.rows; on = node.on }
 
 -- the network whose nodes stand in this order
 abbrev pub network_in : Draft → List DraftNode → NetworkParts

@@ -6,7 +6,8 @@ use Rattle.lw_net.specs.Closing.{first_undefined, HasNoCycle, AreSignalDepths}
 
 -- these are the depths of what the nodes drive, by place
 abbrev pub TellDepths : List ℕ → List DraftNode → (List ℕ → ℕ) → Type 0
-TellDepths depths nodes depth = (k : ℕ) (d : DraftNode) → k < length nodes → slice_index_or depths k 0 ≡ depth (slice_index_or nodes k d).out
+TellDepths depths nodes depth =
+    (k : ℕ) (d : DraftNode) → k < length nodes → slice_index_or depths k 0 ≡ depth (slice_index_or nodes k d).out
 
 -- The draft has neither fault, and its nodes have these depths.
 pub record AreRight (draft : Draft) (depths : List ℕ) : Type 0 where

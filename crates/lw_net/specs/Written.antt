@@ -14,7 +14,8 @@ names_in names numbers = map (name_at names) numbers
 
 -- a node with names in place of numbers
 abbrev pub named_node : List (List ℕ) → NumberedNode → DraftNode
-named_node names node = record { out = name_at names node.out; fanins = names_in names node.fanins; rows = node.rows; on = node.on }
+named_node names node =
+    record { out = name_at names node.out; fanins = names_in names node.fanins; rows = node.rows; on = node.on }
 
 abbrev pub named_nodes : List (List ℕ) → List NumberedNode → List DraftNode
 named_nodes names nodes = map (named_node names) nodes
@@ -39,7 +40,8 @@ place_at places n = slice_index_or places n 0
 -- The places of all names among the first of these signals, which are numbers of names.
 pub record ArePlaces (count some : ℕ) (signals places : List ℕ) : Type 0 where
   pub one_each : length places ≡ count
-  pub found : (n : ℕ) → 0 < place_at places n → (place_at places n ≤ some) × (slice_index_or signals (place_at places n - 1) 0 ≡ n)
+  pub found : (n : ℕ) → 0 < place_at places n → (place_at places n ≤ some)
+      × (slice_index_or signals (place_at places n - 1) 0 ≡ n)
   pub told : (i : ℕ) → i < some → 0 < place_at places (slice_index_or signals i 0)
 
 -- the net of a name
@@ -48,4 +50,10 @@ net_placed places n = record { 0 = place_at places n - 1 }
 
 -- a node with nets in place of numbers
 abbrev pub placed_node : List ℕ → NumberedNode → Node
-placed_node places node = record { out = net_placed places node.out; fanins = map (net_placed places) node.fanins; rows = node.rows; on = node.on }
+placed_node places node =
+    record {
+      out = net_placed places node.out;
+      fanins = map (net_placed places) node.fanins;
+      rows = node.rows;
+      on = node.on;
+    }

@@ -1,7 +1,8 @@
 // Drafts that are closed to networks.
 ghost use Rattle.std.specs.Prelude.{◌≡◌, ◌-◌, ◌<◌, length, map, All, IfOk, IfErr, OnOk};
 ghost use Rattle.lw_net.specs.Closing.{HasFault, network_in};
-ghost use Rattle.lw_net.specs.Numbers.{draft_in, AreFaninNumbers, CanClose, HasDistinctSignals, StandsInOrder, IsTable};
+ghost use Rattle.lw_net.specs.Numbers.{draft_in, AreFaninNumbers, CanClose, HasDistinctSignals};
+ghost use Rattle.lw_net.specs.Numbers.{StandsInOrder, IsTable};
 ghost use Rattle.lw_net.specs.Ordering.{AreRight};
 ghost use Rattle.lw_net.specs.Written.{names_in, net_placed, placed_node, IsWithin};
 

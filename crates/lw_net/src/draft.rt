@@ -1,4 +1,5 @@
-ghost use Rattle.std.specs.Prelude.{◌≡◌, ◌<◌, ◌++◌, [], ◌∷◌, ◌↔◌, length, map, IsTrue, MatchResult, Some, slice_get, All};
+ghost use Rattle.std.specs.Prelude.{◌≡◌, ◌<◌, ◌++◌, [], ◌∷◌, ◌↔◌, length, map, IsTrue, MatchResult};
+ghost use Rattle.std.specs.Prelude.{Some, slice_get, All};
 
 use crate::Cubes;
 use crate::naming::{differ, number, numbers, signals};
@@ -50,12 +51,14 @@ impl DraftNodes {
         }
     }
 
+    /// How many nodes there are.
     pub fn len(&self) -> usize
         ensures { result ≡ length self.now }
     {
         self.nodes.len()
     }
 
+    /// Whether there are no nodes.
     pub fn is_empty(&self) -> bool
         ensures { IsTrue result ↔ (self.now ≡ []) }
     {
@@ -128,7 +131,8 @@ impl Draft {
     ghost use Rattle.lw_net.specs.Closing.{IsDraft};
 
     /// Whether it may be closed: inputs and node outputs differ, outputs differ, each row has one
-    /// byte per fan-in, and there are at most 262,144 signals.
+    /// byte per fan-in, and there are at most 262,144 signals. It is for callers of the library,
+    /// who have a draft from elsewhere: the draft of a text that was read may be closed.
     pub fn may_close(&self, alloc: Global) -> Result<bool, AllocError>
         ensures { IfOk result (λ may. IsTrue may ↔ IsDraft self.now) }
     {

@@ -1,5 +1,6 @@
 // The values of nets.
-ghost use Rattle.std.specs.Prelude.{◌≡◌, ◌+◌, ◌<◌, ℕ, false, Some, length, map, slice_get, slice_index_or, All};
+ghost use Rattle.std.specs.Prelude.{◌≡◌, ◌+◌, ◌<◌, ℕ, false, Some, length, map, slice_get};
+ghost use Rattle.std.specs.Prelude.{slice_index_or, All};
 ghost use Rattle.std.specs.List.{list_any};
 ghost use Rattle.lw_laws.specs.Networks.{row_value, node_value};
 ghost use Rattle.lw_net.specs.Networks.{IsNodeAt};

@@ -1,4 +1,5 @@
-ghost use Rattle.std.specs.Prelude.{◌≡◌, ◌+◌, ◌<◌, ◌++◌, [], ◌∷◌, ◌↔◌, List, ℕ, length, IsTrue, IfOk, MatchResult, Some, slice_get, All};
+ghost use Rattle.std.specs.Prelude.{◌≡◌, ◌+◌, ◌<◌, ◌++◌, [], ◌∷◌, ◌↔◌, List, ℕ, length, IsTrue};
+ghost use Rattle.std.specs.Prelude.{IfOk, MatchResult, Some, slice_get, All};
 ghost use Rattle.lw_net.specs.Signs.{IsSign};
 
 use lw_pool::{NetId, Nets};
@@ -112,18 +113,21 @@ impl Cubes {
         self.items
     }
 
+    /// How many rows there are.
     pub fn len(&self) -> usize
         ensures { result ≡ length self.now }
     {
         self.items.len()
     }
 
+    /// Whether there are no rows.
     pub fn is_empty(&self) -> bool
         ensures { IsTrue result ↔ (self.now ≡ []) }
     {
         self.items.is_empty()
     }
 
+    /// The rows, in order.
     pub fn as_slice(&self) -> &[Cube]
         ensures { result.now ≡ self.now }
     {
@@ -201,18 +205,21 @@ impl Nodes {
         self.items
     }
 
+    /// How many nodes there are.
     pub fn len(&self) -> usize
         ensures { result ≡ length self.now }
     {
         self.items.len()
     }
 
+    /// Whether there are no nodes.
     pub fn is_empty(&self) -> bool
         ensures { IsTrue result ↔ (self.now ≡ []) }
     {
         self.items.is_empty()
     }
 
+    /// The nodes, in order.
     pub fn as_slice(&self) -> &[Node]
         ensures { result.now ≡ self.now }
     {

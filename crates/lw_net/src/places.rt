@@ -1,5 +1,6 @@
 // The places of names among the signals.
-ghost use Rattle.std.specs.Prelude.{◌≡◌, ◌+◌, ◌<◌, ◌≤◌, None, length, map, replicate, All, IfOk, IfErr, MatchOption, OnOk};
+ghost use Rattle.std.specs.Prelude.{◌≡◌, ◌+◌, ◌<◌, ◌≤◌, None, length, map, replicate, All, IfOk};
+ghost use Rattle.std.specs.Prelude.{IfErr, MatchOption, OnOk};
 ghost use Rattle.std.specs.List.{flat_map};
 ghost use Rattle.lw_net.specs.Closing.{signals_of, fanins_of, number_in, undefined_in};
 ghost use Rattle.lw_pool.specs.Numbers.{most_signals};
@@ -28,7 +29,8 @@ fn empty(alloc: Global, count: usize) -> Result<Vec<u32>, AllocError>
 pub(crate) fn places(alloc: Global, count: usize, signals: &[u32]) -> Result<Vec<u32>, AllocError>
     requires within { All (λ n. n < count) signals.now }
     requires few { length signals.now ≤ most_signals }
-    ensures { IfOk result (λ places. ArePlaces count (length signals.now) signals.now places.items) }
+    ensures { IfOk result
+        (λ places. ArePlaces count (length signals.now) signals.now places.items) }
 {
     let mut places = empty(alloc, count)?;
     for i in 0..signals.len() {

@@ -1,5 +1,5 @@
 -- A netlist whose gates stand by depth.
-use Rattle.std.proofs.Common.{◌≡◌, ℕ, ◌+◌, ◌-◌, ◌^◌, ◌<◌, ◌≤◌, ◌⊎◌, inl, inr, slice_get, Some, List, [], ◌++◌, length, map, get_or, None, Contains, All, refl, sym, ap, subst, ◌∙◌, arith, length-append}
+use Rattle.std.proofs.Common.{◌≡◌, ℕ, ◌+◌, ◌-◌, ◌^◌, ◌<◌, ◌≤◌, ◌⊎◌, inl, inr, Some, List, [], ◌++◌, length, map, get_or, None, Contains, All, refl, sym, ap, subst, ◌∙◌, arith, length-append}
 use Rattle.std.proofs.lemmas.List.{get_or_default, get_or-map, length-map, get_or-append_right, get_or_append_left}
 use Rattle.std.proofs.lemmas.List.Elements.{All-map, All-weaker}
 use Rattle.std.proofs.lemmas.List.Sorted.{IsPermutation-append_right, IsPermutation-map, length_permutation, Contains-permutation, All-permutation}
@@ -9,7 +9,7 @@ use Rattle.std.specs.List.{IsDistinct, flat_map}
 use Rattle.std.specs.List.Sorted.{IsPermutation, IsNonDecreasingBy}
 use Rattle.std.specs.Str.{bytes_eq}
 use Rattle.std.proofs.Math.Nat.{add-sub_cancel_left}
-use Rattle.lw_facts.proofs.Lists.{distinct_left}
+use Rattle.lw_facts.proofs.Lists.{distinct_left, IsImage, image_at}
 use Rattle.lw_pool.specs.declared.id.NetId.{NetId}
 use Rattle.lw_genlib.specs.Cells.{CellParts}
 use Rattle.lw_netlist.specs.declared.draft.DraftGate.{DraftGate}
@@ -29,17 +29,6 @@ use Rattle.lw_dag.proofs.Sorting.{greatest-above}
 use Rattle.lw_dag.proofs.Numbering.{number_at, number_of, number_below, none_unknown, none_split, distinct_moved}
 use Rattle.lw_netlist.proofs.Paths.{driven_needs}
 use Rattle.lw_netlist.proofs.Starting.{bare_gate, link_of_gate}
-
--- an element of a map
-record IsImage {A B : Type 0} (f : A → B) (xs : List A) (j : ℕ) (y : B) : Type 0 where
-  from : A
-  at : slice_get xs j ≡ Some from
-  is : f from ≡ y
-
-image_at : {A B : Type 0} (f : A → B) (xs : List A) (j : ℕ) (y : B) (d : A) → slice_get (map f xs) j ≡ Some y → IsImage f xs j y
-image_at f xs j y d e =
-    let inside : j < length xs = subst (λ n. j < n) (length-map xs f) (slice_get_within (map f xs) j y e) in
-    record { from = get_or xs j d; at = slice_get-get_or xs j d inside; is = sym (get_or-map f xs j d y inside) ∙ get_or_from_slice_get (map f xs) j y y e }
 
 module _ (draft : GateDraft) (depths starts : List ℕ) (order : List DraftGate) (once : IsDistinct bytes_eq (drivers draft)) (few : length draft.inputs + length draft.gates < 2 ^ 32 - 1) (known : undriven_in (drivers draft) (flat_map needs_of (links draft)) ≡ None) (whole : first_undriven draft ≡ None) (right : AreRight draft depths starts) (moved : IsPermutation draft.gates order) (up : IsNonDecreasingBy (λ (gate : DraftGate). right.depth gate.out) order) where
   abbrev pub ordered : GateDraft
@@ -182,7 +171,7 @@ module _ (draft : GateDraft) (depths starts : List ℕ) (order : List DraftGate)
   ordered_netlist = record {
     named = many ∙ ap (λ n. m + n) (sym (length-map order (closed_gate net_of)));
     few = ordered_few;
-    gates = λ j gate at. by_image j gate (image_at (closed_gate net_of) order j gate bare_gate at);
+    gates = λ j gate at. by_image j gate (image_at (closed_gate net_of) order j gate at);
     outputs = All-map (λ (port : Port). port.net.0 < length names) (port_at net_of) draft.outputs
         (All-weaker (Contains driven) (λ name. net_of name < length names) net_below draft.outputs outputs_driven);
   }

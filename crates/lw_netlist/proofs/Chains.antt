@@ -1,17 +1,9 @@
 -- Chains of the places of names.
 use Rattle.std.proofs.Common.{ℕ, suc, ◌≡◌, ◌≢◌, ◌<◌, ◌≤◌, ◌+◌, ◌⊎◌, inl, inr, List, length, set, get_or, ap, sym, ◌∙◌, arith}
-use Rattle.std.proofs.lemmas.Bool.{cases_lt}
+use Rattle.std.proofs.lemmas.Bool.{cases_lt, cases_eq}
 use Rattle.std.proofs.lemmas.Grind.{get_or-set_at}
 use Rattle.std.proofs.lemmas.List.{get_or-set_other}
 use Rattle.lw_netlist.specs.Chains.{AreChains, name_at}
-
-pub same-or-not : (a b : ℕ) → (a ≡ b) ⊎ (a ≢ b)
-same-or-not a b = by_order (cases_lt a b) (cases_lt b a)
-  where
-    by_order : (a < b) ⊎ (b ≤ a) → (b < a) ⊎ (a ≤ b) → (a ≡ b) ⊎ (a ≢ b)
-    by_order (inl less) other = inr (omega (arith, less))
-    by_order (inr most) (inl more) = inr (omega (arith, more))
-    by_order (inr most) (inr least) = inl (omega (arith, most, least))
 
 -- no chain yet
 pub chains-none : (bucket : List ℕ → ℕ) (size : ℕ) (names : List (List ℕ)) (heads next : List ℕ) → ((b : ℕ) → b < size → get_or heads b 0 ≡ 0) → AreChains bucket size names 0 heads next
@@ -62,7 +54,7 @@ module _ (bucket : List ℕ → ℕ) (size : ℕ) (names : List (List ℕ)) (n :
 
   first-more : (k : ℕ) → k < n + 1 → (bucket_at k ≡ b) ⊎ (bucket_at k ≢ b) → k < get_or (set heads b (n + 1)) (bucket_at k) 0
   first-more k lt (inl same) = omega (arith, at-head (bucket_at k) same, lt)
-  first-more k lt (inr apart) = by_place (same-or-not k n)
+  first-more k lt (inr apart) = by_place (cases_eq k n)
     where
       by_place : (k ≡ n) ⊎ (k ≢ n) → k < get_or (set heads b (n + 1)) (bucket_at k) 0
       by_place (inl last) = absurd (apart (ap bucket_at last ∙ sym own))
@@ -98,12 +90,12 @@ module _ (bucket : List ℕ → ℕ) (size : ℕ) (names : List (List ℕ)) (n :
   pub chains-more : AreChains bucket size names (n + 1) (set heads b (n + 1)) (set next n (get_or heads b 0))
   unfolding old
   chains-more = record {
-    first = λ k lt. first-more k lt (same-or-not (bucket_at k) b);
-    later = λ j k before lt same. later-more j k before lt same (same-or-not j n);
-    low = λ x lt. low-more x lt (same-or-not x b);
-    falling = λ j lt. falling-more j lt (same-or-not j n);
-    headed = λ x k lt e. headed-more x k lt e (same-or-not x b);
-    chained = λ j k lt e. chained-more j k lt e (same-or-not j n);
+    first = λ k lt. first-more k lt (cases_eq (bucket_at k) b);
+    later = λ j k before lt same. later-more j k before lt same (cases_eq j n);
+    low = λ x lt. low-more x lt (cases_eq x b);
+    falling = λ j lt. falling-more j lt (cases_eq j n);
+    headed = λ x k lt e. headed-more x k lt e (cases_eq x b);
+    chained = λ j k lt e. chained-more j k lt e (cases_eq j n);
   }
 
 -- The chain of a name's bucket was walked down to a place, and the name was not there.
@@ -116,7 +108,7 @@ pub sought-next : (bucket : List ℕ → ℕ) (size : ℕ) (names : List (List �
 sought-next bucket size names count heads next name left j c is other w = record {
   low = omega (arith, c.falling j inside, inside);
   chain = λ k e. c.chained j k inside e ∙ w.chain j is;
-  above = λ i lt past same. by_order i lt past same (cases_lt i j) (same-or-not i j);
+  above = λ i lt past same. by_order i lt past same (cases_lt i j) (cases_eq i j);
 }
   where
     inside : j < count

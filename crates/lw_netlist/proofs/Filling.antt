@@ -1,7 +1,7 @@
 -- Values of nets, filled in one gate after another.
-use Rattle.std.proofs.Common.{◌≡◌, ◌≢◌, ℕ, zero, suc, ◌+◌, ◌<◌, ◌⊎◌, inl, inr, List, [], ◌∷◌, length, map, get_or, set, slice_get, All, Some, refl, sym, ap, ◌∙◌, arith, get_or-set_same, get_or-set_other}
+use Rattle.std.proofs.Common.{◌≡◌, ◌≢◌, ℕ, ◌+◌, ◌<◌, ◌⊎◌, inl, inr, List, [], length, get_or, set, slice_get, All, Some, sym, ap, ◌∙◌, arith, get_or-set_same, get_or-set_other}
 use Rattle.std.proofs.lemmas.List.Elements.{All-weaker}
-use Rattle.std.proofs.lemmas.Option.{same_Some, none-some}
+use Rattle.std.proofs.lemmas.Option.{same_Some}
 use Rattle.std.proofs.lemmas.Bool.{cases_eq}
 use Rattle.lw_pool.specs.declared.id.NetId.{NetId}
 use Rattle.lw_netlist.specs.declared.gate.Gate.{Gate}
@@ -32,14 +32,3 @@ IsFilled-more {A} d f gates first n values v gate local facts within here is fil
         let apart : first + j ≢ first + n = omega arith in
         let before = All-weaker (λ (net : NetId). net.0 < first + j) (λ (net : NetId). net.0 < first + n) (λ net lt. omega arith) other.pins (facts j other at).before in
         get_or-set_other values (first + n) (first + j) v d apart ∙ (filled.each j other lower at ∙ sym (local.kept values (first + n) v other before))
-
--- an element of a map
-pub record IsImage {A B : Type 0} (f : A → B) (xs : List A) (j : ℕ) (y : B) : Type 0 where
-  pub from : A
-  pub at : slice_get xs j ≡ Some from
-  pub is : f from ≡ y
-
-pub image_at : {A B : Type 0} (f : A → B) (xs : List A) (j : ℕ) (y : B) → slice_get (map f xs) j ≡ Some y → IsImage f xs j y
-image_at f [] j y e = absurd (none-some y e)
-image_at f (x ∷ xs) zero y e = record { from = x; at = refl; is = same_Some (f x) y e }
-image_at f (x ∷ xs) (suc j) y e = let i = image_at f xs j y e in record { from = i.from; at = i.at; is = i.is }

@@ -3,10 +3,10 @@ use Rattle.std.proofs.Common.{ℕ, zero, suc, ◌≡◌, ◌<◌, ◌+◌, false
 use Rattle.std.proofs.lemmas.List.{get_or_append_left, length-replicate, length-set}
 use Rattle.std.proofs.Math.Seq.{get_or-append_seam}
 use Rattle.std.specs.List.{IsDistinct}
+use Rattle.lw_facts.proofs.Lists.{distinct_push}
 use Rattle.lw_dag.specs.Names.{is_among}
 use Rattle.lw_netlist.specs.Chains.{AreChains, AreNumbered, bucket_in, name_at}
 use Rattle.lw_netlist.proofs.Chains.{chains-more, chains-none, chains-same}
-use Rattle.lw_netlist.proofs.Names.{distinct_push}
 
 zeros-at : (n j : ℕ) → ◌≡◌ {A = ℕ} (get_or (replicate n 0) j 0) 0
 zeros-at zero j = refl

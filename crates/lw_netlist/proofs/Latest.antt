@@ -3,6 +3,7 @@ use Rattle.std.proofs.Common.{◌≡◌, ◌≢◌, ℕ, suc, ◌+◌, ◌*◌, 
 use Rattle.std.proofs.lemmas.List.{get_or-map, get_or-take, length-map, map-set, get_or_default}
 use Rattle.std.proofs.lemmas.List.Elements.{All-head, All-tail, All-get_or}
 use Rattle.std.proofs.lemmas.Bool.{cases_eq}
+use Rattle.lw_facts.proofs.Lists.{image_at}
 use Rattle.lw_laws.specs.Covers.{latest, delays_of}
 use Rattle.lw_genlib.specs.Cells.{CellParts, IsSmall}
 use Rattle.lw_netlist.specs.declared.gate.Gate.{Gate}
@@ -10,7 +11,7 @@ use Rattle.std.proofs.lemmas.Option.{slice_get_within, slice_get-get_or}
 use Rattle.lw_laws.specs.Netlists as laws
 use Rattle.lw_laws.specs.Netlists.{AreArrivals}
 use Rattle.lw_netlist.specs.Netlists.{NetlistParts}
-use Rattle.lw_netlist.proofs.Filling.{IsLocal, image_at}
+use Rattle.lw_netlist.proofs.Filling.{IsLocal}
 use Rattle.lw_pool.specs.declared.id.NetId.{NetId}
 use Rattle.lw_fixed.specs.declared.micro.Micro.{Micro}
 use Rattle.lw_genlib.specs.Tables.{millionths, delays_of_cells, timing_of}

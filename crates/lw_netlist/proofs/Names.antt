@@ -1,11 +1,10 @@
 -- Names that differ, and their numbers.
-use Rattle.std.proofs.Common.{◌≡◌, ℕ, ◌+◌, ◌<◌, Bool, true, false, not, ◌||◌, cond, List, [], ◌∷◌, ◌++◌, length, map, take, drop, get_or, slice_get, Option, Some, None, refl, sym, ap, ap₂, subst, ◌∙◌, append_assoc}
+use Rattle.std.proofs.Common.{◌≡◌, ℕ, ◌+◌, ◌<◌, Bool, true, false, not, cond, List, [], ◌∷◌, ◌++◌, length, map, take, drop, get_or, slice_get, Option, Some, None, refl, sym, ap, ap₂, subst, ◌∙◌, append_assoc}
 use Rattle.std.proofs.lemmas.List.{at_drop_more, map_more, map-append, append-nil}
-use Rattle.std.proofs.lemmas.Bool.{false≢true}
 use Rattle.std.proofs.lemmas.Option.{slice_get_within, get_or_from_slice_get}
 use Rattle.std.specs.List.{flat_map, IsDistinct}
 use Rattle.std.specs.Str.{bytes_eq}
-use Rattle.lw_facts.proofs.Lists.{all_append_names, bytes_differ_turned}
+use Rattle.lw_facts.proofs.Lists.{distinct_push}
 use Rattle.lw_dag.proofs.Names.{find_first, find_later}
 use Rattle.lw_netlist.specs.declared.draft.DraftGate.{DraftGate}
 use Rattle.lw_netlist.specs.declared.draft.GateDraft.{GateDraft}
@@ -86,15 +85,6 @@ undriven_in_link driven link xs i x fault below here rest e =
 pub undriven_behind_link : {X : Type 0} (driven : List (List ℕ)) (link : X → Link) (xs : List X) (i : ℕ) (x : X) → i < length xs → x ≡ get_or xs i x → undriven_in driven (flat_map needs_of (map link (drop i xs))) ≡ undriven_in driven (flat_map needs_of (map link xs)) → undriven_in driven (link x).needs ≡ None → undriven_in driven (flat_map needs_of (map link (drop (i + 1) xs))) ≡ undriven_in driven (flat_map needs_of (map link xs))
 undriven_behind_link driven link xs i x below here rest e =
     sym (undriven_later driven (link x).needs (flat_map needs_of (map link (drop (i + 1) xs))) e) ∙ (ap (undriven_in driven) (sym (needs_from link xs i x below here)) ∙ rest)
-
-pub distinct_push : (xs : List (List ℕ)) (name : List ℕ) → IsDistinct bytes_eq xs → is_among xs name ≡ false → IsDistinct bytes_eq (xs ++ name ∷ [])
-unfolding IsDistinct
-distinct_push [] name distinct is = (tt, tt)
-distinct_push (x ∷ xs) name distinct is = by_test (bytes_eq name x) refl is (distinct_push xs name distinct.1)
-  where
-    by_test : (b : Bool) → bytes_eq name x ≡ b → (b || is_among xs name) ≡ false → (is_among xs name ≡ false → IsDistinct bytes_eq (xs ++ name ∷ [])) → IsDistinct bytes_eq ((x ∷ xs) ++ name ∷ [])
-    by_test true e now rest = absurd (false≢true (sym now))
-    by_test false e now rest = (all_append_names (λ y. bytes_eq x y ≡ false) xs (name ∷ []) distinct.0 (bytes_differ_turned name x e, tt), rest now)
 
 once_after : (seen names : List (List ℕ)) → IsDistinct bytes_eq seen → twice_after seen names ≡ None → IsDistinct bytes_eq (seen ++ names)
 once_after seen [] distinct e = subst (IsDistinct bytes_eq) (sym (append-nil seen)) distinct

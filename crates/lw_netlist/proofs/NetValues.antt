@@ -2,6 +2,7 @@
 use Rattle.std.proofs.Common.{◌≡◌, ℕ, ◌+◌, ◌<◌, Bool, false, List, length, map, get_or, slice_get, Some, sym, ap, ◌∙◌, arith}
 use Rattle.std.proofs.lemmas.List.{length-map}
 use Rattle.std.proofs.lemmas.Option.{slice_get_within, slice_get-get_or}
+use Rattle.lw_facts.proofs.Lists.{image_at}
 use Rattle.lw_laws.specs.Networks.{given}
 use Rattle.lw_laws.specs.Netlists as laws
 use Rattle.lw_laws.specs.Netlists.{AreNetlistValues}
@@ -11,7 +12,7 @@ use Rattle.lw_netlist.specs.Netlists.{NetlistParts}
 use Rattle.lw_genlib.specs.Tables.{truth_of_cells}
 use Rattle.lw_netlist.specs.Plain.{plain, plain_gate}
 use Rattle.lw_netlist.specs.Filling.{gate_value}
-use Rattle.lw_netlist.proofs.Filling.{IsLocal, image_at}
+use Rattle.lw_netlist.proofs.Filling.{IsLocal}
 use Rattle.lw_dag.proofs.Shared.{values_at_set}
 
 pub values_are_local : (cells : List CellParts) → IsLocal (gate_value cells)

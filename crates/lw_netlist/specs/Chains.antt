@@ -1,5 +1,6 @@
 -- Chains of the places of names, by which a name is found among them.
-use Rattle.std.specs.Prelude.{ℕ, suc, ◌≡◌, ◌≢◌, ◌<◌, ◌≤◌, ◌+◌, ◌*◌, ◌%◌, Option, Some, None, IfSome, IfNone, List, [], ◌∷◌, length, slice_index_or}
+use Rattle.std.specs.Prelude.{ℕ, suc, ◌≡◌, ◌≢◌, ◌<◌, ◌≤◌, ◌+◌, ◌*◌, ◌%◌, Option, Some, None, IfSome, IfNone, List, []}
+use Rattle.std.specs.Prelude.{◌∷◌, length, slice_index_or}
 use Rattle.std.specs.List.{IsDistinct}
 use Rattle.std.specs.Str.{bytes_eq}
 use Rattle.lw_netlist.specs.Closing.{twice_after}
@@ -17,13 +18,16 @@ name_at names place = slice_index_or names place []
 
 -- A chain for each bucket below a size, of the first so many names: it begins at the last of the
 -- bucket's places and falls to the first. A place is told by one more, and the end of a chain by 0.
-pub record AreChains (bucket : List ℕ → ℕ) (size : ℕ) (names : List (List ℕ)) (count : ℕ) (heads next : List ℕ) : Type 0 where
+pub record AreChains (bucket : List ℕ → ℕ) (size : ℕ) (names : List (List ℕ)) (count : ℕ)
+    (heads next : List ℕ) : Type 0 where
   pub first : (k : ℕ) → k < count → k < slice_index_or heads (bucket (name_at names k)) 0
-  pub later : (j k : ℕ) → k < j → j < count → bucket (name_at names k) ≡ bucket (name_at names j) → k < slice_index_or next j 0
+  pub later : (j k : ℕ) → k < j → j < count → bucket (name_at names k) ≡ bucket (name_at names j)
+      → k < slice_index_or next j 0
   pub low : (b : ℕ) → b < size → slice_index_or heads b 0 ≤ count
   pub falling : (j : ℕ) → j < count → slice_index_or next j 0 ≤ j
   pub headed : (b k : ℕ) → b < size → slice_index_or heads b 0 ≡ suc k → bucket (name_at names k) ≡ b
-  pub chained : (j k : ℕ) → j < count → slice_index_or next j 0 ≡ suc k → bucket (name_at names k) ≡ bucket (name_at names j)
+  pub chained : (j k : ℕ) → j < count → slice_index_or next j 0 ≡ suc k
+      → bucket (name_at names k) ≡ bucket (name_at names j)
 
 -- Names that differ, with chains for all of them.
 pub record AreNumbered (names : List (List ℕ)) (heads next : List ℕ) : Type 0 where
@@ -57,7 +61,8 @@ pub record CanLink (names : List (List ℕ)) (heads next : List ℕ) : Type 0 wh
   pub none : (b : ℕ) → b < length heads → slice_index_or heads b 0 ≡ 0
 
 -- names that differ have chains, or else this is the place of the first that stands before it
-pub record LinksNames (names : List (List ℕ)) (old_heads old_next heads next : List ℕ) (result : Option ℕ) : Type 0 where
+pub record LinksNames (names : List (List ℕ)) (old_heads old_next heads next : List ℕ)
+    (result : Option ℕ) : Type 0 where
   pub heads_each : length heads ≡ length old_heads
   pub next_each : length next ≡ length old_next
   pub chains : IfNone result (AreChains (bucket_in (length heads)) (length heads) names (length names) heads next)

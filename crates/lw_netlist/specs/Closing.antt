@@ -1,5 +1,7 @@
--- What a draft is closed to: a netlist, or the first name that is driven twice, or that nothing drives, or the first gate or wire on a cycle.
-use Rattle.std.specs.Prelude.{ℕ, ◌+◌, ◌-◌, ◌^◌, ◌<◌, ◌≡◌, ◌==◌, not, cond, Option, Some, None, ⊤, List, [], ◌∷◌, ◌++◌, map, length, filter, find, slice_get, Contains, All}
+-- What a draft is closed to: a netlist, or the first name that is driven twice, or that nothing drives, or the first
+-- gate or wire on a cycle.
+use Rattle.std.specs.Prelude.{ℕ, ◌+◌, ◌-◌, ◌^◌, ◌<◌, ◌≡◌, ◌==◌, not, cond, Option, Some, None, ⊤, List, [], ◌∷◌, ◌++◌}
+use Rattle.std.specs.Prelude.{map, length, filter, find, slice_get, Contains, All}
 use Rattle.std.specs.List.{flat_map, range_with_len}
 pub use Rattle.lw_dag.specs.Names.{is_among}
 pub use Rattle.lw_dag.specs.Ordering.{greatest}
@@ -90,9 +92,11 @@ pub record IsFirstOnCycle (ls : List Link) (name : List ℕ) : Type 0 where
   pub within : place < length ls
   pub named : slice_get (map name_of ls) place ≡ Some name
   pub cycle : Reaches ls name name
-  pub first : (j : ℕ) (other : List ℕ) → j < place → slice_get (map name_of ls) j ≡ Some other → Reaches ls other other → ⊥
+  pub first : (j : ℕ) (other : List ℕ) → j < place → slice_get (map name_of ls) j ≡ Some other → Reaches ls other other
+      → ⊥
 
--- The depths of the names: 0 at an input, at a gate 1 more than the greatest of its pins, and at a wire that of its source.
+-- The depths of the names: 0 at an input, at a gate 1 more than the greatest of its pins, and at a wire that of its
+-- source.
 pub record AreNameDepths (draft : GateDraft) (depth : List ℕ → ℕ) : Type 0 where
   pub inputs : All (λ name. depth name ≡ 0) draft.inputs
   pub gates : All (λ (gate : DraftGate). depth gate.out ≡ 1 + greatest (map depth gate.pins)) draft.gates
@@ -104,17 +108,22 @@ out_of gate = gate.out
 -- the gates by depth, and at one depth as they are given
 abbrev pub by_depth : (List ℕ → ℕ) → List DraftGate → List DraftGate
 by_depth depth gates =
-    flat_map (λ d. filter (λ (gate : DraftGate). depth gate.out == d) gates) (range_with_len 1 (greatest (map (λ (gate : DraftGate). depth gate.out) gates)))
+    flat_map (λ d. filter (λ (gate : DraftGate). depth gate.out == d) gates)
+    (range_with_len 1 (greatest (map (λ (gate : DraftGate). depth gate.out) gates)))
 
--- The net that a name comes to, where the gates stand in this order: that of the input or of the gate, or that of a wire's source.
+-- The net that a name comes to, where the gates stand in this order: that of the input or of the gate, or that of a
+-- wire's source.
 pub data IsNetNamed (draft : GateDraft) (order : List DraftGate) : List ℕ → ℕ → Type 0 where
   at_input : {name : List ℕ} (place : ℕ) → slice_get draft.inputs place ≡ Some name → IsNetNamed draft order name place
-  at_gate : {name : List ℕ} (place : ℕ) → slice_get (map out_of order) place ≡ Some name → IsNetNamed draft order name (length draft.inputs + place)
-  at_wire : {name : List ℕ} {net : ℕ} (wire : Wire) → Contains draft.wires wire → wire.to ≡ name → IsNetNamed draft order wire.from net → IsNetNamed draft order name net
+  at_gate : {name : List ℕ} (place : ℕ) → slice_get (map out_of order) place ≡ Some name
+      → IsNetNamed draft order name (length draft.inputs + place)
+  at_wire : {name : List ℕ} {net : ℕ} (wire : Wire) → Contains draft.wires wire → wire.to ≡ name
+      → IsNetNamed draft order wire.from net → IsNetNamed draft order name net
 
 -- a gate with nets in place of names
 abbrev pub closed_gate : (List ℕ → ℕ) → DraftGate → Gate
-closed_gate net gate = record { cell = gate.cell; pins = map (λ pin. record { 0 = net pin }) gate.pins; out = record { 0 = net gate.out } }
+closed_gate net gate =
+    record { cell = gate.cell; pins = map (λ pin. record { 0 = net pin }) gate.pins; out = record { 0 = net gate.out } }
 
 -- an output with its net
 abbrev pub port_at : (List ℕ → ℕ) → List ℕ → Port
@@ -138,12 +147,14 @@ pub record IsClosed (draft : GateDraft) (parts : NetlistParts) : Type 0 where
   pub depth : List ℕ → ℕ
   pub depths : AreNameDepths draft depth
   pub net : List ℕ → ℕ
-  pub nets : (name : List ℕ) → Contains (drivers draft) name → IsNetNamed draft (by_depth depth draft.gates) name (net name)
+  pub nets : (name : List ℕ) → Contains (drivers draft) name
+      → IsNetNamed draft (by_depth depth draft.gates) name (net name)
   pub are : parts ≡ netlist_in draft (by_depth depth draft.gates) net
 
 -- The draft has this fault, and none of those that are looked for before it.
 abbrev pub HasFault : GateDraft → NetlistFault → Type 0
 HasFault draft (Twice name) = first_twice draft ≡ Some name
 HasFault draft (Undriven name) = (first_twice draft ≡ None) × (first_undriven draft ≡ Some name)
-HasFault draft (Cycle name) = (first_twice draft ≡ None) × (first_undriven draft ≡ None) × IsFirstOnCycle (links draft) name
+HasFault draft (Cycle name) =
+    (first_twice draft ≡ None) × (first_undriven draft ≡ None) × IsFirstOnCycle (links draft) name
 HasFault draft Memory = ⊤

@@ -19,7 +19,8 @@ arrivals_at arrivals nets = map (λ net. slice_index_or (map millionths arrivals
 
 -- when a gate's net arrives
 abbrev pub gate_arrival : List CellParts → List Micro → Gate → ℕ
-gate_arrival cells arrivals gate = latest (delays_of (delays_of_cells cells) gate.cell.0) (arrivals_at arrivals gate.pins)
+gate_arrival cells arrivals gate =
+    latest (delays_of (delays_of_cells cells) gate.cell.0) (arrivals_at arrivals gate.pins)
 
 -- when the net with a number arrives
 abbrev pub arrival_at : List Micro → ℕ → ℕ

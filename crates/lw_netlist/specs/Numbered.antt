@@ -1,5 +1,6 @@
 -- A draft whose names are numbered: inputs, and then what gates and wires drive, as they are given.
-use Rattle.std.specs.Prelude.{ℕ, ◌+◌, ◌<◌, ◌≤◌, ◌≡◌, max, nat_lt, cond, Some, None, Result, MatchResult, ⊤, List, [], ◌∷◌, map, length, slice_index_or, Contains}
+use Rattle.std.specs.Prelude.{ℕ, ◌+◌, ◌<◌, ◌≤◌, ◌≡◌, max, nat_lt, cond, Some, None, Result, MatchResult, ⊤, List, []}
+use Rattle.std.specs.Prelude.{◌∷◌, map, length, slice_index_or, Contains}
 use Rattle.lw_dag.specs.Graphs.{fanins_at, height_at, most_signals}
 pub use Rattle.lw_dag.specs.Names.{number_in}
 use Rattle.lw_pool.specs.declared.id.NetId.{NetId}
@@ -23,7 +24,8 @@ TellsUndriven driven names Memory = ⊤
 
 -- All of these names are driven and the promise holds of what is found, or else the first that is not is told.
 abbrev pub FindsDriven : {A : Type 0} → List (List ℕ) → List (List ℕ) → Result A NetlistFault → (A → Type 0) → Type 0
-FindsDriven driven names result P = MatchResult result (λ found. P found × (undriven_in driven names ≡ None)) (TellsUndriven driven names)
+FindsDriven driven names result P =
+    MatchResult result (λ found. P found × (undriven_in driven names ≡ None)) (TellsUndriven driven names)
 
 -- No name is there twice, and there are numbers for all.
 pub record HaveNumbers (names : List (List ℕ)) : Type 0 where

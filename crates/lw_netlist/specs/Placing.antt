@@ -63,9 +63,11 @@ pub record IsPlaced (draft : GateDraft) (g : Graph) (starts places : List ℕ) :
   pub few : length (names_at draft places) ≤ most_nets
   pub starts_each : length starts ≡ length g.signals
   pub below : All (λ s. s < length g.signals) starts
-  pub started : (name : List ℕ) → Contains g.signals name → Contains (names_at draft places) (start_in g.signals starts name)
+  pub started : (name : List ℕ) → Contains g.signals name
+      → Contains (names_at draft places) (start_in g.signals starts name)
   pub outputs : All (Contains g.signals) draft.outputs
-  pub kept : IsNetlist (netlist_in draft (gates_at draft.gates places) (net_by g.signals starts (names_at draft places)))
+  pub kept : IsNetlist
+      (netlist_in draft (gates_at draft.gates places) (net_by g.signals starts (names_at draft places)))
 
 -- These are places of gates, each once, among so many signals.
 pub record ArePlaces (inputs signals : ℕ) (places : List ℕ) : Type 0 where
@@ -77,8 +79,10 @@ pub record ArePlaces (inputs signals : ℕ) (places : List ℕ) : Type 0 where
 -- These are the nets of all signals, and the gates at some places with nets in place of names.
 pub record AreGatesBy (g : Graph) (starts places : List ℕ) (nets : List NetId) (gates : List Gate) : Type 0 where
   pub count : length nets ≡ length g.signals
-  pub nets_are : (turned : List ℕ) × (AreTurned g.inputs places turned × (nets ≡ map (λ s. record { 0 = start_at turned s }) starts))
-  pub gates_are : (draft : GateDraft) (net : List ℕ → ℕ) → IsMadeOf draft g → TellNets g.signals nets net → gates ≡ map (closed_gate net) (gates_at draft.gates places)
+  pub nets_are : (turned : List ℕ)
+      × (AreTurned g.inputs places turned × (nets ≡ map (λ s. record { 0 = start_at turned s }) starts))
+  pub gates_are : (draft : GateDraft) (net : List ℕ → ℕ) → IsMadeOf draft g → TellNets g.signals nets net
+      → gates ≡ map (closed_gate net) (gates_at draft.gates places)
 
 -- The gates at some places and the outputs have names among the signals, and there is a net for each signal.
 pub record CanBeNamed (g : Graph) (places : List ℕ) (nets : List NetId) : Type 0 where
@@ -87,7 +91,8 @@ pub record CanBeNamed (g : Graph) (places : List ℕ) (nets : List NetId) : Type
   pub known : All (Contains g.signals) g.outputs
 
 -- These are the model, the names of inputs and of gates at some places, and the outputs with their nets.
-pub record IsNamed (g : Graph) (places : List ℕ) (nets : List NetId) (model : List ℕ) (names : List (List ℕ)) (outputs : List Port) : Type 0 where
+pub record IsNamed (g : Graph) (places : List ℕ) (nets : List NetId) (model : List ℕ) (names : List (List ℕ))
+    (outputs : List Port) : Type 0 where
   pub model_is : model ≡ g.model
   pub names_are : names ≡ g.first ++ map (signal_at g.inputs g.signals) places
   pub outputs_are : (net : List ℕ → ℕ) → TellNets g.signals nets net → outputs ≡ map (port_at net) g.outputs

@@ -1,6 +1,7 @@
 // Names that are found by chains of the places of those in one bucket.
 ghost use Rattle.std.specs.Prelude.{◌≡◌, ◌≢◌, ◌<◌, ◌≤◌, ℕ, length, IfSome, IfNone, slice_index_or};
-ghost use Rattle.lw_netlist.specs.Chains.{AreChains, AreLinked, CanLink, FindsPlace, IsBucket, LinksNames, bucket_in, hash_from, name_at};
+ghost use Rattle.lw_netlist.specs.Chains.{AreChains, AreLinked, CanLink, FindsPlace, IsBucket};
+ghost use Rattle.lw_netlist.specs.Chains.{LinksNames, bucket_in, hash_from, name_at};
 
 use crate::SpelledNames;
 use std::alloc::{AllocError, Global};

@@ -1,5 +1,6 @@
 // Drafts that are closed to netlists.
-ghost use Rattle.std.specs.Prelude.{◌≡◌, ◌<◌, ◌++◌, ℕ, List, length, map, All, Contains, IfOk, MatchResult};
+ghost use Rattle.std.specs.Prelude.{◌≡◌, ◌<◌, ◌++◌, ℕ, List, length, map, All, Contains, IfOk};
+ghost use Rattle.std.specs.Prelude.{MatchResult};
 ghost use Rattle.std.specs.List.{flat_map};
 ghost use Rattle.lw_dag.specs.Names.{number_in};
 ghost use Rattle.lw_netlist.specs.declared.draft.GateDraft.{GateDraft};

@@ -47,18 +47,21 @@ impl DraftGates {
         }
     }
 
+    /// How many gates there are.
     pub fn len(&self) -> usize
         ensures { result ≡ length self.now }
     {
         self.items.len()
     }
 
+    /// Whether there are no gates.
     pub fn is_empty(&self) -> bool
         ensures { IsTrue result ↔ (self.now ≡ []) }
     {
         self.items.is_empty()
     }
 
+    /// The gates, in order.
     pub fn as_slice(&self) -> &[SpelledGate]
         ensures { result.now ≡ self.now }
     {
@@ -123,18 +126,21 @@ impl Wires {
         self.items
     }
 
+    /// How many wires there are.
     pub fn len(&self) -> usize
         ensures { result ≡ length self.now }
     {
         self.items.len()
     }
 
+    /// Whether there are no wires.
     pub fn is_empty(&self) -> bool
         ensures { IsTrue result ↔ (self.now ≡ []) }
     {
         self.items.is_empty()
     }
 
+    /// The wires, in order.
     pub fn as_slice(&self) -> &[Wire]
         ensures { result.now ≡ self.now }
     {

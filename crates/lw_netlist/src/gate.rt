@@ -49,18 +49,21 @@ impl Gates {
         self.items
     }
 
+    /// How many gates there are.
     pub fn len(&self) -> usize
         ensures { result ≡ length self.now }
     {
         self.items.len()
     }
 
+    /// Whether there are no gates.
     pub fn is_empty(&self) -> bool
         ensures { IsTrue result ↔ (self.now ≡ []) }
     {
         self.items.is_empty()
     }
 
+    /// The gates, in order.
     pub fn as_slice(&self) -> &[Gate]
         ensures { result.now ≡ self.now }
     {
@@ -98,18 +101,21 @@ impl PortList {
         self.items
     }
 
+    /// How many ports there are.
     pub fn len(&self) -> usize
         ensures { result ≡ length self.now }
     {
         self.items.len()
     }
 
+    /// Whether there are no ports.
     pub fn is_empty(&self) -> bool
         ensures { IsTrue result ↔ (self.now ≡ []) }
     {
         self.items.is_empty()
     }
 
+    /// The ports, in order.
     pub fn as_slice(&self) -> &[Port]
         ensures { result.now ≡ self.now }
     {

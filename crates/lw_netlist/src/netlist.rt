@@ -24,9 +24,22 @@ impl Model for Netlist {
 
     ghost Value = { NetlistParts };
 
-    ghost view = { λ n. record { model = n.model; names = n.names; inputs = n.inputs; gates = n.gates; outputs = n.outputs } };
+    ghost view = { λ n. record {
+      model = n.model;
+      names = n.names;
+      inputs = n.inputs;
+      gates = n.gates;
+      outputs = n.outputs;
+    } };
 
-    ghost invariant = { λ n. IsNetlist (record { model = n.model; names = n.names; inputs = n.inputs; gates = n.gates; outputs = n.outputs }) };
+    ghost invariant = { λ n. IsNetlist
+        (record {
+          model = n.model;
+          names = n.names;
+          inputs = n.inputs;
+          gates = n.gates;
+          outputs = n.outputs;
+        }) };
 }
 
 impl Netlist {

@@ -7,7 +7,9 @@ ghost use Rattle.lw_netlist.specs.declared.draft.GateDraft.{GateDraft};
 ghost use Rattle.lw_netlist.specs.Closing.{closed_gate, netlist_in};
 ghost use Rattle.lw_netlist.specs.Numbered.{net_at, start_at};
 ghost use Rattle.lw_netlist.specs.Ordering.{TellNets, net_by};
-ghost use Rattle.lw_netlist.specs.Placing.{AreGatesBy, ArePlaces, AreTurned, CanBeNamed, IsMadeOf, IsNamed, IsPlaced, gate_at, gates_at, names_at, signal_at};
+ghost use Rattle.lw_netlist.specs.Placing.{AreGatesBy, ArePlaces, AreTurned, CanBeNamed, IsMadeOf};
+ghost use Rattle.lw_netlist.specs.Placing.{IsNamed, IsPlaced, gate_at, gates_at, names_at};
+ghost use Rattle.lw_netlist.specs.Placing.{signal_at};
 
 use crate::closing::ports;
 use crate::graph::Graph;

@@ -32,7 +32,8 @@ impl Model for Signals {
 }
 
 impl Signals {
-    ghost use Rattle.std.specs.Prelude.{◌≡◌, ◌<◌, ◌++◌, [], ◌∷◌, length, not, is_some, IfOk, IfSome, OnErr, if◌then◌else◌};
+    ghost use Rattle.std.specs.Prelude.{◌≡◌, ◌<◌, ◌++◌, [], ◌∷◌, length, not, is_some, IfOk};
+    ghost use Rattle.std.specs.Prelude.{IfSome, OnErr, if◌then◌else◌};
     ghost use Rattle.std.specs.List.{IsDistinct};
     ghost use Rattle.std.specs.Str.{bytes_eq};
     ghost use Rattle.lw_dag.specs.Names.{is_among, number_in};
@@ -53,6 +54,7 @@ impl Signals {
         Signals { names, heads, next }
     }
 
+    /// How many signals there are.
     pub fn len(&self) -> usize
         ensures len { result ≡ length self.now }
         ensures distinct { IsDistinct bytes_eq self.now }

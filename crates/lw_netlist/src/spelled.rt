@@ -40,7 +40,8 @@ impl Model for SpelledGate {
 }
 
 impl SpelledGate {
-    ghost use Rattle.std.specs.Prelude.{◌≡◌, ◌<◌, ◌++◌, [], ◌∷◌, length, slice_get, Some, IfOk, OnOk};
+    ghost use Rattle.std.specs.Prelude.{◌≡◌, ◌<◌, ◌++◌, [], ◌∷◌, length, slice_get, Some, IfOk};
+    ghost use Rattle.std.specs.Prelude.{OnOk};
 
     /// A gate without pins that drives this name.
     pub fn new(alloc: Global, cell: CellId, out: &[u8]) -> Result<Self, AllocError>
@@ -72,6 +73,7 @@ impl SpelledGate {
         Ok(())
     }
 
+    /// The cell, by its number in the library.
     pub fn cell(&self) -> CellId
         ensures { result ≡ self.now.cell }
     {

@@ -24,7 +24,8 @@ impl Model for SpelledNames {
 }
 
 impl SpelledNames {
-    ghost use Rattle.std.specs.Prelude.{◌≡◌, ◌<◌, ◌++◌, [], ◌∷◌, length, slice_get, OnOk, OnErr, Some};
+    ghost use Rattle.std.specs.Prelude.{◌≡◌, ◌<◌, ◌++◌, [], ◌∷◌, length, slice_get, OnOk, OnErr};
+    ghost use Rattle.std.specs.Prelude.{Some};
 
     /// No names. Growth takes memory from `alloc`.
     pub fn new(alloc: Global) -> Self
@@ -36,6 +37,7 @@ impl SpelledNames {
         }
     }
 
+    /// How many names there are.
     pub fn len(&self) -> usize
         ensures { result ≡ length self.now }
     {

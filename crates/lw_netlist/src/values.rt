@@ -1,5 +1,6 @@
 // The values of nets.
-ghost use Rattle.std.specs.Prelude.{◌≡◌, ◌+◌, ◌<◌, ◌≤◌, ℕ, false, Some, length, take, slice_get, slice_index_or, All};
+ghost use Rattle.std.specs.Prelude.{◌≡◌, ◌+◌, ◌<◌, ◌≤◌, ℕ, false, Some, length, take, slice_get};
+ghost use Rattle.std.specs.Prelude.{slice_index_or, All};
 ghost use Rattle.lw_genlib.specs.Cells.{cell_value, IsListed};
 ghost use Rattle.lw_netlist.specs.Netlists.{IsGateAt};
 ghost use Rattle.lw_netlist.specs.Plain.{HasCell};

@@ -21,7 +21,8 @@ IsNodeAt nodes place (Pin k) = (k < 16) × (tree_at nodes place ≡ leaf k)
 IsNodeAt nodes place One = tree_at nodes place ≡ const_one
 IsNodeAt nodes place Zero = tree_at nodes place ≡ const_zero
 IsNodeAt nodes place (Inv p) = (p < place) × (tree_at nodes place ≡ inv (tree_at nodes p))
-IsNodeAt nodes place (Nand p q) = (p < place) × (q < place) × (tree_at nodes place ≡ nand (tree_at nodes p) (tree_at nodes q))
+IsNodeAt nodes place (Nand p q) =
+    (p < place) × (q < place) × (tree_at nodes place ≡ nand (tree_at nodes p) (tree_at nodes q))
 
 -- how many patterns a library has at most
 abbrev pub most_patterns : ℕ

@@ -47,7 +47,9 @@ nodes_from first const_one = One ∷ []
 nodes_from first const_zero = Zero ∷ []
 nodes_from first (inv t) = nodes_from first t ++ Inv (first + node_count t - 1) ∷ []
 nodes_from first (nand t u) =
-    nodes_from first t ++ (nodes_from (first + node_count t) u ++ Nand (first + node_count t - 1) (first + node_count t + node_count u - 1) ∷ [])
+    nodes_from first t
+    ++ (nodes_from (first + node_count t) u ++ Nand (first + node_count t - 1)
+    (first + node_count t + node_count u - 1) ∷ [])
 
 abbrev pub nodes_of : Tree → List PatNode
 nodes_of t = nodes_from 0 t

@@ -1,5 +1,6 @@
 // The trees of an expression.
-ghost use Rattle.std.specs.Prelude.{◌≡◌, ◌-◌, ◌≤◌, ◌++◌, ◌∷◌, [], vec_len, map, take, drop, OnOk, IfOk};
+ghost use Rattle.std.specs.Prelude.{◌≡◌, ◌-◌, ◌≤◌, ◌++◌, ◌∷◌, [], vec_len, map, take, drop, OnOk};
+ghost use Rattle.std.specs.Prelude.{IfOk};
 ghost use Rattle.lw_genlib.specs.Postfix.{arity, stepped, run, postfix};
 ghost use Rattle.lw_laws.specs.Patterns.{trees_of_expr, inverted};
 ghost use Rattle.lw_pattern.specs.Steps.{law_operator};

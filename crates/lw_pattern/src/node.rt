@@ -40,18 +40,21 @@ impl PatNodes {
         PatNodes { items }
     }
 
+    /// How many nodes there are.
     pub fn len(&self) -> usize
         ensures { result ≡ length self.now }
     {
         self.items.len()
     }
 
+    /// Whether there are no nodes.
     pub fn is_empty(&self) -> bool
         ensures { IsTrue result ↔ (self.now ≡ []) }
     {
         self.items.is_empty()
     }
 
+    /// The nodes, in order.
     pub fn as_slice(&self) -> &[PatNode]
         ensures { result.now ≡ self.now }
     {

@@ -2,7 +2,8 @@
 ghost use Rattle.std.specs.Prelude.{◌≡◌, ◌++◌, ◌∷◌, [], OnOk, IfOk, IsTrue};
 ghost use Rattle.lw_laws.specs.Trees.{Tree, leaf};
 ghost use Rattle.lw_laws.specs.Patterns.{inverted, tree_by, constant_tree};
-ghost use Rattle.lw_pattern.specs.Steps.{steps_of, spelled, is_single, is_complement, law_operator, operand_of, operator_steps, IsTail};
+ghost use Rattle.lw_pattern.specs.Steps.{steps_of, spelled, is_single, is_complement, law_operator};
+ghost use Rattle.lw_pattern.specs.Steps.{operand_of, operator_steps, IsTail};
 
 use crate::step::{Operator, Step};
 use std::alloc::{AllocError, Global};

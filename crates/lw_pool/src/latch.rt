@@ -64,18 +64,21 @@ impl Latches {
         self.items
     }
 
+    /// How many latches there are.
     pub fn len(&self) -> usize
         ensures { result ≡ length self.now }
     {
         self.items.len()
     }
 
+    /// Whether there are no latches.
     pub fn is_empty(&self) -> bool
         ensures { IsTrue result ↔ (self.now ≡ []) }
     {
         self.items.is_empty()
     }
 
+    /// The latches, in order.
     pub fn as_slice(&self) -> &[Latch]
         ensures { result.now ≡ self.now }
     {

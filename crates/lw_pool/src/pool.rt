@@ -1,4 +1,5 @@
-ghost use Rattle.std.specs.Prelude.{◌≡◌, ◌+◌, ◌-◌, ◌^◌, ◌<◌, ◌≤◌, ◌++◌, [], ◌∷◌, ◌↔◌, length, IfOk, IfErr, OnOk, OnErr, IsTrue, slice_get, take, drop};
+ghost use Rattle.std.specs.Prelude.{◌≡◌, ◌+◌, ◌-◌, ◌^◌, ◌<◌, ◌≤◌, ◌++◌, [], ◌∷◌, ◌↔◌, length, IfOk};
+ghost use Rattle.std.specs.Prelude.{IfErr, OnOk, OnErr, IsTrue, slice_get, take, drop};
 
 use crate::Id;
 use std::alloc::{AllocError, Global};
@@ -17,7 +18,10 @@ impl<I: Id, T> Model for Pool<I, T> {
 
     ghost Value = { PoolState T };
 
-    ghost view = { λ p. record { items = p.items.items; spare = vec_capacity p.items - vec_len p.items } };
+    ghost view = { λ p. record {
+      items = p.items.items;
+      spare = vec_capacity p.items - vec_len p.items;
+    } };
 
     ghost invariant = { λ p. length p.items.items < 2 ^ 32 };
 }

@@ -1,12 +1,13 @@
 -- A queue of numbers by the times for which they wait.
-use Rattle.std.specs.Prelude.{ℕ, ◌-◌, ◌<◌, ◌≤◌, ◌≡◌, ◌⊎◌, List, [], ◌∷◌, ◌++◌, length, All, Contains, Option, Some, None, Bool, true, false, slice_get, ◌+◌}
+use Rattle.std.specs.Prelude.{ℕ, ◌-◌, ◌<◌, ◌≤◌, ◌≡◌, ◌⊎◌, List, [], ◌∷◌, ◌++◌, length, All, Contains, Option, Some}
+use Rattle.std.specs.Prelude.{None, Bool, true, false, slice_get, ◌+◌}
 use Rattle.std.specs.BinaryHeap.{IsHeap}
 use Rattle.std.specs.declared.cmp.Ordering.{Ordering}
 use Rattle.std.specs.Ordering.{nat_cmp, ordering_then}
 use Rattle.std.specs.List.Sorted.{IsPermutation}
 
--- what waits: how much time is left up to a horizon, a hint, and the number of a choice or a group; of equal times in the heap
--- the greatest hint comes first, and in lanes it has no say
+-- what waits: how much time is left up to a horizon, a hint, and the number of a choice or a group; of equal times in
+-- the heap the greatest hint comes first, and in lanes it has no say
 pub record Queued : Type 0 where
   pub horizon : ℕ
   pub items : List (ℕ × (ℕ × ℕ))
@@ -85,7 +86,8 @@ IsFirstTime q (Some time) =
 abbrev pub IsFirstOf : Queued → Queued → Option ℕ → Type 0
 IsFirstOf p q None = (p.items ≡ []) × (q.items ≡ [])
 IsFirstOf p q (Some time) =
-    (((n : ℕ) × Waits p time n) ⊎ ((n : ℕ) × Waits q time n)) × ((t n : ℕ) → Waits p t n → time ≤ t) × ((t n : ℕ) → Waits q t n → time ≤ t)
+    (((n : ℕ) × Waits p time n) ⊎ ((n : ℕ) × Waits q time n)) × ((t n : ℕ) → Waits p t n → time ≤ t)
+    × ((t n : ℕ) → Waits q t n → time ≤ t)
 
 -- one more waits at the time
 abbrev pub IsWithOneMore : Queued → Queued → ℕ → ℕ → ℕ → Type 0

@@ -1,6 +1,8 @@
 // Some lanes together.
-ghost use Rattle.std.specs.Prelude.{◌≡◌, ◌++◌, ◌≤◌, List, IfOk, MatchResult, [], length, option_map};
-ghost use Rattle.lw_queue.specs.Queues.{Item, IsMostLeft, IsPushedBehind, IsTakenAny, IsTakenIn, flat};
+ghost use Rattle.std.specs.Prelude.{◌≡◌, ◌++◌, ◌≤◌, List, IfOk, MatchResult, [], length};
+ghost use Rattle.std.specs.Prelude.{option_map};
+ghost use Rattle.lw_queue.specs.Queues.{Item, IsMostLeft, IsPushedBehind, IsTakenAny, IsTakenIn};
+ghost use Rattle.lw_queue.specs.Queues.{flat};
 
 use crate::lane::Lane;
 use std::alloc::{AllocError, Global};

@@ -1,7 +1,8 @@
 // What waits, the earliest first, in lanes and a heap.
 ghost use Rattle.std.specs.Prelude.{◌≡◌, ◌<◌, ◌≤◌, ℕ, IfOk, OnOk, option_map};
 ghost use Rattle.std.specs.BinaryHeap.{IsHeap, heap_items};
-ghost use Rattle.lw_queue.specs.Queues.{IsFirstTime, IsHorizonOf, IsIdle, IsMostLeft, IsTaken, IsWithOneMore, item_cmp, Waits};
+ghost use Rattle.lw_queue.specs.Queues.{IsFirstTime, IsHorizonOf, IsIdle, IsMostLeft, IsTaken};
+ghost use Rattle.lw_queue.specs.Queues.{IsWithOneMore, item_cmp, Waits};
 
 use crate::lane::Lane;
 use crate::lanes::{most_left, no_lanes, push_behind, take_any};

@@ -60,6 +60,14 @@ module _ (reps forms : List ℕ) (lower : IsLower reps) (lt : length forms < len
   by_rep_old : (k : ℕ) → k < length forms → slice_index (forms ++ c ∷ []) k ≡ rep_of (forms ++ c ∷ []) (slice_index reps k)
   by_rep_old k l = old k l ∙ (are.by_rep k l ∙ sym (same_rep (slice_index reps k) (rep_below k l)))
 
+  -- what holds of the new base form and of those before it holds of all
+  at_each : (P : ℕ → Type 0) → P (length forms) → ((k : ℕ) → k < length forms → P k) → (k : ℕ) → k < length (forms ++ c ∷ []) → P k
+  at_each P here before k l = by_place (ℕ_discrete k (length forms))
+    where
+      by_place : Dec (k ≡ length forms) → P k
+      by_place (yes e) = subst P (sym e) here
+      by_place (no ne) = before k (let m = length-new in omega arith)
+
   -- a base form that is its own representative
   module _ (root : slice_index reps (length forms) ≡ 2 * length forms) (next : c ≡ 2 * pair_count 0 forms) where
     count_root : pair_count 0 (forms ++ c ∷ []) ≡ suc (pair_count 0 forms)
@@ -69,64 +77,20 @@ module _ (reps forms : List ℕ) (lower : IsLower reps) (lt : length forms < len
     classes_root = record {
       numbered = numbered_more 0 forms c are.numbered (inl next);
       few = let n = count_root in let l = length-new in let f = are.few in omega arith;
-      below = below';
-      by_rep = by_rep';
-      even = even';
-      rising = rising';
+      below = at_each (λ k. slice_index (forms ++ c ∷ []) k / 2 < pair_count 0 (forms ++ c ∷ []))
+          (let n = count_root in let h : slice_index (forms ++ c ∷ []) (length forms) / 2 ≡ c / 2 = ap (λ m. m / 2) last in omega arith)
+          (λ k l. let n = count_root in let h : slice_index (forms ++ c ∷ []) k / 2 ≡ slice_index forms k / 2 = ap (λ m. m / 2) (old k l) in let f = are.below k l in omega arith);
+      by_rep = at_each (λ k. slice_index (forms ++ c ∷ []) k ≡ rep_of (forms ++ c ∷ []) (slice_index reps k)) (sym (ap (rep_of (forms ++ c ∷ [])) root ∙ rep_of-double (forms ++ c ∷ []) (length forms))) by_rep_old;
+      even = at_each (λ k. slice_index reps k ≡ 2 * k → slice_index (forms ++ c ∷ []) k % 2 ≡ 0) (λ r. ap (λ m. m % 2) (last ∙ next) ∙ (omega arith)) (λ k l r. ap (λ m. m % 2) (old k l) ∙ are.even k l r);
+      rising = λ j k less l d e. at_each (λ k. j < k → slice_index reps k ≡ 2 * k → slice_index (forms ++ c ∷ []) j < slice_index (forms ++ c ∷ []) k) (newest j d) (λ k l less e. rw (old j (omega arith), old k l) (are.rising j k less l d e)) k l less e;
     }
       where
-        below' : (k : ℕ) → k < length (forms ++ c ∷ []) → slice_index (forms ++ c ∷ []) k / 2 < pair_count 0 (forms ++ c ∷ [])
-        below' k l = by_place (ℕ_discrete k (length forms))
-          where
-            by_place : Dec (k ≡ length forms) → slice_index (forms ++ c ∷ []) k / 2 < pair_count 0 (forms ++ c ∷ [])
-            by_place (yes e) =
-                let n = count_root in
-                let s : slice_index (forms ++ c ∷ []) k ≡ c = ap (slice_index (forms ++ c ∷ [])) e ∙ last in
-                let h : slice_index (forms ++ c ∷ []) k / 2 ≡ c / 2 = ap (λ m. m / 2) s in
-                omega arith
-            by_place (no ne) =
-                let n = count_root in
-                let m = length-new in
-                let kl : k < length forms = omega arith in
-                let h : slice_index (forms ++ c ∷ []) k / 2 ≡ slice_index forms k / 2 = ap (λ m. m / 2) (old k kl) in
-                let f = are.below k kl in
-                omega arith
-
-        by_rep' : (k : ℕ) → k < length (forms ++ c ∷ []) → slice_index (forms ++ c ∷ []) k ≡ rep_of (forms ++ c ∷ []) (slice_index reps k)
-        by_rep' k l = by_place (ℕ_discrete k (length forms))
-          where
-            by_place : Dec (k ≡ length forms) → slice_index (forms ++ c ∷ []) k ≡ rep_of (forms ++ c ∷ []) (slice_index reps k)
-            by_place (yes e) =
-                let r : slice_index reps k ≡ 2 * k = subst (λ j. slice_index reps j ≡ 2 * j) (sym e) root in
-                sym (ap (rep_of (forms ++ c ∷ [])) r ∙ rep_of-double (forms ++ c ∷ []) k)
-            by_place (no ne) = let m = length-new in by_rep_old k (omega arith)
-
-        even' : (k : ℕ) → k < length (forms ++ c ∷ []) → slice_index reps k ≡ 2 * k → slice_index (forms ++ c ∷ []) k % 2 ≡ 0
-        even' k l r = by_place (ℕ_discrete k (length forms))
-          where
-            by_place : Dec (k ≡ length forms) → slice_index (forms ++ c ∷ []) k % 2 ≡ 0
-            by_place (yes e) =
-                ap (λ m. m % 2) (ap (slice_index (forms ++ c ∷ [])) e ∙ (last ∙ next)) ∙ (omega arith)
-            by_place (no ne) =
-                let m = length-new in
-                let kl : k < length forms = omega arith in
-                ap (λ m. m % 2) (old k kl) ∙ are.even k kl r
-
-        rising' : (j k : ℕ) → j < k → k < length (forms ++ c ∷ []) → slice_index reps j ≡ 2 * j → slice_index reps k ≡ 2 * k → slice_index (forms ++ c ∷ []) j < slice_index (forms ++ c ∷ []) k
-        rising' j k less l d e = by_place (ℕ_discrete k (length forms))
-          where
-            by_place : Dec (k ≡ length forms) → slice_index (forms ++ c ∷ []) j < slice_index (forms ++ c ∷ []) k
-            by_place (yes s) =
-                let jl : j < length forms = omega arith in
-                let f = are.below j jl in
-                let a = old j jl in
-                let z : slice_index (forms ++ c ∷ []) k ≡ c = ap (slice_index (forms ++ c ∷ [])) s ∙ last in
-                omega arith
-            by_place (no ne) =
-                let m = length-new in
-                let kl : k < length forms = omega arith in
-                let jl : j < length forms = omega arith in
-                rw (old j jl, old k kl) (are.rising j k less kl d e)
+        newest : (j : ℕ) → slice_index reps j ≡ 2 * j → j < length forms → slice_index reps (length forms) ≡ 2 * length forms → slice_index (forms ++ c ∷ []) j < slice_index (forms ++ c ∷ []) (length forms)
+        newest j d less e =
+            let f = are.below j less in
+            let a = old j less in
+            let z = last in
+            omega arith
 
   -- a base form with the representative of a lower one
   module _ (low : slice_index reps (length forms) / 2 < length forms) (is : c ≡ rep_of forms (slice_index reps (length forms))) where
@@ -140,68 +104,20 @@ module _ (reps forms : List ℕ) (lower : IsLower reps) (lt : length forms < len
     count_low : pair_count 0 (forms ++ c ∷ []) ≡ pair_count 0 forms
     count_low = count_more 0 forms c ∙ count_there (pair_count 0 forms) c class_low
 
-    no_root : (k : ℕ) → k ≡ length forms → slice_index reps k ≡ 2 * k → ⊥
-    no_root k e r =
-        let s : slice_index reps k / 2 ≡ slice_index reps (length forms) / 2 = ap (λ j. slice_index reps j / 2) e in
-        let h : slice_index reps k / 2 ≡ 2 * k / 2 = ap (λ m. m / 2) r in
-        omega arith
+    no_root : slice_index reps (length forms) ≡ 2 * length forms → ⊥
+    no_root r = let h : slice_index reps (length forms) / 2 ≡ 2 * length forms / 2 = ap (λ m. m / 2) r in omega arith
 
     pub classes_low : AreClasses reps (forms ++ c ∷ [])
     classes_low = record {
       numbered = numbered_more 0 forms c are.numbered (inr class_low);
       few = let n = count_low in let l = length-new in let f = are.few in omega arith;
-      below = below';
-      by_rep = by_rep';
-      even = even';
-      rising = rising';
+      below = at_each (λ k. slice_index (forms ++ c ∷ []) k / 2 < pair_count 0 (forms ++ c ∷ []))
+          (let n = count_low in let h : slice_index (forms ++ c ∷ []) (length forms) / 2 ≡ c / 2 = ap (λ m. m / 2) last in let f = class_low in omega arith)
+          (λ k l. let n = count_low in let h : slice_index (forms ++ c ∷ []) k / 2 ≡ slice_index forms k / 2 = ap (λ m. m / 2) (old k l) in let f = are.below k l in omega arith);
+      by_rep = at_each (λ k. slice_index (forms ++ c ∷ []) k ≡ rep_of (forms ++ c ∷ []) (slice_index reps k)) (last ∙ (is ∙ sym (same_rep (slice_index reps (length forms)) low))) by_rep_old;
+      even = at_each (λ k. slice_index reps k ≡ 2 * k → slice_index (forms ++ c ∷ []) k % 2 ≡ 0) (λ r. absurd (no_root r)) (λ k l r. ap (λ m. m % 2) (old k l) ∙ are.even k l r);
+      rising = λ j k less l d e. at_each (λ k. j < k → slice_index reps k ≡ 2 * k → slice_index (forms ++ c ∷ []) j < slice_index (forms ++ c ∷ []) k) (λ less e. absurd (no_root e)) (λ k l less e. rw (old j (omega arith), old k l) (are.rising j k less l d e)) k l less e;
     }
-      where
-        below' : (k : ℕ) → k < length (forms ++ c ∷ []) → slice_index (forms ++ c ∷ []) k / 2 < pair_count 0 (forms ++ c ∷ [])
-        below' k l = by_place (ℕ_discrete k (length forms))
-          where
-            by_place : Dec (k ≡ length forms) → slice_index (forms ++ c ∷ []) k / 2 < pair_count 0 (forms ++ c ∷ [])
-            by_place (yes e) =
-                let n = count_low in
-                let s : slice_index (forms ++ c ∷ []) k ≡ c = ap (slice_index (forms ++ c ∷ [])) e ∙ last in
-                let h : slice_index (forms ++ c ∷ []) k / 2 ≡ c / 2 = ap (λ m. m / 2) s in
-                let f = class_low in
-                omega arith
-            by_place (no ne) =
-                let n = count_low in
-                let m = length-new in
-                let kl : k < length forms = omega arith in
-                let h : slice_index (forms ++ c ∷ []) k / 2 ≡ slice_index forms k / 2 = ap (λ m. m / 2) (old k kl) in
-                let f = are.below k kl in
-                omega arith
-
-        by_rep' : (k : ℕ) → k < length (forms ++ c ∷ []) → slice_index (forms ++ c ∷ []) k ≡ rep_of (forms ++ c ∷ []) (slice_index reps k)
-        by_rep' k l = by_place (ℕ_discrete k (length forms))
-          where
-            by_place : Dec (k ≡ length forms) → slice_index (forms ++ c ∷ []) k ≡ rep_of (forms ++ c ∷ []) (slice_index reps k)
-            by_place (yes e) =
-                ap (slice_index (forms ++ c ∷ [])) e ∙ (last ∙ (is ∙ (sym (same_rep (slice_index reps (length forms)) low) ∙ ap (λ j. rep_of (forms ++ c ∷ []) (slice_index reps j)) (sym e))))
-            by_place (no ne) = let m = length-new in by_rep_old k (omega arith)
-
-        even' : (k : ℕ) → k < length (forms ++ c ∷ []) → slice_index reps k ≡ 2 * k → slice_index (forms ++ c ∷ []) k % 2 ≡ 0
-        even' k l r = by_place (ℕ_discrete k (length forms))
-          where
-            by_place : Dec (k ≡ length forms) → slice_index (forms ++ c ∷ []) k % 2 ≡ 0
-            by_place (yes e) = absurd (no_root k e r)
-            by_place (no ne) =
-                let m = length-new in
-                let kl : k < length forms = omega arith in
-                ap (λ m. m % 2) (old k kl) ∙ are.even k kl r
-
-        rising' : (j k : ℕ) → j < k → k < length (forms ++ c ∷ []) → slice_index reps j ≡ 2 * j → slice_index reps k ≡ 2 * k → slice_index (forms ++ c ∷ []) j < slice_index (forms ++ c ∷ []) k
-        rising' j k less l d e = by_place (ℕ_discrete k (length forms))
-          where
-            by_place : Dec (k ≡ length forms) → slice_index (forms ++ c ∷ []) j < slice_index (forms ++ c ∷ []) k
-            by_place (yes s) = absurd (no_root k s e)
-            by_place (no ne) =
-                let m = length-new in
-                let kl : k < length forms = omega arith in
-                let jl : j < length forms = omega arith in
-                rw (old j jl, old k kl) (are.rising j k less kl d e)
 
 -- the same at the place that a loop has come to
 module _ (reps forms new : List ℕ) (lower : IsLower reps) (base c : ℕ) (lt : base < length reps) (count : length forms ≡ base) (are : AreClasses reps forms) (set : new ≡ forms ++ c ∷ []) where

@@ -16,7 +16,8 @@ pub record AreClasses (reps forms : List ℕ) : Type 0 where
   pub below : (k : ℕ) → k < length forms → slice_index forms k / 2 < pair_count 0 forms
   pub by_rep : (k : ℕ) → k < length forms → slice_index forms k ≡ rep_of forms (slice_index reps k)
   pub even : (k : ℕ) → k < length forms → slice_index reps k ≡ 2 * k → slice_index forms k % 2 ≡ 0
-  pub rising : (j k : ℕ) → j < k → k < length forms → slice_index reps j ≡ 2 * j → slice_index reps k ≡ 2 * k → slice_index forms j < slice_index forms k
+  pub rising : (j k : ℕ) → j < k → k < length forms → slice_index reps j ≡ 2 * j → slice_index reps k ≡ 2 * k
+      → slice_index forms j < slice_index forms k
 
 -- the classes of all base forms, and how many pairs of a class and its complement there are
 pub record AreAllClasses (reps forms : List ℕ) (found : ℕ) : Type 0 where

@@ -24,4 +24,5 @@ pub record AreSettledReps (draft : DraftFacts) (reps : List ℕ) : Type 0 where
 -- the graph of the draft, whatever the samples of its base forms
 abbrev pub IsGraphOf : DraftFacts → List ℕ → Graph → Type 0
 IsGraphOf draft reps graph =
-    (samples : List Bool) → length samples ≡ length reps → IsReduced (plain_draft draft.inputs samples draft.nands.items draft.links.items) graph
+    (samples : List Bool) → length samples ≡ length reps
+    → IsReduced (plain_draft draft.inputs samples draft.nands.items draft.links.items) graph

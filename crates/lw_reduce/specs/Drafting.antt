@@ -1,5 +1,6 @@
 -- The plain draft that the code's draft stands for, and what its type keeps.
-use Rattle.std.specs.Prelude.{ℕ, ◌-◌, ◌/◌, ◌%◌, ◌<◌, ◌≤◌, ◌≡◌, ◌==◌, ◌^◌, Bool, false, not, ◌&&◌, if◌then◌else◌, List, length, map, slice_index_or, All}
+use Rattle.std.specs.Prelude.{ℕ, ◌-◌, ◌/◌, ◌%◌, ◌<◌, ◌≤◌, ◌≡◌, ◌==◌, ◌^◌, Bool, false, not, ◌&&◌, if◌then◌else◌, List}
+use Rattle.std.specs.Prelude.{length, map, slice_index_or, All}
 use Rattle.lw_laws.specs.Drafts.{Draft as PlainDraft, FormLink, NandFact}
 use Rattle.lw_reduce.specs.declared.facts.Fact.{Fact}
 use Rattle.lw_reduce.specs.declared.facts.Link.{Link}

@@ -1,5 +1,6 @@
 -- What a look-up in the table of facts gives.
-use Rattle.std.specs.Prelude.{ℕ, zero, suc, ◌^◌, ◌<◌, ◌≤◌, ◌≡◌, ⊤, List, All, Contains, Option, None, length, slice_get, slice_index_or}
+use Rattle.std.specs.Prelude.{ℕ, zero, suc, ◌^◌, ◌<◌, ◌≤◌, ◌≡◌, ⊤, List, All, Contains, Option, None, length, slice_get}
+use Rattle.std.specs.Prelude.{slice_index_or}
 use Rattle.lw_reduce.specs.declared.propagate.Lookup.{Lookup}
 use Rattle.lw_reduce.specs.declared.propagate.Operands.{Operands}
 use Rattle.lw_reduce.specs.declared.propagate.Lookup.TheVariants.{Form, Free, Full}
@@ -48,7 +49,8 @@ pub record CanInsert (facts : Facts) (reps slots : List ℕ) (place : ℕ) (o : 
   pub places : All (λ e. e ≤ length facts.nands.now) slots
   pub within : place < length facts.nands.now
   pub few : length facts.nands.now < 2 ^ 32
-  pub operands : HasOperands (length reps) facts.nands.now facts.links.now (slice_index_or facts.nands.now place no_fact) o.low o.high
+  pub operands : HasOperands (length reps) facts.nands.now facts.links.now
+      (slice_index_or facts.nands.now place no_fact) o.low o.high
 
 -- so they are, and facts over representatives follow from the facts
 pub record CanVisitAll (facts : Facts) (reps slots : List ℕ) (sorted : List Fact) : Type 0 where

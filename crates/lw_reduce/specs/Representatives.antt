@@ -1,5 +1,6 @@
 -- Representatives of forms, as in union-find, and when they are sound and closed.
-use Rattle.std.specs.Prelude.{ℕ, ◌*◌, ◌/◌, ◌%◌, ◌<◌, ◌≤◌, Bool, true, IsTrue, IsFalse, All, ◌≡◌, ◌==◌, ◌⊎◌, List, length, Contains, slice_index, sum_by, if◌then◌else◌}
+use Rattle.std.specs.Prelude.{ℕ, ◌*◌, ◌/◌, ◌%◌, ◌<◌, ◌≤◌, Bool, true, IsTrue, IsFalse, All, ◌≡◌, ◌==◌, ◌⊎◌, List}
+use Rattle.std.specs.Prelude.{length, Contains, slice_index, sum_by, if◌then◌else◌}
 use Rattle.lw_laws.specs.Flip.{flip}
 use Rattle.lw_laws.specs.Families.{Family, IsNand, Equivalent}
 use Rattle.lw_reduce.specs.declared.facts.Fact.{Fact}
@@ -31,7 +32,8 @@ AreSound F reps = (f : ℕ) → F.Occurs f → F.Occurs (rep_of reps f) × Equiv
 -- linked forms have one representative, and so have NANDs of forms with the same representatives
 pub record AreClosed (F : Family) (reps : List ℕ) : Type 0 where
   pub links : (f h : ℕ) → F.IsLink f h → rep_of reps f ≡ rep_of reps h
-  pub nands : (f h x y u v : ℕ) → IsNand F f x y → IsNand F h u v → rep_of reps x ≡ rep_of reps u → rep_of reps y ≡ rep_of reps v → rep_of reps f ≡ rep_of reps h
+  pub nands : (f h x y u v : ℕ) → IsNand F f x y → IsNand F h u v → rep_of reps x ≡ rep_of reps u
+      → rep_of reps y ≡ rep_of reps v → rep_of reps f ≡ rep_of reps h
 
 -- each representative is its own: a root
 abbrev pub IsFlat : List ℕ → Type 0
@@ -47,8 +49,8 @@ IsFactIn n p = (p.form / 2 < n) × (p.left / 2 < n) × (p.right / 2 < n)
 abbrev pub IsLinkIn : ℕ → Link → Type 0
 IsLinkIn n l = (l.left / 2 < n) × (l.right / 2 < n)
 
--- the representatives are sound for these facts, which are in range and never make a form and its complement equivalent;
--- a base form's representative is itself or a form of a lower one
+-- the representatives are sound for these facts, which are in range and never make a form and its complement
+-- equivalent; a base form's representative is itself or a form of a lower one
 pub record AreRepresentatives (n : ℕ) (nands : List Fact) (links : List Link) (reps : List ℕ) : Type 0 where
   pub count : length reps ≡ n
   pub sound : AreSound (family n nands links) reps

@@ -1,12 +1,14 @@
 -- Canonical facts, over representatives, sorted by their operands; and when representatives are settled.
-use Rattle.std.specs.Prelude.{ℕ, ◌+◌, ◌-◌, ◌*◌, ◌/◌, ◌^◌, ◌<◌, ◌≤◌, ◌≡◌, IsFalse, IsTrue, Bool, min, max, List, length, map, Contains, All, slice_index_or}
+use Rattle.std.specs.Prelude.{ℕ, ◌+◌, ◌-◌, ◌*◌, ◌/◌, ◌^◌, ◌<◌, ◌≤◌, ◌≡◌, IsFalse, IsTrue, Bool, min, max, List, length}
+use Rattle.std.specs.Prelude.{map, Contains, All, slice_index_or}
 use Rattle.std.specs.List.Sorted.{IsNonDecreasingBy, IsPermutation}
 use Rattle.lw_laws.specs.Families.{Equivalent}
 use Rattle.lw_reduce.specs.declared.facts.Fact.{Fact}
 use Rattle.lw_reduce.specs.declared.facts.Facts.{Facts}
 use Rattle.lw_reduce.specs.declared.facts.Link.{Link}
 use Rattle.lw_reduce.specs.declared.rounds.RoundOutcome.{RoundOutcome}
-use Rattle.lw_reduce.specs.Representatives.{AreRepresentatives, HasOperands, IsFlat, LinkAgrees, Progresses, Represent, family, rep_of}
+use Rattle.lw_reduce.specs.Representatives.{AreRepresentatives, HasOperands, IsFlat, LinkAgrees, Progresses, Represent}
+use Rattle.lw_reduce.specs.Representatives.{family, rep_of}
 
 -- the fact over representatives, the lower operand first
 abbrev pub canonical_fact : List ℕ → Fact → Fact
@@ -38,7 +40,8 @@ AgreesAt reps canonical place =
     p.left ≡ q.left → p.right ≡ q.right → rep_of reps p.form ≡ rep_of reps q.form
 
 -- the representatives are flat, linked forms have one, and so have forms of neighbours with the same operands
-pub record IsSettled (n : ℕ) (nands : List Fact) (links : List Link) (reps : List ℕ) (canonical : List Fact) : Type 0 where
+pub record IsSettled (n : ℕ) (nands : List Fact) (links : List Link) (reps : List ℕ)
+    (canonical : List Fact) : Type 0 where
   pub valid : AreRepresentatives n nands links reps
   pub flat : IsFlat reps
   pub linked : All (LinkAgrees reps) links
@@ -51,7 +54,9 @@ pub record AreSettled (n : ℕ) (nands : List Fact) (links : List Link) (reps : 
   pub valid : AreRepresentatives n nands links reps
   pub flat : IsFlat reps
   pub linked : All (LinkAgrees reps) links
-  pub agree : (p q : Fact) → Contains nands p → Contains nands q → (canonical_fact reps p).left ≡ (canonical_fact reps q).left → (canonical_fact reps p).right ≡ (canonical_fact reps q).right → rep_of reps p.form ≡ rep_of reps q.form
+  pub agree : (p q : Fact) → Contains nands p → Contains nands q
+      → (canonical_fact reps p).left ≡ (canonical_fact reps q).left
+      → (canonical_fact reps p).right ≡ (canonical_fact reps q).right → rep_of reps p.form ≡ rep_of reps q.form
 
 -- the representatives of a fact's operands as one number
 abbrev pub operands_key : List ℕ → Fact → ℕ

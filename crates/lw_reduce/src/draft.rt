@@ -1,4 +1,5 @@
-ghost use Rattle.std.specs.Prelude.{◌≡◌, ◌-◌, ◌*◌, ◌<◌, ◌≤◌, ◌^◌, ◌++◌, [], ◌∷◌, true, false, not, ◌&&◌, length, replicate, ◌↔◌, IsTrue, IfOk, OnOk, OnErr};
+ghost use Rattle.std.specs.Prelude.{◌≡◌, ◌-◌, ◌*◌, ◌<◌, ◌≤◌, ◌^◌, ◌++◌, [], ◌∷◌, true, false, not};
+ghost use Rattle.std.specs.Prelude.{◌&&◌, length, replicate, ◌↔◌, IsTrue, IfOk, OnOk, OnErr};
 ghost use Rattle.lw_reduce.specs.Drafting.{IsDraft, IsKnown, sample_of};
 ghost use Rattle.lw_pool.specs.Numbers.{most_signals};
 
@@ -27,7 +28,8 @@ impl Model for Draft {
 
     ghost view = { λ d. plain_draft d.inputs d.samples.items d.nands.items d.links.items };
 
-    ghost invariant = { λ d. IsDraft (plain_draft d.inputs d.samples.items d.nands.items d.links.items) };
+    ghost invariant = { λ d. IsDraft (plain_draft d.inputs d.samples.items
+        d.nands.items d.links.items) };
 }
 
 // The samples of true and of so many inputs.

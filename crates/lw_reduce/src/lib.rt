@@ -1,13 +1,23 @@
 //! The choice graph of a draft: the congruence closure of its NAND facts and links.
 //!
-//! A draft lists base forms, facts that a form is the NAND of two, and links between forms of one
-//! signal. Forms are equivalent by links, by complements, and as NANDs of equivalent operands. Each
-//! base form has a representative, as in union-find (`representatives`); a round (`rounds`) unifies
-//! linked forms and, over the facts sorted by the representatives of their operands, forms with the
-//! same operands. Between rounds a hash table carries what was unified on to later facts
-//! (`propagate`). Once a round unifies nothing, classes are numbered by their first base forms
-//! (`classes`), and the operands of the facts, bucketed by class and sorted, are the pairs of the
-//! graph (`buckets`, `sorted_pairs`).
+//! In comes a draft: base forms, facts that a form is the NAND of two, and links between forms of
+//! one signal. Out comes the graph of the least equivalence in which linked forms are equivalent,
+//! and NANDs of equivalent operands. The modules in order:
+//!
+//! * `facts`, `draft`: a fact, and a draft as it grows (`Draft`);
+//! * `representatives`: for each base form the number of an equivalent form, as in union-find;
+//! * `known_facts`, `distinct_operands`: facts over representatives, and whether any two have the
+//!   same operands;
+//! * `rounds`: a round unifies linked forms and, over the facts sorted by the representatives of
+//!   their operands, forms with the same operands, until a round changes nothing;
+//! * `propagate`: between rounds a hash table carries what was unified on to later facts;
+//! * `classes`: the classes, numbered by their first base forms;
+//! * `class_facts`, `buckets`, `sorted_pairs`: the operands of facts by class, sorted, each pair
+//!   once;
+//! * `reduction`: the graph (`reduce`).
+//!
+//! The one definition to read is `IsReduced` in `specs/Drafts.antt` of `lw_laws`. `lw_assoc` calls
+//! `reduce`.
 #![tactic(auto)]
 
 mod buckets;

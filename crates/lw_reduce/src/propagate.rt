@@ -1,8 +1,10 @@
 // Passes over the facts whose operands have new representatives, with a hash table of facts by the
 // representatives of their operands.
 ghost use Rattle.std.specs.Prelude.{◌<◌, ◌≤◌, ◌≡◌, length, slice_index_or, All, IfOk, IfSome};
-ghost use Rattle.lw_reduce.specs.Representatives.{CanFindOperands, ComparesOperands, FindsOperands, StillRepresent};
-ghost use Rattle.lw_reduce.specs.Lookups.{AreFreeSlots, CanInsert, CanVisit, CanVisitAll, HaveSlots, KeepSlots, LooksUp, StandAt, entry_fact};
+ghost use Rattle.lw_reduce.specs.Representatives.{CanFindOperands, ComparesOperands, FindsOperands};
+ghost use Rattle.lw_reduce.specs.Representatives.{StillRepresent};
+ghost use Rattle.lw_reduce.specs.Lookups.{AreFreeSlots, CanInsert, CanVisit, CanVisitAll};
+ghost use Rattle.lw_reduce.specs.Lookups.{HaveSlots, KeepSlots, LooksUp, StandAt, entry_fact};
 ghost use Rattle.lw_reduce.specs.Settling.{HaveCanonical};
 
 use crate::facts::{Fact, Facts};

@@ -68,7 +68,8 @@ fn lists_of(alloc: Global, inputs: u32, forms: &[u32]) -> Result<(Classes, Class
 // The pairs of all classes: the operands of the facts, by the classes of their forms.
 fn rows_of(alloc: Global, numbered: &Numbered, nands: Vec<Fact>) -> Result<Rows, AllocError>
     requires { HaveClasses numbered.now nands.items }
-    ensures { IfOk result (λ rows. AreFactRows numbered.now nands.items rows.pairs.items rows.ends) }
+    ensures { IfOk result
+        (λ rows. AreFactRows numbered.now nands.items rows.pairs.items rows.ends) }
 {
     let facts = ClassFacts {
         facts: class_facts(&numbered.forms, nands),

@@ -1,7 +1,8 @@
 // Representatives of forms, as in union-find: for each base form the number of an equivalent form,
 // at most its own.
 ghost use Rattle.std.specs.Prelude.{◌≡◌, ◌/◌, ◌<◌, length, slice_set};
-ghost use Rattle.lw_reduce.specs.Representatives.{CanFind, CanUnify, FindsRoot, IsFlat, Represent, StillRepresent, Unifies, rep_of, in_phase};
+ghost use Rattle.lw_reduce.specs.Representatives.{CanFind, CanUnify, FindsRoot, IsFlat, Represent};
+ghost use Rattle.lw_reduce.specs.Representatives.{StillRepresent, Unifies, rep_of, in_phase};
 
 use crate::facts::Facts;
 

@@ -2,7 +2,9 @@
 ghost use Rattle.std.specs.Prelude.{◌≡◌, ◌^◌, ◌<◌, length, map, All, IfOk, OnOk};
 ghost use Rattle.lw_facts.specs.Sorting.{AreSortedFrom};
 ghost use Rattle.lw_reduce.specs.Representatives.{LinkAgrees, Represent, Unifies};
-ghost use Rattle.lw_reduce.specs.Settling.{AgreesAll, AgreesAt, AreSettledFrom, CanUnifyAt, HaveCanonical, IsRoundOutcome, TellsSettled, fact_key, canonical_fact};
+ghost use Rattle.lw_reduce.specs.Settling.{AgreesAll, AgreesAt, AreSettledFrom, CanUnifyAt};
+ghost use Rattle.lw_reduce.specs.Settling.{HaveCanonical, IsRoundOutcome, TellsSettled, fact_key};
+ghost use Rattle.lw_reduce.specs.Settling.{canonical_fact};
 
 use crate::distinct_operands::have_distinct_operands;
 use crate::facts::{Fact, Facts};

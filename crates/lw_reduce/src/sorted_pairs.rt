@@ -1,5 +1,6 @@
 // Sorts the pairs of each class and drops repeats.
-ghost use Rattle.std.specs.Prelude.{◌≡◌, ◌+◌, ◌-◌, ◌^◌, ◌<◌, ◌++◌, [], length, slice_index, IfOk, OnOk};
+ghost use Rattle.std.specs.Prelude.{◌≡◌, ◌+◌, ◌-◌, ◌^◌, ◌<◌, ◌++◌, [], length, slice_index, IfOk};
+ghost use Rattle.std.specs.Prelude.{OnOk};
 ghost use Rattle.std.specs.List.{slice_range};
 ghost use Rattle.lw_facts.specs.Sorting.{AreSortedFrom};
 ghost use Rattle.lw_graph.specs.Index.{pair_key};

@@ -4,6 +4,7 @@ use Rattle.std.specs.List.{AllByRecursion}
 use Rattle.std.proofs.lemmas.List.Elements.{All-map, recursion_from_All}
 use Rattle.std.proofs.lemmas.Option.{none-some}
 use native.Mathlib.Decide.{dec_lt}
+use Rattle.lw_facts.proofs.Lists.{IsImage, image_at}
 use Rattle.lw_fixed.specs.declared.micro.Micro.{Micro}
 use Rattle.lw_pool.specs.declared.id.NetId.{NetId}
 use Rattle.lw_laws.specs.Netlists as laws
@@ -21,7 +22,6 @@ use Rattle.lw_netlist.specs.declared.gate.Port.{Port}
 use Rattle.lw_netlist.specs.Closing.{greatest}
 use Rattle.lw_netlist.specs.Netlists.{NetlistParts, IsNetlist}
 use Rattle.lw_netlist.specs.Plain.{plain, plain_gate}
-use Rattle.lw_netlist.proofs.Filling.{IsImage, image_at}
 use Rattle.lw_report.specs.declared.step.Step.{Step}
 use Rattle.lw_report.specs.Simulated.{port_net, value_line, IsNetworkLine, IsNetlistLine, AreLines, IsNetworkSimulation, IsNetlistSimulation}
 use Rattle.lw_report.specs.Simulated.AreLines.{no_lines, next_line}

@@ -20,7 +20,8 @@ pub record IsTimedCell (cell : CellParts) (pins : List NetId) (times : List Micr
 
 -- the path to the net, behind each path to the net before it
 abbrev pub LeadsTo : List CellParts → NetlistParts → List ℕ → ℕ → List Step → ℕ → Type 0
-LeadsTo cells n arrivals from steps to = (before : List Step) → IsPathTo cells n arrivals from before → IsPathTo cells n arrivals to (before ++ steps)
+LeadsTo cells n arrivals from steps to =
+    (before : List Step) → IsPathTo cells n arrivals from before → IsPathTo cells n arrivals to (before ++ steps)
 
 abbrev pub IsLinkFrom : List CellParts → NetlistParts → List ℕ → ℕ → Step → Option NetId → Type 0
 IsLinkFrom cells n arrivals net step None = IsPathTo cells n arrivals net (step ∷ [])

@@ -37,7 +37,8 @@ pub record IsNetlistLine (cells : List CellParts) (n : NetlistParts) (vector : L
 -- a line for each vector, in order
 pub data AreLines (IsLine : List Bool → List ℕ → Type 0) : List (List Bool) → List ℕ → Type 0 where
   no_lines : AreLines IsLine [] []
-  next_line : {vector : List Bool} {line : List ℕ} {vectors : List (List Bool)} {text : List ℕ} → IsLine vector line → AreLines IsLine vectors text → AreLines IsLine (vector ∷ vectors) (line ++ text)
+  next_line : {vector : List Bool} {line : List ℕ} {vectors : List (List Bool)} {text : List ℕ} → IsLine vector line
+      → AreLines IsLine vectors text → AreLines IsLine (vector ∷ vectors) (line ++ text)
 
 -- The simulation of the network for these vectors.
 abbrev pub IsNetworkSimulation : NetworkParts → List (List Bool) → List ℕ → Type 0

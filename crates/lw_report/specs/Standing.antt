@@ -1,5 +1,6 @@
 -- What a list of vectors stands for: the lines that it was given.
-use Rattle.std.specs.Prelude.{ℕ, ◌≡◌, ◌++◌, [], ◌∷◌, true, false, List, map, Option, Some, None, IfSome, IsSome, Result, Ok, Err, ⊤}
+use Rattle.std.specs.Prelude.{ℕ, ◌≡◌, ◌++◌, [], ◌∷◌, true, false, List, map, Option, Some, None, IfSome, IsSome, Result}
+use Rattle.std.specs.Prelude.{Ok, Err, ⊤}
 use Rattle.lw_words.specs.Lines.{LogicalLine}
 use Rattle.lw_report.specs.declared.block.Block.{Block}
 use Rattle.lw_report.specs.declared.fault.VectorFault.{VectorFault}

@@ -1,5 +1,6 @@
 -- The timing report of a netlist: when its outputs arrive, its area, and its critical path.
-use Rattle.std.specs.Prelude.{ℕ, ◌+◌, ◌<◌, ◌≡◌, ◌≢◌, List, [], ◌∷◌, ◌++◌, Option, Some, None, length, map, sum_by, codes, slice_get, slice_index_or}
+use Rattle.std.specs.Prelude.{ℕ, ◌+◌, ◌<◌, ◌≡◌, ◌≢◌, List, [], ◌∷◌, ◌++◌, Option, Some, None, length, map, sum_by}
+use Rattle.std.specs.Prelude.{codes, slice_get, slice_index_or}
 use Rattle.std.specs.List.{flat_map}
 use Rattle.lw_fixed.specs.declared.micro.Micro.{Micro}
 use Rattle.lw_fixed.specs.Printed.{decimal_text}
@@ -60,12 +61,16 @@ pub record IsCriticalPin (delays times : List ℕ) (arrival k : ℕ) : Type 0 wh
   pub makes : arrival_by delays times k ≡ arrival
   pub first : (j : ℕ) → j < k → arrival_by delays times j ≢ arrival
 
--- The steps of the critical path from its start to a net: none to an input, and else behind those to the first critical pin of the
--- net's gate the gate itself.
+-- The steps of the critical path from its start to a net: none to an input, and else behind those to the first critical
+-- pin of the net's gate the gate itself.
 pub data IsPathTo (cells : List CellParts) (n : NetlistParts) (arrivals : List ℕ) : ℕ → List Step → Type 0 where
   to_input : {net : ℕ} → net < n.inputs → IsPathTo cells n arrivals net []
-  to_constant : (j : ℕ) {gate : Gate} → slice_get n.gates j ≡ Some gate → gate.pins ≡ [] → IsPathTo cells n arrivals (n.inputs + j) (record { gate = j; pin = None } ∷ [])
-  by_pin : (j k : ℕ) {gate : Gate} {net : NetId} {steps : List Step} → slice_get n.gates j ≡ Some gate → slice_get gate.pins k ≡ Some net → IsCriticalPin (gate_delays cells gate) (pin_arrivals arrivals gate.pins) (arrival_at arrivals (n.inputs + j)) k → IsPathTo cells n arrivals net.0 steps → IsPathTo cells n arrivals (n.inputs + j) (steps ++ record { gate = j; pin = Some k } ∷ [])
+  to_constant : (j : ℕ) {gate : Gate} → slice_get n.gates j ≡ Some gate → gate.pins ≡ []
+      → IsPathTo cells n arrivals (n.inputs + j) (record { gate = j; pin = None } ∷ [])
+  by_pin : (j k : ℕ) {gate : Gate} {net : NetId} {steps : List Step} → slice_get n.gates j ≡ Some gate
+      → slice_get gate.pins k ≡ Some net → IsCriticalPin (gate_delays cells gate) (pin_arrivals arrivals gate.pins)
+      (arrival_at arrivals (n.inputs + j)) k → IsPathTo cells n arrivals net.0 steps
+      → IsPathTo cells n arrivals (n.inputs + j) (steps ++ record { gate = j; pin = Some k } ∷ [])
 
 -- The place is the first of this time among some times.
 pub record IsFirstAt (times : List ℕ) (time place : ℕ) : Type 0 where
@@ -75,7 +80,10 @@ pub record IsFirstAt (times : List ℕ) (time place : ℕ) : Type 0 where
 -- The critical path goes to the first output with the greatest arrival. Without outputs it has no steps.
 pub data IsCriticalPath (cells : List CellParts) (n : NetlistParts) (arrivals : List ℕ) : List Step → Type 0 where
   without_outputs : n.outputs ≡ [] → IsCriticalPath cells n arrivals []
-  to_output : {place : ℕ} {port : Port} {steps : List Step} → IsFirstAt (output_arrivals n arrivals) (greatest (output_arrivals n arrivals)) place → slice_get n.outputs place ≡ Some port → IsPathTo cells n arrivals port.net.0 steps → IsCriticalPath cells n arrivals steps
+  to_output : {place : ℕ} {port : Port} {steps : List Step}
+      → IsFirstAt (output_arrivals n arrivals) (greatest (output_arrivals n arrivals)) place
+      → slice_get n.outputs place ≡ Some port → IsPathTo cells n arrivals port.net.0 steps
+      → IsCriticalPath cells n arrivals steps
 
 -- The report.
 
@@ -107,12 +115,14 @@ pin_name cell (Some k) = slice_index_or cell.pins k []
 -- the net and the cell of a gate, the pin, and when the gate's net arrives
 abbrev pub cell_step_line : List ℕ → ℕ → Option ℕ → Option CellParts → List ℕ
 cell_step_line net arrival pin None = []
-cell_step_line net arrival pin (Some cell) = line (codes "step") (net ∷ cell.name ∷ pin_name cell pin ∷ decimal_text arrival ∷ [])
+cell_step_line net arrival pin (Some cell) =
+    line (codes "step") (net ∷ cell.name ∷ pin_name cell pin ∷ decimal_text arrival ∷ [])
 
 abbrev pub gate_step_line : List CellParts → NetlistParts → List ℕ → Option ℕ → Option Gate → List ℕ
 gate_step_line cells n arrivals pin None = []
 gate_step_line cells n arrivals pin (Some gate) =
-    cell_step_line (slice_index_or n.names gate.out.0 []) (arrival_at arrivals gate.out.0) pin (slice_get cells gate.cell.0)
+    cell_step_line (slice_index_or n.names gate.out.0 []) (arrival_at arrivals gate.out.0) pin
+    (slice_get cells gate.cell.0)
 
 abbrev pub step_line : List CellParts → NetlistParts → List ℕ → Step → List ℕ
 step_line cells n arrivals step = gate_step_line cells n arrivals step.pin (slice_get n.gates step.gate)
@@ -126,7 +136,8 @@ summary_text outputs arrivals latest area =
 
 -- The text: the arrivals and the area, and then the steps of the critical path.
 abbrev pub timing_text : List CellParts → NetlistParts → TimingParts → List ℕ
-timing_text cells n t = summary_text n.outputs t.arrivals t.latest t.area ++ flat_map (step_line cells n t.arrivals) t.path
+timing_text cells n t =
+    summary_text n.outputs t.arrivals t.latest t.area ++ flat_map (step_line cells n t.arrivals) t.path
 
 -- a timing report of a netlist whose inputs start then
 pub record IsTimingText (cells : List CellParts) (n : NetlistParts) (starts : List Micro) (text : List ℕ) : Type 0 where

@@ -1,5 +1,6 @@
 // Up to 64 vectors in words.
-ghost use Rattle.std.specs.Prelude.{◌≡◌, ◌+◌, ◌-◌, ◌<◌, ◌++◌, [], ◌∷◌, ℕ, length, map, All, OnOk, IsTrue, slice_index};
+ghost use Rattle.std.specs.Prelude.{◌≡◌, ◌+◌, ◌-◌, ◌<◌, ◌++◌, [], ◌∷◌, ℕ, length, map, All, OnOk};
+ghost use Rattle.std.specs.Prelude.{IsTrue, slice_index};
 ghost use Rattle.lw_report.specs.Blocks.{IsBlock, block_vectors, vectors_in, HasRoom};
 ghost use Rattle.lw_report.specs.Marking.{marked};
 ghost use Rattle.lw_report.specs.Vectors.{is_one};

@@ -1,7 +1,9 @@
 // The critical path.
-ghost use Rattle.std.specs.Prelude.{◌≡◌, ◌≢◌, ◌+◌, ◌<◌, [], ℕ, length, map, reverse, slice_get, Some, All, IfOk, IfSome, IfNone};
+ghost use Rattle.std.specs.Prelude.{◌≡◌, ◌≢◌, ◌+◌, ◌<◌, [], ℕ, length, map, reverse, slice_get};
+ghost use Rattle.std.specs.Prelude.{Some, All, IfOk, IfSome, IfNone};
 ghost use Rattle.lw_genlib.specs.Tables.{millionths, cell_delays};
-ghost use Rattle.lw_report.specs.Arrived.{latest_in, HasCriticalPath, HasLinkTo, HasPathTo, IsTimed};
+ghost use Rattle.lw_report.specs.Arrived.{latest_in, HasCriticalPath, HasLinkTo, HasPathTo};
+ghost use Rattle.lw_report.specs.Arrived.{IsTimed};
 ghost use Rattle.lw_report.specs.Pathways.{IsTimedCell};
 ghost use Rattle.lw_report.specs.Timings.{pin_arrivals, port_arrival, IsCriticalPin, IsFirstAt};
 

@@ -5,7 +5,8 @@ ghost use Rattle.lw_report.specs.Blocks.{IsBlock, block_vectors, vectors_in};
 ghost use Rattle.lw_report.specs.Made.{CanSimulate, places_of};
 ghost use Rattle.lw_report.specs.Mapped.{HasWords, IsMappedLine};
 ghost use Rattle.lw_report.specs.Writes.{WritesLines};
-ghost use Rattle.lw_report.specs.Simulated.{IsNetworkLine, IsNetworkSimulation, IsNetlistSimulation};
+ghost use Rattle.lw_report.specs.Simulated.{IsNetworkLine, IsNetworkSimulation};
+ghost use Rattle.lw_report.specs.Simulated.{IsNetlistSimulation};
 ghost use Rattle.lw_report.specs.Texts.{WritesValues};
 
 use crate::Vectors;

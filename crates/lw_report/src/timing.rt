@@ -37,7 +37,12 @@ impl Model for Timing {
 
     ghost Value = { TimingParts };
 
-    ghost view = { λ t. record { arrivals = map millionths t.arrivals.items; latest = t.latest.0; area = t.area.0; path = t.path.items } };
+    ghost view = { λ t. record {
+      arrivals = map millionths t.arrivals.items;
+      latest = t.latest.0;
+      area = t.area.0;
+      path = t.path.items;
+    } };
 }
 
 // When the nets of a netlist arrive.

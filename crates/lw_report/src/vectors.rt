@@ -43,7 +43,8 @@ fn are_digits(bytes: &[u8]) -> bool
 impl Vectors {
     ghost use Rattle.lw_words.specs.Lines.{LogicalLine};
     ghost use Rattle.lw_report.specs.Vectors.{first_fault};
-    ghost use Rattle.lw_report.specs.Standing.{StandsFor, Tells, Refuses, AddsVector, KeepsStop, inputs_of, stop_of};
+    ghost use Rattle.lw_report.specs.Standing.{StandsFor, Tells, Refuses, AddsVector, KeepsStop};
+    ghost use Rattle.lw_report.specs.Standing.{inputs_of, stop_of};
 
     /// No vectors, for so many inputs.
     pub fn new(alloc: Global, inputs: u32) -> Self

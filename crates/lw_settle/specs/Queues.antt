@@ -1,5 +1,8 @@
--- A queue of classes by their marks: a tree whose leaves are the classes, and in which each other node is the lesser of two nodes.
-use Rattle.std.specs.Prelude.{ℕ, ◌+◌, ◌-◌, ◌*◌, ◌^◌, ◌<◌, ◌≤◌, ◌≡◌, ◌≢◌, ◌⊎◌, ◌==◌, ◌||◌, ◌&&◌, Bool, nat_lt, if◌then◌else◌, List, length, map, drop, Option, Some, None, slice_get, slice_set, slice_index_or}
+-- A queue of classes by their marks: a tree whose leaves are the classes, and in which each other node is the lesser of
+-- two nodes.
+use Rattle.std.specs.Prelude.{ℕ, ◌+◌, ◌-◌, ◌*◌, ◌^◌, ◌<◌, ◌≤◌, ◌≡◌, ◌≢◌, ◌⊎◌, ◌==◌, ◌||◌, ◌&&◌, Bool, nat_lt}
+use Rattle.std.specs.Prelude.{if◌then◌else◌, List, length, map, drop, Option, Some, None, slice_get, slice_set}
+use Rattle.std.specs.Prelude.{slice_index_or}
 use Rattle.lw_laws.specs.Marks.{IsMarkAtMost}
 use Rattle.lw_cost.specs.declared.mark.Mark.{Mark}
 use Rattle.lw_cost.specs.Values.{plain_mark}
@@ -90,7 +93,10 @@ abbrev pub TakesFirst : List (Option Mark) → List (Option Mark) → Option Tak
 TakesFirst old new None = AreNone old × (new ≡ old)
 TakesFirst old new (Some t) = IsFirst old t × (new ≡ slice_set old t.class.0 None)
 
--- the class waits with the mark, which is not after the one that it had, or it had one that is not after the mark and keeps it
+-- the class waits with the mark, which is not after the one that it had, or it had one that is not after the mark and
+-- keeps it
 abbrev pub IsLowered : List (Option Mark) → List (Option Mark) → ℕ → Mark → Type 0
 IsLowered old new c k =
-    ((new ≡ slice_set old c (Some k)) × ((j : Mark) → slice_index_or old c None ≡ Some j → IsMarkAtMost (plain_mark k) (plain_mark j))) ⊎ ((new ≡ old) × ((j : Mark) × (slice_index_or old c None ≡ Some j) × IsMarkAtMost (plain_mark j) (plain_mark k)))
+    ((new ≡ slice_set old c (Some k)) × ((j : Mark) → slice_index_or old c None ≡ Some j
+    → IsMarkAtMost (plain_mark k) (plain_mark j))) ⊎
+    ((new ≡ old) × ((j : Mark) × (slice_index_or old c None ≡ Some j) × IsMarkAtMost (plain_mark j) (plain_mark k)))

@@ -1,5 +1,7 @@
--- Marks by the matches of a store alone: the least costs of covers made of stored matches, heights, and how often matches are read.
-use Rattle.std.specs.Prelude.{ℕ, suc, ◌+◌, ◌^◌, ◌<◌, ◌≡◌, ◌==◌, if◌then◌else◌, is_some, List, [], ◌∷◌, length, replicate, Option, Some, None, slice_get}
+-- Marks by the matches of a store alone: the least costs of covers made of stored matches, heights, and how often
+-- matches are read.
+use Rattle.std.specs.Prelude.{ℕ, suc, ◌+◌, ◌^◌, ◌<◌, ◌≡◌, ◌==◌, if◌then◌else◌, is_some, List, [], ◌∷◌, length}
+use Rattle.std.specs.Prelude.{replicate, Option, Some, None, slice_get}
 use Rattle.lw_laws.specs.Graphs.{Graph}
 use Rattle.lw_laws.specs.Costs.{Cost}
 use Rattle.lw_laws.specs.Choices.{Choices, Labels, IsLeastCost, IsHeight}
@@ -26,10 +28,12 @@ abbrev pub store_choices : Graph → List (List Stored) → Choices
 store_choices g lists = choices_among g (placed lists)
 
 -- Each class has a mark where it has a cover of stored matches: the least cost of these covers, and its height.
-pub record AreSettledMarks (g : Graph) (cost : Cost) (lists : List (List Stored)) (marks : List (Option Mark)) : Type 0 where
+pub record AreSettledMarks (g : Graph) (cost : Cost) (lists : List (List Stored))
+    (marks : List (Option Mark)) : Type 0 where
   pub one_each : length marks ≡ length g.pairs
   pub least : (c : ℕ) → IsLeastCost (store_choices g lists) cost c (labels_in (costs_of marks) c)
-  pub heights : (c : ℕ) (m : PlainMark) → marks_in marks c ≡ Some m → IsHeight (store_choices g lists) cost (labels_in (costs_of marks)) c m.height
+  pub heights : (c : ℕ) (m : PlainMark) → marks_in marks c ≡ Some m
+      → IsHeight (store_choices g lists) cost (labels_in (costs_of marks)) c m.height
   -- no cost above the cap, and heights that can rise by one
   pub in_range : AreInRange cost.cap marks
 
@@ -46,7 +50,8 @@ pub record MaySettle (g : Graph) (cost : Cost) (store : StoreState) : Type 0 whe
   pub fresh : store.done < 2 ^ 62
 
 -- no class has a mark or waits, and there is a number for each match
-pub record AreUnsettled (g : Graph) (store : StoreState) (marks wait : List (Option Mark)) (left : List ℕ) : Type 0 where
+pub record AreUnsettled (g : Graph) (store : StoreState) (marks wait : List (Option Mark))
+    (left : List ℕ) : Type 0 where
   pub none_marked : marks ≡ replicate (length g.pairs) None
   pub none_waits : wait ≡ replicate (length g.pairs) None
   pub one_number : length left ≡ length (placed store.lists)
@@ -67,7 +72,8 @@ labelled_matches labels [] = 0
 labelled_matches labels (m ∷ ms) =
     (if labelled labels (pins_of m) == length (pins_of m) then 1 else 0) + labelled_matches labels ms
 
--- how often settling reads a match: once for each use of a labelled class, and once to price it where its pins all have labels
+-- how often settling reads a match: once for each use of a labelled class, and once to price it where its pins all have
+-- labels
 abbrev pub settle_steps : Labels → List (List Stored) → ℕ
 settle_steps labels lists = labelled_uses labels (placed lists) + labelled_matches labels (placed lists)
 

@@ -1,5 +1,6 @@
 // The classes that wait, in a tree by their marks.
-ghost use Rattle.std.specs.Prelude.{◌≡◌, ◌+◌, ◌*◌, ◌/◌, ◌^◌, ◌-◌, ◌<◌, None, IfOk, length, drop, replicate, slice_set};
+ghost use Rattle.std.specs.Prelude.{◌≡◌, ◌+◌, ◌*◌, ◌/◌, ◌^◌, ◌-◌, ◌<◌, None, IfOk, length, drop};
+ghost use Rattle.std.specs.Prelude.{replicate, slice_set};
 ghost use Rattle.lw_settle.specs.Queues.{IsLowered, IsWonBut, TakesFirst};
 
 use crate::entry::{Entry, is_before, lesser, no_mark, with_mark};

@@ -3,8 +3,12 @@ ghost use Rattle.std.specs.Prelude.{◌≡◌, ◌+◌, ◌^◌, ◌<◌, None, 
 ghost use Rattle.lw_laws.specs.Rounds.{labels_in};
 ghost use Rattle.lw_cost.specs.Labels.{costs_of};
 ghost use Rattle.lw_cost.specs.Values.{marks_in, plain_mark};
-ghost use Rattle.lw_settle.specs.Settled.{AreSettledMarks, AreUnsettled, HaveLeafCosts, IsSettledBy, MaySettle, settle_steps};
-ghost use Rattle.lw_settle.specs.Settling.{AreAllTaken, AreInputsOffered, HasOfferedPinless, HasPriced, HasRead, IsOffering, MayOffer, MayOfferPinless, MayPrice, MayRead, MayTakeAll, pin_count};
+ghost use Rattle.lw_settle.specs.Settled.{AreSettledMarks, AreUnsettled, HaveLeafCosts};
+ghost use Rattle.lw_settle.specs.Settled.{IsSettledBy, MaySettle, settle_steps};
+ghost use Rattle.lw_settle.specs.Settling.{AreAllTaken, AreInputsOffered, HasOfferedPinless};
+ghost use Rattle.lw_settle.specs.Settling.{HasPriced, HasRead, IsOffering, MayOffer};
+ghost use Rattle.lw_settle.specs.Settling.{MayOfferPinless, MayPrice, MayRead, MayTakeAll};
+ghost use Rattle.lw_settle.specs.Settling.{pin_count};
 ghost use Rattle.lw_settle.specs.Stores.{AreOfStoredCells, placed, uses_of};
 
 use crate::queue::Queue;

@@ -2,10 +2,13 @@
 ghost use Rattle.std.specs.Prelude.{◌≡◌, ◌+◌, ◌^◌, ◌<◌, ◌≤◌, List, Some, length, take, slice_get};
 ghost use Rattle.std.specs.List.{slice_range};
 ghost use Rattle.lw_laws.specs.Covers.{HasPins};
-ghost use Rattle.lw_laws.specs.Marks.{Mark as PlainMark, HaveMarks, costs_in, greatest_height, price};
+ghost use Rattle.lw_laws.specs.Marks.{Mark as PlainMark, HaveMarks, costs_in, greatest_height};
+ghost use Rattle.lw_laws.specs.Marks.{price};
 ghost use Rattle.lw_cost.specs.Values.{AreInRange, marks_in, plain_mark};
 ghost use Rattle.lw_settle.specs.Kept.{start_at};
-ghost use Rattle.lw_settle.specs.Stores.{AreKeptLists, AreMarkedPins, IsFound, IsHeadOf, IsPriceable, IsPriceOf, IsReadOnce, pin_total, placed, uses_of};
+ghost use Rattle.lw_settle.specs.Stores.{AreKeptLists, AreMarkedPins, IsFound, IsHeadOf};
+ghost use Rattle.lw_settle.specs.Stores.{IsPriceable, IsPriceOf, IsReadOnce, pin_total, placed};
+ghost use Rattle.lw_settle.specs.Stores.{uses_of};
 ghost use Rattle.lw_pool.specs.Numbers.{numbers};
 
 use lw_cost::{Cost, Mark, Pins};
@@ -68,9 +71,14 @@ impl Model for Store {
 
     ghost use Rattle.lw_settle.specs.Kept.{cell_numbers, grouped, placed_rows, IsKeptStore};
 
-    ghost view = { λ s. record { lists = grouped (length s.ends.items) (placed_rows s.pins.items (cell_numbers s.cells.items) s.rows.items); done = s.done } };
+    ghost view = { λ s. record {
+      lists = grouped (length s.ends.items)
+          (placed_rows s.pins.items (cell_numbers s.cells.items) s.rows.items);
+      done = s.done;
+    } };
 
-    ghost invariant = { λ s. IsKeptStore (length s.ends.items) s.rows.items s.pins.items (cell_numbers s.cells.items) s.ends.items s.uses.items };
+    ghost invariant = { λ s. IsKeptStore (length s.ends.items) s.rows.items s.pins.items
+        (cell_numbers s.cells.items) s.ends.items s.uses.items };
 }
 
 // Where the uses of a class start: where those of the class before it end.

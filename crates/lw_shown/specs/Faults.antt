@@ -1,7 +1,8 @@
 -- What is wrong with a file, with the control bytes and backslashes of names escaped.
 use Rattle.std.specs.Prelude.{ℕ, List, [], ◌++◌, codes}
 use Rattle.lw_files.specs.declared.fault.FileFault.{FileFault}
-use Rattle.lw_files.specs.declared.fault.FileFault.TheVariants.{Unread, TooLong, Library, Network, Undefined, Cycle, Mapped, Twice, Undriven, NetCycle, Memory}
+use Rattle.lw_files.specs.declared.fault.FileFault.TheVariants.{Unread, TooLong, Library, Network, Undefined, Cycle}
+use Rattle.lw_files.specs.declared.fault.FileFault.TheVariants.{Mapped, Twice, Undriven, NetCycle, Memory}
 use Rattle.lw_files.specs.Faults.{fault_text}
 use Rattle.lw_shown.specs.Shown.{shown}
 

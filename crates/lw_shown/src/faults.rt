@@ -18,7 +18,7 @@ pub fn put_named<S: Sink>(out: &mut Writer<'_, S>, first: &[u8], what: &[u8], se
     put_shown(out, second);
 }
 
-/// The same with something behind it.
+/// A name, what is said of it, another name, and what is said behind that.
 pub fn put_behind<S: Sink>(
     out: &mut Writer<'_, S>,
     first: &[u8],

@@ -1,8 +1,13 @@
 //! Names as a line of a message shows them: control bytes and backslashes are escaped.
 //!
-//! `bytes` puts a name, and `faults` says what is wrong with a file, with the word that names it.
-//! Programs write their messages with both, through the `Writer` of `lw_io`. The definition to read
-//! is `shown_fault` in `specs/Faults.antt`.
+//! In come names and what is wrong with a file; out goes the text of a message, through the
+//! `Writer` of `lw_io`. The modules in order:
+//!
+//! * `bytes`: a name as it is shown (`put_shown`);
+//! * `faults`: what is wrong with a file, with the word that names it (`put_shown_fault`).
+//!
+//! The one definition to read is `shown_fault` in `specs/Faults.antt`. `lw_equal_top` writes its
+//! messages with both.
 #![tactic(auto)]
 
 mod bytes;

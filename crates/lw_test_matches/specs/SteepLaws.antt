@@ -7,7 +7,8 @@ use Rattle.lw_genlib.specs.Cells.{CellParts}
 use Rattle.lw_test_matches.specs.Steep.{most_cost, total, joined, jump, steep_value, steep_cost}
 
 -- what is no less than the sum is no less than each
-below : (n rest : ℕ) (xs : List ℕ) → AllByRecursion (λ d. d ≤ most_cost) xs → joined rest (total xs) ≤ n → AllByRecursion (λ d. d ≤ n) xs
+below : (n rest : ℕ) (xs : List ℕ) → AllByRecursion (λ d. d ≤ most_cost) xs → joined rest (total xs) ≤ n
+    → AllByRecursion (λ d. d ≤ n) xs
 below n rest [] all le = tt
 below n rest (a ∷ xs) (h, all) le = (omega arith, below n (rest + a) xs all (omega arith))
 

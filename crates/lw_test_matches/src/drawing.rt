@@ -151,7 +151,8 @@ fn drawn_graph(alloc: Global, dice: &mut Dice, size: Size) -> Result<Graph, Fail
     graph_of(alloc, sketch)
 }
 
-/// Graphs that are drawn, by rows: inputs, further base forms, facts and links, and how many graphs.
+/// Graphs that are drawn, by rows: inputs, further base forms, facts and links, and how many
+/// graphs.
 pub(crate) fn drawn_graphs(
     alloc: Global,
     dice: &mut Dice,

@@ -58,7 +58,8 @@ fn text_of(alloc: Global, net: &Network) -> Result<Vec<u8>, AllocError> {
 }
 
 fn files(alloc: Global, network: &[u8], mapped: &[u8]) -> Result<FileList, AllocError>
-    ensures { IfOk result (λ files. names_of files ≡ codes "LIB" ∷ codes "IN" ∷ codes "MAPPED" ∷ []) }
+    ensures { IfOk result
+        (λ files. names_of files ≡ codes "LIB" ∷ codes "IN" ∷ codes "MAPPED" ∷ []) }
 {
     let mut files = Vec::new(alloc);
     files.push(file(alloc, b"LIB", LIB)?)?;

@@ -12,7 +12,6 @@ pub mod MapWords
 pub mod FaultStatuses
 pub mod Headline
 pub mod Sound
-pub mod Numerals
 pub mod InRange
 pub mod MapAnswers
 pub mod Checked

@@ -16,11 +16,13 @@ use Rattle.lw_files.specs.Sources.{FileStep, lines_in}
 use Rattle.lw_files.specs.Sources as file
 use Rattle.lw_files.specs.Faults.{fault_status}
 use Rattle.lw_top.specs.declared.refusal.Refusal.{Refusal}
-use Rattle.lw_top.specs.declared.refusal.Refusal.TheVariants.{Words, Faulty, Verilog, Vector, Forms, Splits, NoCover, Points, No, NoVerilog, Memory}
+use Rattle.lw_top.specs.declared.refusal.Refusal.TheVariants.{Words, Faulty, Verilog, Vector, Forms, Splits, NoCover}
+use Rattle.lw_top.specs.declared.refusal.Refusal.TheVariants.{Points, No, NoVerilog, Memory}
 use Rattle.lw_top.specs.declared.refusal.Which.{Which}
 use Rattle.lw_top.specs.declared.refusal.Which.TheVariants as which
 use Rattle.lw_top.specs.Steps.{Step}
-use Rattle.lw_top.specs.Words.{Command, mapping, checking, timing, simulation, gate_simulation, counting, tabling, drawing, to_verilog, from_verilog, trading, command_of}
+use Rattle.lw_top.specs.Words.{Command, mapping, checking, timing, simulation, gate_simulation, counting, tabling}
+use Rattle.lw_top.specs.Words.{drawing, to_verilog, from_verilog, trading, command_of}
 use Rattle.lw_top.specs.Maps.{Maps}
 use Rattle.lw_top.specs.Checks.{Checks}
 use Rattle.lw_top.specs.Reports.{Times, Simulates, SimulatesNetlist}
@@ -46,19 +48,23 @@ ReadsModel name = in_file which.Network (file.ReadsModel name)
 abbrev pub ReadsMapped : List ℕ → List CellParts → Step MappedParts
 ReadsMapped name cells = in_file which.Mapped (file.ReadsMapped name cells)
 
--- The netlist that the text in Verilog says by these cells, or the first line that breaks a rule, or else the fault of the netlist as a
--- whole.
+-- The netlist that the text in Verilog says by these cells, or the first line that breaks a rule, or else the fault of
+-- the netlist as a whole.
 abbrev pub HasVerilog : List CellParts → List ℕ → Step NetlistParts
 HasVerilog cells bytes files (Ok n) = IsRead cells bytes (Ok n)
 HasVerilog cells bytes files (Err (Verilog line kind)) = IsRead cells bytes (Err (verilog_fault.Line line kind))
-HasVerilog cells bytes files (Err (Faulty which.Mapped (file_fault.Twice name))) = IsRead cells bytes (Err (verilog_fault.Whole (netlist.Twice name)))
-HasVerilog cells bytes files (Err (Faulty which.Mapped (file_fault.Undriven name))) = IsRead cells bytes (Err (verilog_fault.Whole (netlist.Undriven name)))
-HasVerilog cells bytes files (Err (Faulty which.Mapped (file_fault.NetCycle name))) = IsRead cells bytes (Err (verilog_fault.Whole (netlist.Cycle name)))
+HasVerilog cells bytes files (Err (Faulty which.Mapped (file_fault.Twice name))) =
+    IsRead cells bytes (Err (verilog_fault.Whole (netlist.Twice name)))
+HasVerilog cells bytes files (Err (Faulty which.Mapped (file_fault.Undriven name))) =
+    IsRead cells bytes (Err (verilog_fault.Whole (netlist.Undriven name)))
+HasVerilog cells bytes files (Err (Faulty which.Mapped (file_fault.NetCycle name))) =
+    IsRead cells bytes (Err (verilog_fault.Whole (netlist.Cycle name)))
 HasVerilog cells bytes files (Err other) = ⊥
 
 -- the values of so many inputs that each line is, or the first line that is no vector
 abbrev pub HasVectors : ℕ → List ℕ → Step (List (List Bool))
-HasVectors inputs bytes files (Ok vectors) = (first_fault inputs (lines_in bytes) ≡ None) × (vectors ≡ map vector_of (lines_in bytes))
+HasVectors inputs bytes files (Ok vectors) =
+    (first_fault inputs (lines_in bytes) ≡ None) × (vectors ≡ map vector_of (lines_in bytes))
 HasVectors inputs bytes files (Err (Vector line)) = first_fault inputs (lines_in bytes) ≡ Some line
 HasVectors inputs bytes files (Err other) = ⊥
 
@@ -76,20 +82,27 @@ ReadsVectors name inputs = followed_by (text_in which.Vectors name) (HasVectors 
 
 -- what a mapping of the network comes to
 abbrev pub IsMappingAnswer : Options → Bool → List ℕ → List ℕ → Step (List ℕ)
-IsMappingAnswer options certified library network = followed_by (ReadsLibrary library) (λ cells. followed_by (ReadsModel network) (λ model. Maps options certified cells model))
+IsMappingAnswer options certified library network = followed_by (ReadsLibrary library)
+    (λ cells. followed_by (ReadsModel network) (λ model. Maps options certified cells model))
 
 -- what a check of the mapped netlist comes to
 abbrev pub IsCheckAnswer : Options → List ℕ → List ℕ → List ℕ → Step (List ℕ)
-IsCheckAnswer options library network mapped = followed_by (ReadsLibrary library) (λ cells. followed_by (ReadsModel network) (λ model. followed_by (ReadsMapped mapped cells) (λ m. Checks options cells model m)))
+IsCheckAnswer options library network mapped = followed_by (ReadsLibrary library)
+    (λ cells. followed_by (ReadsModel network)
+    (λ model. followed_by (ReadsMapped mapped cells) (λ m. Checks options cells model m)))
 
 abbrev pub IsTimingAnswer : List ℕ → List ℕ → Step (List ℕ)
-IsTimingAnswer library mapped = followed_by (ReadsLibrary library) (λ cells. followed_by (ReadsMapped mapped cells) (λ m. Times cells m))
+IsTimingAnswer library mapped =
+    followed_by (ReadsLibrary library) (λ cells. followed_by (ReadsMapped mapped cells) (λ m. Times cells m))
 
 abbrev pub IsSimulationAnswer : List ℕ → List ℕ → Step (List ℕ)
-IsSimulationAnswer network vectors = followed_by (ReadsModel network) (λ model. followed_by (ReadsVectors vectors model.network.inputs) (λ xs. Simulates model xs))
+IsSimulationAnswer network vectors = followed_by (ReadsModel network)
+    (λ model. followed_by (ReadsVectors vectors model.network.inputs) (λ xs. Simulates model xs))
 
 abbrev pub IsGateSimulationAnswer : List ℕ → List ℕ → List ℕ → Step (List ℕ)
-IsGateSimulationAnswer library mapped vectors = followed_by (ReadsLibrary library) (λ cells. followed_by (ReadsMapped mapped cells) (λ m. followed_by (ReadsVectors vectors m.netlist.inputs) (λ xs. SimulatesNetlist cells m.netlist xs)))
+IsGateSimulationAnswer library mapped vectors = followed_by (ReadsLibrary library)
+    (λ cells. followed_by (ReadsMapped mapped cells)
+    (λ m. followed_by (ReadsVectors vectors m.netlist.inputs) (λ xs. SimulatesNetlist cells m.netlist xs)))
 
 abbrev pub IsCountAnswer : Options → List ℕ → Step (List ℕ)
 IsCountAnswer options network = followed_by (ReadsModel network) (λ model. Counts options model)
@@ -103,15 +116,18 @@ IsDrawingAnswer seed count library = followed_by (ReadsLibrary library) (λ cell
 
 -- what a mapped netlist comes to in Verilog
 abbrev pub IsToVerilogAnswer : List ℕ → List ℕ → Step (List ℕ)
-IsToVerilogAnswer library mapped = followed_by (ReadsLibrary library) (λ cells. followed_by (ReadsMapped mapped cells) (λ m. SaysVerilog cells m))
+IsToVerilogAnswer library mapped =
+    followed_by (ReadsLibrary library) (λ cells. followed_by (ReadsMapped mapped cells) (λ m. SaysVerilog cells m))
 
 -- what a netlist in Verilog comes to as a mapped text
 abbrev pub IsFromVerilogAnswer : List ℕ → List ℕ → Step (List ℕ)
-IsFromVerilogAnswer library verilog = followed_by (ReadsLibrary library) (λ cells. followed_by (ReadsVerilog verilog cells) (λ n. SaysMapped cells n))
+IsFromVerilogAnswer library verilog =
+    followed_by (ReadsLibrary library) (λ cells. followed_by (ReadsVerilog verilog cells) (λ n. SaysMapped cells n))
 
 -- what a mapping of the network with the least area by a deadline comes to
 abbrev pub IsTradingAnswer : Option Micro → Options → List ℕ → List ℕ → Step (List ℕ)
-IsTradingAnswer deadline options library network = followed_by (ReadsLibrary library) (λ cells. followed_by (ReadsModel network) (λ model. Trades deadline options cells model))
+IsTradingAnswer deadline options library network = followed_by (ReadsLibrary library)
+    (λ cells. followed_by (ReadsModel network) (λ model. Trades deadline options cells model))
 
 -- what a command comes to
 abbrev pub IsCommandAnswer : Command → Step (List ℕ)
@@ -154,7 +170,8 @@ abbrev pub HasNetwork : List ℕ → Files → Type 0
 HasNetwork name files = (model : Parsed) × ReadsModel name files (Ok model)
 
 abbrev pub HasNetlist : List ℕ → List ℕ → Files → Type 0
-HasNetlist library mapped files = (cells : List CellParts) × (m : MappedParts) × ReadsLibrary library files (Ok cells) × ReadsMapped mapped cells files (Ok m)
+HasNetlist library mapped files = (cells : List CellParts) × (m : MappedParts) × ReadsLibrary library files (Ok cells)
+    × ReadsMapped mapped cells files (Ok m)
 
 -- the command reads this file
 abbrev pub IsFileOf : Command → Which → Type 0
@@ -185,7 +202,8 @@ IsFileOf other w = ⊥
 abbrev pub IsReached : Command → Which → Files → Type 0
 IsReached (mapping options certified library network) which.Network files = HasLibrary library files
 IsReached (checking options library network mapped) which.Network files = HasLibrary library files
-IsReached (checking options library network mapped) which.Mapped files = HasLibrary library files × HasNetwork network files
+IsReached (checking options library network mapped) which.Mapped files =
+    HasLibrary library files × HasNetwork network files
 IsReached (timing library mapped) which.Mapped files = HasLibrary library files
 IsReached (simulation network vectors) which.Vectors files = HasNetwork network files
 IsReached (gate_simulation library mapped vectors) which.Mapped files = HasLibrary library files

@@ -13,8 +13,10 @@ use Rattle.lw_top.specs.Maps.{LacksGraph}
 abbrev pub yes_text : List ℕ
 yes_text = codes "yes" ++ 10 ∷ []
 
--- What the cells, the model and the netlist come to: a yes, or why it is no, or why there is no verdict, whatever the files.
+-- What the cells, the model and the netlist come to: a yes, or why it is no, or why there is no verdict, whatever the
+-- files.
 abbrev pub Checks : Options → List CellParts → Parsed → Mapped → Step (List ℕ)
-Checks options cells model mapped files (Ok text) = (text ≡ yes_text) × HasVerdict options cells model mapped verdict.Yes
+Checks options cells model mapped files (Ok text) =
+    (text ≡ yes_text) × HasVerdict options cells model mapped verdict.Yes
 Checks options cells model mapped files (Err (No reason)) = HasVerdict options cells model mapped (verdict.No reason)
 Checks options cells model mapped files (Err other) = LacksGraph options model.network other

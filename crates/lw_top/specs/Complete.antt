@@ -12,15 +12,18 @@ answer_line command (Ok text) = []
 answer_line command (Err r) = refusal_line command r
 
 -- the status is that of an answer to the command, and its line was told
-pub record HasAnswer (answer : Result (List ℕ) Refusal → Type 0) (command : Option Command) (told : List ℕ → Type 0) (status : ℕ) : Type 0 where
+pub record HasAnswer (answer : Result (List ℕ) Refusal → Type 0) (command : Option Command) (told : List ℕ → Type 0)
+    (status : ℕ) : Type 0 where
   pub result : Result (List ℕ) Refusal
   pub is : answer result
   pub status_is : status ≡ status_in result
   pub line : told (answer_line command result)
 
--- Whatever failed, each status other than 2, 7 and 8 is the answer's, and so is the line. 2 is the answer's too where the shelf did not
--- fail, and 7 comes only where out failed. Where neither failed, the status is the answer's, or memory ran out, which is told.
-pub record IsComplete (answer : Result (List ℕ) Refusal → Type 0) (command : Option Command) (told : List ℕ → Type 0) (shelf_failed out_failed : Type 0) (status : ℕ) : Type 0 where
+-- Whatever failed, each status other than 2, 7 and 8 is the answer's, and so is the line. 2 is the answer's too where
+-- the shelf did not fail, and 7 comes only where out failed. Where neither failed, the status is the answer's, or
+-- memory ran out, which is told.
+pub record IsComplete (answer : Result (List ℕ) Refusal → Type 0) (command : Option Command) (told : List ℕ → Type 0)
+    (shelf_failed out_failed : Type 0) (status : ℕ) : Type 0 where
   pub decided : status ≢ 2 → status ≢ 7 → status ≢ 8 → HasAnswer answer command told status
   pub unread : status ≡ 2 → (shelf_failed → ⊥) → HasAnswer answer command told status
   pub unwritten : status ≡ 7 → out_failed

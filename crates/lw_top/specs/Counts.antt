@@ -54,7 +54,9 @@ pub record IsSizeText (seed count : ℕ) (cells : List CellParts) (net : Network
   pub are : AreSizes count cells net sizes
   pub says : text ≡ sizes_text sizes
 
--- What the network of so many nodes that is drawn from the seed comes to, by these cells: the sizes, or why it is not mapped.
+-- What the network of so many nodes that is drawn from the seed comes to, by these cells: the sizes, or why it is not
+-- mapped.
 abbrev pub Draws : ℕ → ℕ → List CellParts → Step (List ℕ)
 Draws seed count cells files (Ok text) = (net : NetworkParts) × IsSizeText seed count cells net text
-Draws seed count cells files (Err r) = (net : NetworkParts) × IsGenerated seed count net × LacksMapping drawing_options cells net (at_once net.inputs) r
+Draws seed count cells files (Err r) =
+    (net : NetworkParts) × IsGenerated seed count net × LacksMapping drawing_options cells net (at_once net.inputs) r

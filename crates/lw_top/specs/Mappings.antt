@@ -1,5 +1,6 @@
 -- What a text that was written is of, what an output is that has no cover, and what a yes says.
-use Rattle.std.specs.Prelude.{◌≡◌, ◌≤◌, ℕ, Bool, false, List, [], ◌∷◌, length, Option, Some, None, Ok, is_some, if◌then◌else◌, codes}
+use Rattle.std.specs.Prelude.{◌≡◌, ◌≤◌, ℕ, Bool, false, List, [], ◌∷◌, length, Option, Some, None, Ok, is_some}
+use Rattle.std.specs.Prelude.{if◌then◌else◌, codes}
 use Rattle.std.specs.Str.{bytes_eq}
 use Rattle.lw_laws.specs.Headline.{IsMapping, AreNetNames}
 use Rattle.lw_net.specs.Networks.{plain as plain_network, input_names, output_names, ports_of}
@@ -52,7 +53,8 @@ pub record AsksForTables (words : List (List ℕ)) : Type 0 where
   pub form : command_of words ≡ Some (tabling leaves options network)
 
 -- the words ask for the mapping of a network to a library, whose texts are these cells and this model
-pub record AreRead (words : List (List ℕ)) (files : Files) (options : Options) (certified : Bool) (cells : List CellParts) (model : Parsed) : Type 0 where
+pub record AreRead (words : List (List ℕ)) (files : Files) (options : Options) (certified : Bool)
+    (cells : List CellParts) (model : Parsed) : Type 0 where
   pub library_word : List ℕ
   pub network_word : List ℕ
   pub form : command_of words ≡ Some (mapping options certified library_word network_word)
@@ -61,17 +63,19 @@ pub record AreRead (words : List (List ℕ)) (files : Files) (options : Options)
 
 -- The file is there, with at most 67,108,864 bytes, and lists these cells. In its lines each `#` begins a comment.
 abbrev pub SaysLibrary : List ℕ → Files → List CellParts → Type 0
-SaysLibrary name files cells = (bytes : List ℕ) × (files name ≡ Some bytes) × (length bytes ≤ most_bytes) × (library_of (logical_lines false bytes) ≡ Ok cells)
+SaysLibrary name files cells = (bytes : List ℕ) × (files name ≡ Some bytes) × (length bytes ≤ most_bytes)
+    × (library_of (logical_lines false bytes) ≡ Ok cells)
 
 -- The file is there, with at most 67,108,864 bytes, and its lines, as far as they are read, say this model.
 abbrev pub SaysModel : List ℕ → Files → Parsed → Type 0
-SaysModel name files model = (bytes : List ℕ) × (files name ≡ Some bytes) × (length bytes ≤ most_bytes) × IsModelOf (lines_read (logical_lines false bytes)) model
+SaysModel name files model = (bytes : List ℕ) × (files name ≡ Some bytes) × (length bytes ≤ most_bytes)
+    × IsModelOf (lines_read (logical_lines false bytes)) model
 
--- The text is the mapped text of a netlist, with the network's model name, the latches of the model and the starts of its inputs, and with a
--- certificate where one is asked for. The inputs of the network are the model's and then the outputs of the latches; its outputs
--- are the roots: those of the model and then what the latches read. The netlist is of the library's cells, computes each root for all
--- values of the inputs, and brings it, counted from the starts, at the least time of any cover of any tree that the rules derive for it.
--- The names of its nets differ.
+-- The text is the mapped text of a netlist, with the network's model name, the latches of the model and the starts of
+-- its inputs, and with a certificate where one is asked for. The inputs of the network are the model's and then the
+-- outputs of the latches; its outputs are the roots: those of the model and then what the latches read. The netlist is
+-- of the library's cells, computes each root for all values of the inputs, and brings it, counted from the starts, at
+-- the least time of any cover of any tree that the rules derive for it. The names of its nets differ.
 pub record IsMappingText (words : List (List ℕ)) (files : Files) (text : List ℕ) : Type 0 where
   pub asks : AsksForMapping words
   pub cells : List CellParts
@@ -85,7 +89,9 @@ pub record IsMappingText (words : List (List ℕ)) (files : Files) (text : List 
   pub model_name : netlist.model ≡ model.network.model
   pub frame : Fits model.frame (input_names model.network) (output_names model.network)
   pub starts : StartsFit model.frame model.network.inputs model.starts
-  pub mapping_is : IsMapping asks.options.mode asks.options.width (plain_network model.network) (ports_of model.network) (library_patterns cells) (timing_of cells model.starts) (truth_of_cells cells) (plain_netlist netlist) (mapped_ports netlist)
+  pub mapping_is : IsMapping asks.options.mode asks.options.width (plain_network model.network) (ports_of model.network)
+      (library_patterns cells) (timing_of cells model.starts) (truth_of_cells cells) (plain_netlist netlist)
+      (mapped_ports netlist)
   pub names : AreNetNames (plain_netlist netlist) netlist.names (mapped_ports netlist)
 
 -- The first root of the network that no cover of any tree that the rules derive for it has.
@@ -97,9 +103,9 @@ pub record LacksOutput (words : List (List ℕ)) (files : Files) (name : List �
   pub network : SaysModel asks.network files model
   pub lacks : LacksCover asks.options cells model.network model.starts name
 
--- The words ask for a check of a mapped netlist, whoever wrote it, and it is a mapping of the network: it has its frame, its inputs and
--- its roots, computes each root for all values of the inputs, and brings it, counted from the network's starts, at the least time of any
--- cover of any tree that the rules derive for it.
+-- The words ask for a check of a mapped netlist, whoever wrote it, and it is a mapping of the network: it has its
+-- frame, its inputs and its roots, computes each root for all values of the inputs, and brings it, counted from the
+-- network's starts, at the least time of any cover of any tree that the rules derive for it.
 pub record IsCheckedMapping (words : List (List ℕ)) (files : Files) : Type 0 where
   pub options : Options
   pub cells : List CellParts
@@ -113,4 +119,6 @@ pub record IsCheckedMapping (words : List (List ℕ)) (files : Files) : Type 0 w
   pub network : ReadsModel network_word files (Ok model)
   pub mapped : ReadsMapped mapped_word cells files (Ok netlist)
   pub frame : netlist.frame ≡ model.frame
-  pub mapping_is : IsMapping options.mode options.width (plain_network model.network) (ports_of model.network) (library_patterns cells) (timing_of cells model.starts) (truth_of_cells cells) (plain_netlist netlist.netlist) (mapped_ports netlist.netlist)
+  pub mapping_is : IsMapping options.mode options.width (plain_network model.network) (ports_of model.network)
+      (library_patterns cells) (timing_of cells model.starts) (truth_of_cells cells) (plain_netlist netlist.netlist)
+      (mapped_ports netlist.netlist)

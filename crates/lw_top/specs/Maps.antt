@@ -1,4 +1,5 @@
--- What a library of cells and a network come to: the text of the netlist that the network is mapped to, or why there is none.
+-- What a library of cells and a network come to: the text of the netlist that the network is mapped to, or why there is
+-- none.
 use Rattle.std.specs.Prelude.{ℕ, ◌≡◌, Bool, List, Option, Ok, Err}
 use Rattle.lw_fixed.specs.declared.micro.Micro.{Micro}
 use Rattle.lw_net.specs.Networks.{NetworkParts}
@@ -14,8 +15,10 @@ use Rattle.lw_top.specs.declared.refusal.Refusal.{Refusal}
 use Rattle.lw_top.specs.declared.refusal.Refusal.TheVariants.{Forms, Splits, NoCover}
 use Rattle.lw_top.specs.Steps.{Step}
 
--- the text is that of the netlist that the model is mapped to, with its frame and its starts, and with its certificate where it is asked for
-pub record IsMappedText (options : Options) (certified : Bool) (cells : List CellParts) (model : Parsed) (text : List ℕ) : Type 0 where
+-- the text is that of the netlist that the model is mapped to, with its frame and its starts, and with its certificate
+-- where it is asked for
+pub record IsMappedText (options : Options) (certified : Bool) (cells : List CellParts) (model : Parsed)
+    (text : List ℕ) : Type 0 where
   pub within : IsWithinLimits options model.network
   pub netlist : NetlistParts
   pub is_mapped : IsMappedNetlist options cells model.network model.starts netlist

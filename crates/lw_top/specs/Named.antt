@@ -46,7 +46,8 @@ netlist_refusal (netlist.Undriven name) = Faulty which.Mapped (file_fault.Undriv
 netlist_refusal (netlist.Cycle name) = Faulty which.Mapped (file_fault.NetCycle name)
 netlist_refusal netlist.Memory = Memory
 
--- The step has this outcome, whatever the files; running out of memory needs no reason, of the words nothing is refused, and no file is unread.
+-- The step has this outcome, whatever the files; running out of memory needs no reason, of the words nothing is
+-- refused, and no file is unread.
 abbrev pub Comes : {X A : Type 0} → (X → A) → Step A → Result X Refusal → Type 0
 Comes view step (Ok x) = (files : Files) → step files (Ok (view x))
 Comes view step (Err Memory) = Unit {0}
@@ -71,11 +72,13 @@ pub record AreReadVectors (inputs : ℕ) (vectors : Vectors) : Type 0 where
 
 -- the text is that of the answer
 abbrev pub IsTextOf : Answer → List ℕ → Type 0
-IsTextOf (answer.Mapping library netlist frame starts certificate) text = text ≡ mapped_text library netlist frame starts certificate
+IsTextOf (answer.Mapping library netlist frame starts certificate) text =
+    text ≡ mapped_text library netlist frame starts certificate
 IsTextOf answer.Yes text = text ≡ yes_text
 IsTextOf (answer.Times library netlist timing) text = text ≡ timing_text library netlist timing
 IsTextOf (answer.Values network vectors sim) text = IsNetworkSimulation network (values_in vectors) text
-IsTextOf (answer.GateValues library netlist vectors sim) text = IsNetlistSimulation library netlist (values_in vectors) text
+IsTextOf (answer.GateValues library netlist vectors sim) text =
+    IsNetlistSimulation library netlist (values_in vectors) text
 IsTextOf (answer.Verilog library netlist) text = text ≡ verilog_text library netlist
 IsTextOf (answer.Tables net frame) text = text ≡ tables_text net frame
 IsTextOf (answer.Counts counts) text = text ≡ counts_text counts

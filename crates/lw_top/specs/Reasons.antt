@@ -1,4 +1,5 @@
--- The texts of the reasons for which a mapped netlist is no fastest mapping, or has no text in Verilog, and a text in Verilog is refused.
+-- The texts of the reasons for which a mapped netlist is no fastest mapping, or has no text in Verilog, and a text in
+-- Verilog is refused.
 use Rattle.std.specs.Prelude.{ℕ, List, ◌++◌, Option, Some, None, codes, decimal}
 use Rattle.lw_fixed.specs.declared.micro.Micro.{Micro}
 use Rattle.lw_fixed.specs.Printed.{decimal_text}
@@ -16,13 +17,17 @@ label_text (Some label) = decimal_text label.0
 
 -- a class without a label, or with one above what a match gives
 abbrev pub label_reason : ℕ → Option Micro → ℕ → List ℕ
-label_reason class label value = codes "label of class " ++ (decimal class ++ (codes " is " ++ (label_text label ++ (codes ", a match gives " ++ decimal_text value))))
+label_reason class label value = codes "label of class "
+    ++ (decimal class ++ (codes " is " ++ (label_text label ++ (codes ", a match gives " ++ decimal_text value))))
 
 abbrev pub root_reason : List ℕ → ℕ → ℕ → List ℕ
-root_reason name found root = codes "output " ++ (name ++ (codes " is of class " ++ (decimal found ++ (codes ", not " ++ decimal root))))
+root_reason name found root =
+    codes "output " ++ (name ++ (codes " is of class " ++ (decimal found ++ (codes ", not " ++ decimal root))))
 
 abbrev pub value_reason : List ℕ → ℕ → ℕ → List ℕ
-value_reason name arrival label = codes "output " ++ (name ++ (codes " arrives at " ++ (decimal_text arrival ++ (codes ", its label is " ++ decimal_text label))))
+value_reason name arrival label =
+    codes "output "
+    ++ (name ++ (codes " arrives at " ++ (decimal_text arrival ++ (codes ", its label is " ++ decimal_text label))))
 
 abbrev pub reason_text : Reason → List ℕ
 reason_text Ports = codes "ports differ"

@@ -16,7 +16,8 @@ pub record IsTablesText (leaves : ℕ) (options : Options) (model : Parsed) (tex
   pub tabled : IsTabled options leaves model.network net
   pub says : text ≡ tables_text net model.frame
 
--- What the model comes to, whatever the files. Which tables stand for a class is not determined, so that there may be several texts.
+-- What the model comes to, whatever the files. Which tables stand for a class is not determined, so that there may be
+-- several texts.
 abbrev pub Tabulates : ℕ → Options → Parsed → Step (List ℕ)
 Tabulates leaves options model files (Ok text) = IsTablesText leaves options model text
 Tabulates leaves options model files (Err r) = LacksGraph options model.network r

@@ -5,7 +5,8 @@ use Rattle.lw_io.specs.Causes.{Rose}
 use Rattle.lw_io.specs.Moves.{AppendsPrefix}
 use Rattle.lw_files.specs.Faults.{broken_text, fault_text}
 use Rattle.lw_top.specs.declared.refusal.Refusal.{Refusal}
-use Rattle.lw_top.specs.declared.refusal.Refusal.TheVariants.{Words, Faulty, Verilog, Vector, Forms, Splits, NoCover, Points, No, NoVerilog, Memory}
+use Rattle.lw_top.specs.declared.refusal.Refusal.TheVariants.{Words, Faulty, Verilog, Vector, Forms, Splits, NoCover}
+use Rattle.lw_top.specs.declared.refusal.Refusal.TheVariants.{Points, No, NoVerilog, Memory}
 use Rattle.lw_top.specs.declared.refusal.Which.TheVariants as which
 use Rattle.lw_top.specs.Words.{Command, file_word}
 use Rattle.lw_top.specs.Reasons.{reason_text, no_verilog_text, verilog_kind_text}
@@ -14,10 +15,12 @@ use Rattle.lw_top.specs.declared.outcome.Outcome.TheVariants.{Done, WriteFault, 
 
 -- a line was written, or a prefix of it where the stream failed
 abbrev pub Told : {E : Type 0} → (E → Option (List ℕ)) → (E → ℕ) → E → E → List ℕ → Type 0
-Told taken faults old new text = Appends (taken old) (taken new) text ⊎ (Rose (faults old) (faults new) × AppendsPrefix (taken old) (taken new) text)
+Told taken faults old new text =
+    Appends (taken old) (taken new) text ⊎ (Rose (faults old) (faults new) × AppendsPrefix (taken old) (taken new) text)
 
 abbrev pub usage_text : List ℕ
-usage_text = codes "usage: map [-w K] [-i] [-c] LIB IN | check [-w K] [-i] LIB IN MAPPED | time LIB MAPPED | sim IN VECTORS | sim -g LIB MAPPED VECTORS | graph [-w K] [-i] IN | big SEED N LIB | trade [-w K] [-i] T LIB IN | lut L [-w K] [-i] IN | verilog LIB MAPPED | unverilog LIB VER"
+usage_text =
+    codes "usage: map [-w K] [-i] [-c] LIB IN | check [-w K] [-i] LIB IN MAPPED | time LIB MAPPED | sim IN VECTORS | sim -g LIB MAPPED VECTORS | graph [-w K] [-i] IN | big SEED N LIB | trade [-w K] [-i] T LIB IN | lut L [-w K] [-i] IN | verilog LIB MAPPED | unverilog LIB VER"
 
 abbrev pub refusal_text : Option Command → Refusal → List ℕ
 refusal_text command Words = usage_text

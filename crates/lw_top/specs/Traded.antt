@@ -24,11 +24,13 @@ pub record AsksForTrade (words : List (List ℕ)) : Type 0 where
   pub network : List ℕ
   pub form : command_of words ≡ Some (trading deadline options library network)
 
--- The text is the mapped text, without a certificate, of a netlist of the library's cells, with the latches of the model and the starts of its
--- inputs. The inputs of the network are the model's and then the outputs of the latches; its outputs are the roots: those of the model and then
--- what the latches read. The netlist computes each root for all values of the inputs. Each root arrives by the deadline, or at its least time
--- where that is later, and has the least area, in which each use of a shared part counts, of all covers of all trees that the rules derive for
--- it, of those that are in time. The model, the nets and the outputs have names of the format, which differ, and the gates stand by depth.
+-- The text is the mapped text, without a certificate, of a netlist of the library's cells, with the latches of the
+-- model and the starts of its inputs. The inputs of the network are the model's and then the outputs of the latches;
+-- its outputs are the roots: those of the model and then what the latches read. The netlist computes each root for all
+-- values of the inputs. Each root arrives by the deadline, or at its least time where that is later, and has the least
+-- area, in which each use of a shared part counts, of all covers of all trees that the rules derive for it, of those
+-- that are in time. The model, the nets and the outputs have names of the format, which differ, and the gates stand by
+-- depth.
 pub record IsTrade (words : List (List ℕ)) (files : Files) (text : List ℕ) : Type 0 where
   pub asks : AsksForTrade words
   pub cells : List CellParts

@@ -15,7 +15,8 @@ use Rattle.lw_top.specs.Steps.{Step}
 use Rattle.lw_top.specs.Maps.{LacksMapping}
 
 -- the text is that of a netlist of least area by the deadline, with the model's frame and its starts
-pub record IsTradedText (deadline : Option Micro) (options : Options) (cells : List CellParts) (model : Parsed) (text : List ℕ) : Type 0 where
+pub record IsTradedText (deadline : Option Micro) (options : Options) (cells : List CellParts) (model : Parsed)
+    (text : List ℕ) : Type 0 where
   pub within : IsWithinLimits options model.network
   pub tradeable : IsTradeable options cells model.network model.starts deadline
   pub netlist : NetlistParts
@@ -32,7 +33,8 @@ abbrev pub LacksTrade : Option Micro → Options → List CellParts → NetworkP
 LacksTrade deadline options cells net starts Points = LacksPoints options cells net starts deadline
 LacksTrade deadline options cells net starts other = LacksMapping options cells net starts other
 
--- What the cells and the model come to, whatever the files. Several netlists may have the least area, so that there may be several texts.
+-- What the cells and the model come to, whatever the files. Several netlists may have the least area, so that there may
+-- be several texts.
 abbrev pub Trades : Option Micro → Options → List CellParts → Parsed → Step (List ℕ)
 Trades deadline options cells model files (Ok text) = IsTradedText deadline options cells model text
 Trades deadline options cells model files (Err r) = LacksTrade deadline options cells model.network model.starts r

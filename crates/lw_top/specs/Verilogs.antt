@@ -13,7 +13,8 @@ use Rattle.lw_top.specs.Steps.{Step}
 
 -- the netlist's text in Verilog, whatever the files, or why it has none
 abbrev pub SaysVerilog : List CellParts → Mapped → Step (List ℕ)
-SaysVerilog cells mapped files (Ok text) = (refused cells mapped.netlist mapped.frame ≡ None) × (text ≡ verilog_text cells mapped.netlist)
+SaysVerilog cells mapped files (Ok text) =
+    (refused cells mapped.netlist mapped.frame ≡ None) × (text ≡ verilog_text cells mapped.netlist)
 SaysVerilog cells mapped files (Err (NoVerilog why)) = refused cells mapped.netlist mapped.frame ≡ Some why
 SaysVerilog cells mapped files (Err other) = ⊥
 

@@ -1,5 +1,6 @@
 -- The words of a command.
-use Rattle.std.specs.Prelude.{ℕ, ◌≤◌, ◌-◌, ◌^◌, Bool, true, false, not, ◌&&◌, nat_le, nat_lt, nat_eq, List, [], ◌∷◌, length, Option, Some, None, Result, Ok, Err, if◌then◌else◌, codes, IfSome}
+use Rattle.std.specs.Prelude.{ℕ, ◌≤◌, ◌-◌, ◌^◌, Bool, true, false, not, ◌&&◌, nat_le, nat_lt, nat_eq, List, [], ◌∷◌}
+use Rattle.std.specs.Prelude.{length, Option, Some, None, Result, Ok, Err, if◌then◌else◌, codes, IfSome}
 use Rattle.std.specs.List.{list_all, starts_with}
 use Rattle.std.specs.Char.{is_ascii_digit}
 use Rattle.std.specs.Str.{bytes_eq}
@@ -103,7 +104,8 @@ with_width (Some width) words = Some (with_mode width words)
 
 -- `[-w K] [-i]`, at width 6 without the first
 abbrev pub begun_by : List (List ℕ) → Option Begun
-begun_by (option ∷ word ∷ words) = if bytes_eq option (codes "-w") then with_width (width_of word) words else with_width (Some 6) (option ∷ word ∷ words)
+begun_by (option ∷ word ∷ words) = if bytes_eq option (codes "-w") then with_width (width_of word) words else with_width
+    (Some 6) (option ∷ word ∷ words)
 begun_by words = with_width (Some 6) words
 
 -- Numbers.
@@ -137,7 +139,8 @@ mapping_of options certified (Some files) = Some (mapping options certified file
 -- `[-c] LIB IN`
 abbrev pub certified_of : Options → List (List ℕ) → Option Command
 certified_of options [] = None
-certified_of options (option ∷ words) = if bytes_eq option (codes "-c") then mapping_of options true (two_files words) else mapping_of options false (two_files (option ∷ words))
+certified_of options (option ∷ words) = if bytes_eq option (codes "-c") then mapping_of options true
+    (two_files words) else mapping_of options false (two_files (option ∷ words))
 
 abbrev pub mapping_begun : Option Begun → Option Command
 mapping_begun None = None
@@ -188,7 +191,8 @@ netlist_simulation (Some files) = Some (gate_simulation files.first files.second
 -- `IN VECTORS`, or `-g LIB MAPPED VECTORS`
 abbrev pub simulation_of : List (List ℕ) → Option Command
 simulation_of [] = None
-simulation_of (option ∷ words) = if bytes_eq option (codes "-g") then netlist_simulation (three_files words) else network_simulation (two_files (option ∷ words))
+simulation_of (option ∷ words) = if bytes_eq option (codes "-g") then netlist_simulation
+    (three_files words) else network_simulation (two_files (option ∷ words))
 
 abbrev pub drawing_by : Option ℕ → Option ℕ → Option (List ℕ) → Option Command
 drawing_by (Some seed) (Some count) (Some file) = Some (drawing seed count file)

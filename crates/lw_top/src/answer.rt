@@ -1,7 +1,9 @@
 // From a command to its answer.
 ghost use Rattle.std.specs.Prelude.{IfSome};
 ghost use Rattle.lw_genlib.specs.Cells.{IsSmall};
-ghost use Rattle.lw_top.specs.Words.{IsInRange, IsCount, mapping, checking, timing, simulation, gate_simulation, counting, tabling, drawing, to_verilog, from_verilog, trading};
+ghost use Rattle.lw_top.specs.Words.{IsInRange, IsCount, mapping, checking, timing, simulation};
+ghost use Rattle.lw_top.specs.Words.{gate_simulation, counting, tabling, drawing, to_verilog};
+ghost use Rattle.lw_top.specs.Words.{from_verilog, trading};
 ghost use Rattle.lw_top.specs.Commands.{plain_command};
 ghost use Rattle.lw_top.specs.Answered.{Responds};
 ghost use Rattle.lw_map.specs.Options.{plain_options};

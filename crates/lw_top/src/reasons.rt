@@ -1,7 +1,8 @@
 // The texts of reasons.
 ghost use Rattle.std.specs.Prelude.{◌≡◌};
 ghost use Rattle.lw_io.specs.Writers.{Writes};
-ghost use Rattle.lw_top.specs.Reasons.{label_text, label_reason, root_reason, value_reason, reason_text, no_verilog_text, verilog_kind_text};
+ghost use Rattle.lw_top.specs.Reasons.{label_text, label_reason, root_reason, value_reason};
+ghost use Rattle.lw_top.specs.Reasons.{reason_text, no_verilog_text, verilog_kind_text};
 
 use lw_files::{put_count, put_number, put_three, put_time};
 use lw_fixed::Micro;

@@ -5,7 +5,8 @@ ghost use Rattle.lw_netlist.specs.Plain.{IsOver};
 ghost use Rattle.lw_blif.specs.BlifNetworks.{IsModel};
 ghost use Rattle.lw_files.specs.Read.{IsReadNetlist};
 ghost use Rattle.lw_top.specs.declared.refusal.Which.TheVariants as which;
-ghost use Rattle.lw_top.specs.Answers.{text_in, HasVerilog, HasVectors, ReadsLibrary, ReadsModel, ReadsMapped, ReadsVerilog, ReadsVectors};
+ghost use Rattle.lw_top.specs.Answers.{text_in, HasVerilog, HasVectors, ReadsLibrary, ReadsModel};
+ghost use Rattle.lw_top.specs.Answers.{ReadsMapped, ReadsVerilog, ReadsVectors};
 ghost use Rattle.lw_top.specs.Reading.{ReadsFile};
 ghost use Rattle.lw_top.specs.Named.{Comes, netlist_refusal, values_in, AreReadVectors};
 

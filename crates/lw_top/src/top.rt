@@ -1,5 +1,6 @@
 // The top call.
-ghost use Rattle.std.specs.Prelude.{◌≡◌, ◌≢◌, ◌≤◌, ◌⊎◌, ◌↔◌, ℕ, Some, None, List, map, string_bytes, Result, Ok};
+ghost use Rattle.std.specs.Prelude.{◌≡◌, ◌≢◌, ◌≤◌, ◌⊎◌, ◌↔◌, ℕ, Some, None, List, map};
+ghost use Rattle.std.specs.Prelude.{string_bytes, Result, Ok};
 ghost use Rattle.lw_io.specs.declared.file.File.{File};
 ghost use Rattle.lw_io.specs.Causes.{Rose};
 ghost use Rattle.lw_io.specs.Files.{bytes_of};
@@ -8,7 +9,8 @@ ghost use Rattle.lw_top.specs.declared.refusal.Which.{Which};
 ghost use Rattle.lw_top.specs.Words.{Command, command_of};
 ghost use Rattle.lw_top.specs.Answers.{IsAnswer, IsFileOf, IsReached, status_in, status_of};
 ghost use Rattle.lw_files.specs.Reading.{Known};
-ghost use Rattle.lw_top.specs.Mappings.{AsksForMapping, AsksForCheck, AsksForTables, IsMappingText, LacksOutput, IsCheckedMapping};
+ghost use Rattle.lw_top.specs.Mappings.{AsksForMapping, AsksForCheck, AsksForTables, IsMappingText};
+ghost use Rattle.lw_top.specs.Mappings.{LacksOutput, IsCheckedMapping};
 ghost use Rattle.lw_top.specs.Tabled.{AreTables};
 ghost use Rattle.lw_top.specs.Traded.{AsksForTrade, IsTrade, LacksTradedOutput};
 ghost use Rattle.lw_top.specs.Outcome.{IsDone, IsCutShort, Meets, outcome_status};
@@ -114,7 +116,8 @@ pub fn run<F: Shelf, O: Sink, E: Sink>(
         (command_of (map string_bytes words.now.items) ≡ Some command)
         × IsFileOf command w × ((files : List File) → F.files shelf.old ≡ Some files →
         IsReached command w (bytes_of files))
-        × Told E.taken E.faults err.old err.new (refusal_line (Some command) (Refusal.Faulty w FileFault.Unread))) }
+        × Told E.taken E.faults err.old err.new
+        (refusal_line (Some command) (Refusal.Faulty w FileFault.Unread))) }
 
     // Words of no form are reported as such, whatever the files.
     ensures words { (result ≡ 1) ↔ (command_of (map string_bytes words.now.items) ≡ None) }

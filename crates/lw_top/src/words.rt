@@ -1,6 +1,13 @@
 // The words of a command.
-ghost use Rattle.std.specs.Prelude.{◌≡◌, ◌≤◌, None, Some, map, string_bytes, option_map, MatchOption};
-ghost use Rattle.lw_top.specs.Words.{width_of, is_file_word, two, three, one_file, two_files, three_files, with_mode, begun_by, is_numeral, number_of, seed_of, count_of, certified_of, mapping_begun, checking_begun, counting_begun, leaves_of, tabling_begun, deadline_of, traded_of, trading_begun, timing_of, simulation_of, drawing_of, to_verilog_of, from_verilog_of, named, command_of, file_in, file_word};
+ghost use Rattle.std.specs.Prelude.{◌≡◌, ◌≤◌, None, Some, map, string_bytes, option_map};
+ghost use Rattle.std.specs.Prelude.{MatchOption};
+ghost use Rattle.lw_top.specs.Words.{width_of, is_file_word, two, three, one_file, two_files};
+ghost use Rattle.lw_top.specs.Words.{three_files, with_mode, begun_by, is_numeral, number_of};
+ghost use Rattle.lw_top.specs.Words.{seed_of, count_of, certified_of, mapping_begun};
+ghost use Rattle.lw_top.specs.Words.{checking_begun, counting_begun, leaves_of, tabling_begun};
+ghost use Rattle.lw_top.specs.Words.{deadline_of, traded_of, trading_begun, timing_of};
+ghost use Rattle.lw_top.specs.Words.{simulation_of, drawing_of, to_verilog_of, from_verilog_of};
+ghost use Rattle.lw_top.specs.Words.{named, command_of, file_in, file_word};
 ghost use Rattle.lw_top.specs.declared.refusal.Which.TheVariants as which;
 ghost use Rattle.lw_top.specs.Commands.{plain_begun, plain_command, asked};
 ghost use Rattle.lw_map.specs.Options.{plain_options};

@@ -14,9 +14,14 @@ use Rattle.lw_backtrace.specs.Walks.{IsWalk}
 -- the gates are those of a walk for some task with so many inputs
 abbrev pub MayAssemble : ℕ → Walk → Targets → Type 0
 MayAssemble inputs w t =
-    (s : Task) × (curves : CurveLists) × (c : AreCurvesFor s t curves) × (sites : List Site) × AreTargets s.graph t × (length s.graph.leaves ≡ inputs) × IsWalk s curves.choices c.ways.held sites t.roots t.times w.cells.items w.pins.items w.nets.items
+    (s : Task) × (curves : CurveLists) × (c : AreCurvesFor s t curves) × (sites : List Site) × AreTargets s.graph t
+    × (length s.graph.leaves ≡ inputs)
+    × IsWalk s curves.choices c.ways.held sites t.roots t.times w.cells.items w.pins.items w.nets.items
 
 -- the netlist is what is wanted of each such task
 abbrev pub AssemblesTo : ℕ → Walk → Targets → NetlistParts → Type 0
 AssemblesTo inputs w t n =
-    (s : Task) (curves : CurveLists) (c : AreCurvesFor s t curves) (sites : List Site) → IsLibrary s.cells → AreTargets s.graph t → (length s.graph.leaves ≡ inputs) → IsWalk s curves.choices c.ways.held sites t.roots t.times w.cells.items w.pins.items w.nets.items → IsTraded s t n
+    (s : Task) (curves : CurveLists) (c : AreCurvesFor s t curves) (sites : List Site) → IsLibrary s.cells
+    → AreTargets s.graph t → (length s.graph.leaves ≡ inputs)
+    → IsWalk s curves.choices c.ways.held sites t.roots t.times w.cells.items w.pins.items w.nets.items
+    → IsTraded s t n

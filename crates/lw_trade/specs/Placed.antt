@@ -15,7 +15,8 @@ use Rattle.lw_trade.specs.Traded.{port_net}
 -- no cycle is behind a node
 abbrev pub HaveHeights : ℕ → List (List ℕ) → Type 0
 HaveHeights inputs graph =
-    (heights : List ℕ) → AreHeights inputs graph heights → (j : ℕ) → j < length graph → 0 < height_at heights (inputs + j)
+    (heights : List ℕ) → AreHeights inputs graph heights → (j : ℕ) → j < length graph
+    → 0 < height_at heights (inputs + j)
 
 -- all nodes, none before one that is less high
 pub record IsByHeight (inputs : ℕ) (graph : List (List ℕ)) (order : List ℕ) : Type 0 where
@@ -54,11 +55,13 @@ placed_gate inputs places cells graph j = record {
 }
 
 -- the outputs have these names, and stand at these nets
-pub record ArePortsAt (inputs : ℕ) (places : List ℕ) (names : List (List ℕ)) (nets : List ℕ) (ports : List Port) : Type 0 where
+pub record ArePortsAt (inputs : ℕ) (places : List ℕ) (names : List (List ℕ)) (nets : List ℕ)
+    (ports : List Port) : Type 0 where
   pub names_are : map port_name ports ≡ names
   pub nets_are : map port_net ports ≡ map (placed_net inputs places) nets
 
--- what is placed: whether a net is one of it, the net of a node, and the gate of a node, by the places of a walk's nodes
+-- what is placed: whether a net is one of it, the net of a node, and the gate of a node, by the places of a walk's
+-- nodes
 abbrev pub HasNet : Placing → ℕ → Type 0
 HasNet at net = net < at.inputs + length at.places.now
 

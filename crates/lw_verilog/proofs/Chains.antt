@@ -1,11 +1,10 @@
 -- Chains of the places of names.
 use Rattle.std.proofs.Common.{ℕ, suc, ◌≡◌, ◌≢◌, ◌<◌, ◌≤◌, ◌+◌, ◌*◌, ◌%◌, ◌⊎◌, inl, inr, Bool, true, false, ◌||◌, List, [], ◌∷◌, length, set, get_or, refl, ap, sym, ◌∙◌, arith}
 use Rattle.std.specs.Str.{bytes_eq}
-use Rattle.std.proofs.lemmas.Bool.{cases_lt}
+use Rattle.std.proofs.lemmas.Bool.{cases_lt, cases_eq}
 use Rattle.std.proofs.lemmas.Grind.{get_or-set_at}
 use Rattle.std.proofs.lemmas.List.{get_or-set_other, length-set}
 use Rattle.lw_facts.proofs.Lists.{bytes_eq_is}
-use Rattle.lw_netlist.proofs.Chains.{same-or-not}
 use Rattle.lw_verilog.specs.Chains.{AreChains, bucket_at, bucket_from, bucket_of, known_width, name_at}
 use Rattle.lw_verilog.specs.Windows.{Raises}
 use Rattle.lw_verilog.proofs.Marks.{or-no}
@@ -89,7 +88,7 @@ module _ (names : List (List ℕ)) (heads next : List ℕ) (name : List ℕ) (le
     many = length-set new j (get_or new j false || bytes_eq (name_at names j) name) ∙ w.many;
     low = omega (arith, c.falling j in_names, in_names);
     chain = λ k e. c.chained j k in_names e ∙ bucket;
-    above = λ i lt past. above-next i lt past (cases_lt i j) (same-or-not i j);
+    above = λ i lt past. above-next i lt past (cases_lt i j) (cases_eq i j);
     below = λ i lt. off-place i (omega (arith, lt, c.falling j in_names)) ∙ w.below i (omega (arith, lt, c.falling j in_names, is));
   }
 

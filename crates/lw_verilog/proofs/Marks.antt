@@ -2,7 +2,6 @@
 use Rattle.std.proofs.Common.{ℕ, ◌≡◌, ◌≢◌, ◌<◌, ◌≤◌, ◌+◌, ◌⊎◌, inl, inr, Bool, true, false, ◌||◌, List, [], ◌∷◌, ◌++◌, length, take, set, get_or, refl, ap, sym, ◌∙◌, arith}
 use Rattle.std.specs.Prelude.{decimal}
 use Rattle.std.specs.Str.{bytes_eq}
-use Rattle.std.specs.Cmp.Lexicographic.{bytes_decides}
 use Rattle.std.specs.Str.Parse.{digits_value}
 use Rattle.std.proofs.Math.Bool.{or-true}
 use Rattle.std.proofs.lemmas.Bool.{cases_lt}
@@ -10,6 +9,7 @@ use Rattle.std.proofs.lemmas.Fmt.{digits_value-decimal}
 use Rattle.std.proofs.lemmas.Grind.{get_or-set_at}
 use Rattle.std.proofs.lemmas.List.{get_or-set_other, length-set, take_more}
 use Rattle.std.proofs.lemmas.List.Folds.{list_any-append}
+use Rattle.lw_facts.proofs.Lists.{bytes_differ}
 use Rattle.lw_netlist.specs.Closing.{is_among}
 use Rattle.lw_verilog.specs.Texts.{instance_name}
 use Rattle.lw_verilog.specs.Windows.{Raises, most_flagged}
@@ -54,14 +54,6 @@ instance-tail j k same = ap (λ l. tail l) same
     tail [] = []
     tail (b ∷ bytes) = bytes
 
--- what is not equal is told apart
-pub told-apart : (x y : List ℕ) → (y ≡ x → ⊥) → bytes_eq x y ≡ false
-told-apart x y never = by_test (bytes_eq x y) refl
-  where
-    by_test : (b : Bool) → bytes_eq x y ≡ b → b ≡ false
-    by_test true e = absurd (never (sym ((bytes_decides x y).0 e)))
-    by_test false e = refl
-
 -- an instance of another number has another name
 pub other-instance : (j k : ℕ) (name : List ℕ) → j ≤ most_flagged → k ≤ most_flagged → name ≡ instance_name k → j ≢ k → bytes_eq (instance_name j) name ≡ false
-other-instance j k name a b is apart = told-apart (instance_name j) name (λ same. apart (decimal-once j k a b (instance-tail j k (sym same ∙ is))))
+other-instance j k name a b is apart = bytes_differ (instance_name j) name (λ same. apart (decimal-once j k a b (instance-tail j k (same ∙ is))))

@@ -8,12 +8,11 @@ use Rattle.std.specs.List.{IsDistinct}
 use Rattle.std.specs.Str.{bytes_eq}
 use Rattle.std.proofs.Math.Bool.{or-false, or-true}
 use Rattle.std.proofs.lemmas.Grind.{get_or-set_at}
-use Rattle.std.proofs.lemmas.Bool.{and_right}
+use Rattle.std.proofs.lemmas.Bool.{and_right, cases_eq}
 use Rattle.lw_facts.proofs.Lists.{bytes_eq_is, bytes_eq_same}
 use Rattle.std.proofs.lemmas.List.Folds.{list_any-append}
 use Rattle.lw_netlist.specs.Chains.{name_at}
 use Rattle.lw_netlist.specs.Closing.{is_among, twice_after}
-use Rattle.lw_netlist.proofs.Chains.{same-or-not}
 use Rattle.lw_netlist.proofs.Found.{found-number}
 
 module _ (header : List (List ℕ)) (place : ℕ) (name : List ℕ) (from : 1 ≤ place) (here : slice_get header place ≡ Some name) where
@@ -94,7 +93,7 @@ module _ (declared seen : List (List ℕ)) (flags : List Bool) (k : ℕ) (name :
       ∙ (ap (λ b. is_among seen (name_at declared i) || (b || false)) (sym e) ∙ sym (behind-seen (name_at declared i)))))
 
   pub flags-more : (i : ℕ) → i < length declared → get_or (set flags k true) i false ≡ is_among (seen ++ name ∷ []) (name_at declared i)
-  flags-more i lt = by_place (same-or-not i k)
+  flags-more i lt = by_place (cases_eq i k)
     where
       by_place : (i ≡ k) ⊎ (i ≢ k) → get_or (set flags k true) i false ≡ is_among (seen ++ name ∷ []) (name_at declared i)
       by_place (inl same) = at-place i same

@@ -9,7 +9,7 @@ use Rattle.std.proofs.lemmas.List.{take-append-drop}
 use Rattle.std.proofs.lemmas.List.Folds.{list_any-append}
 use Rattle.std.proofs.lemmas.Map.Keys.{IsDistinct-head, IsDistinct-tail}
 use Rattle.std.proofs.lemmas.Bool.{not-false}
-use Rattle.lw_facts.proofs.Lists.{distinct_take, bytes_differ_turned}
+use Rattle.lw_facts.proofs.Lists.{distinct_take, bytes_differ_turned, distinct_push}
 use Rattle.lw_pool.specs.declared.id.NetId.{NetId}
 use Rattle.lw_genlib.specs.Cells.{CellParts, IsListed, IsPinName}
 use Rattle.lw_netlist.specs.declared.gate.Gate.{Gate}
@@ -32,7 +32,6 @@ use Rattle.lw_verilog.proofs.LeadingGates.{IsSayable, IsSayablePort}
 use Rattle.lw_verilog.proofs.Spellings.{IsShown}
 use Rattle.lw_words.specs.Words.{IsSignalName}
 use Rattle.lw_frame.proofs.Each.{each-append, each-drop, each-of, each-take}
-use Rattle.lw_netlist.proofs.Names.{distinct_push}
 use Rattle.lw_mapped.proofs.GateItems.{among-self}
 
 -- Tests that do not fail.

@@ -33,4 +33,5 @@ pub record AreChained (names : List (List ℕ)) (heads next : List ℕ) : Type 0
 -- Each flag tells whether an output has the name of its net, counted from the base.
 pub record AreKnown (names outputs : List (List ℕ)) (base : ℕ) (flags : List Bool) : Type 0 where
   pub many : length flags ≡ known_width
-  pub each : (i : ℕ) → i < known_width → base + i < length names → slice_index_or flags i false ≡ is_among outputs (name_at names (base + i))
+  pub each : (i : ℕ) → i < known_width → base + i < length names
+      → slice_index_or flags i false ≡ is_among outputs (name_at names (base + i))

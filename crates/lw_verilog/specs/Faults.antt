@@ -1,5 +1,6 @@
 -- Which token of a text breaks a rule, and why.
-use Rattle.std.specs.Prelude.{ℕ, suc, ◌≡◌, ◌≢◌, ◌<◌, ◌⊎◌, true, false, List, ◌++◌, take, slice_get, Some, Result, Ok, Err}
+use Rattle.std.specs.Prelude.{ℕ, suc, ◌≡◌, ◌≢◌, ◌<◌, ◌⊎◌, true, false, List, ◌++◌, take, slice_get, Some, Result, Ok}
+use Rattle.std.specs.Prelude.{Err}
 use Rattle.lw_genlib.specs.Cells.{CellParts}
 use Rattle.lw_verilog.specs.declared.fault.VerilogKind.{VerilogKind}
 use Rattle.lw_verilog.specs.declared.fault.VerilogKind.TheVariants as broken
@@ -24,7 +25,8 @@ pub record BreaksRule (cells : List CellParts) (ts : List Token) (n : ℕ) (faul
   pub read_before : read cells nothing_read (take n ts) ≡ Ok before
   pub move : Move
   pub moves : move_at before.place token.kind ≡ Some move
-  pub breaks : rule_fault cells before.names (ports_of before.said) before.declared move.task token.name ≡ Some fault.kind
+  pub breaks : rule_fault cells before.names (ports_of before.said) before.declared move.task token.name ≡
+      Some fault.kind
 
 -- no token begins with its byte
 abbrev pub IsBadByte : Token → VerilogKind → Type 0
@@ -36,7 +38,8 @@ IsUnexpected ts n t k = (is_strange t.kind ≡ false) × (k ≡ broken.Expected)
 
 -- some text begins with them, and the token breaks a further rule
 abbrev pub IsFurther : List CellParts → List Token → ℕ → FaultAt → Type 0
-IsFurther cells ts n fault = CanGoOn (take (suc n) (kinds_of ts)) × (fault.kind ≢ broken.Expected) × BreaksRule cells ts n fault
+IsFurther cells ts n fault =
+    CanGoOn (take (suc n) (kinds_of ts)) × (fault.kind ≢ broken.Expected) × BreaksRule cells ts n fault
 
 -- The fault stands at this token: some text begins with the tokens before it, which are no whole text.
 pub record IsFaultAt (cells : List CellParts) (ts : List Token) (fault : FaultAt) (n : ℕ) : Type 0 where

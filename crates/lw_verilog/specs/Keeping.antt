@@ -11,7 +11,8 @@ use Rattle.lw_verilog.specs.declared.fault.VerilogKind.{VerilogKind}
 use Rattle.lw_verilog.specs.declared.kind.Kind.{Kind}
 use Rattle.lw_verilog.specs.declared.place.Task.{Task}
 use Rattle.lw_verilog.specs.declared.place.Task.TheVariants as task
-use Rattle.lw_verilog.specs.Readings.{Reading, cell_in, names_after, declared_after, missing_fault, nothing_read, read, rule_fault}
+use Rattle.lw_verilog.specs.Readings.{Reading, cell_in, names_after, declared_after, missing_fault, nothing_read, read}
+use Rattle.lw_verilog.specs.Readings.{rule_fault}
 use Rattle.lw_verilog.specs.Statements.{all_in, header_in, inputs_in, model_of, outputs_in, gates_in, ties_in, wires_in}
 use Rattle.lw_verilog.specs.Tokens.{is_end, tokens}
 
@@ -36,7 +37,8 @@ MayEnd cells c what = what ≡ task.Instance → missing_fault (cell_in cells c.
 
 -- the netlist by names
 abbrev pub draft_in : Contents → GateDraft
-draft_in c = record { model = model_of c.header; inputs = c.inputs; outputs = c.outputs; gates = c.gates; wires = c.wires }
+draft_in c =
+    record { model = model_of c.header; inputs = c.inputs; outputs = c.outputs; gates = c.gates; wires = c.wires }
 
 -- what stands behind the header stays
 pub record KeepsBody (old new : Contents) : Type 0 where
@@ -65,7 +67,8 @@ abbrev pub weight : Contents → ℕ
 weight c = length c.names + (length c.inputs + length c.gates)
 
 -- A token of this kind was taken, and the readings that are kept go on by it.
-pub record TakesToken (cells : List CellParts) (what : Kind) (next : Reading → Reading) (old new : Contents) : Type 0 where
+pub record TakesToken (cells : List CellParts) (what : Kind) (next : Reading → Reading)
+    (old new : Contents) : Type 0 where
   pub weight : weight new ≤ weight old + 1
   pub ended : is_end what ≡ false
   pub keeps : (r : Reading) → Keeps cells old r → Keeps cells new (next r)
@@ -90,6 +93,7 @@ pub record IsParsed (cells : List CellParts) (text : List ℕ) (c : Contents) : 
 
 -- The first token that breaks a rule is told. Running out of memory is always allowed.
 abbrev pub TellsParse : List CellParts → List ℕ → VerilogFault → Type 0
-TellsParse cells text (fault.Line line kind) = read cells nothing_read (tokens text) ≡ Err (record { line = line; kind = kind })
+TellsParse cells text (fault.Line line kind) =
+    read cells nothing_read (tokens text) ≡ Err (record { line = line; kind = kind })
 TellsParse cells text (fault.Whole other) = ⊥
 TellsParse cells text fault.Memory = ⊤

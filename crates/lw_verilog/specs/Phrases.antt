@@ -54,7 +54,8 @@ ports = in_order (token kind.Open) (optional names ∷ token kind.Close ∷ [])
 
 -- declaration := ( "input" | "output" ) [ "wire" ] names ";"
 abbrev pub declaration : Phrase
-declaration = in_order (either (token kind.Input) (token kind.Output)) (optional (token kind.Wire) ∷ names ∷ token kind.Semicolon ∷ [])
+declaration = in_order (either (token kind.Input) (token kind.Output))
+    (optional (token kind.Wire) ∷ names ∷ token kind.Semicolon ∷ [])
 
 -- wires := "wire" names ";"
 abbrev pub wires : Phrase
@@ -86,7 +87,8 @@ item = either declaration (either wires (either assignment instance))
 
 -- file := "module" name [ ports ] ";" item* "endmodule"
 abbrev pub file : Phrase
-file = in_order (token kind.Module) (name ∷ optional ports ∷ token kind.Semicolon ∷ many item ∷ token kind.EndModule ∷ [])
+file =
+    in_order (token kind.Module) (name ∷ optional ports ∷ token kind.Semicolon ∷ many item ∷ token kind.EndModule ∷ [])
 
 -- By the table the tokens lead from one place to another.
 abbrev pub Runs : Place → List Kind → Place → Type 0

@@ -1,5 +1,6 @@
 -- The pieces of a text: names, keywords and signs, and what stands between them.
-use Rattle.std.specs.Prelude.{ℕ, ◌+◌, Bool, not, ◌&&◌, ◌||◌, ◌==◌, nat_lt, nat_le, List, [], ◌∷◌, length, drop, take, if◌then◌else◌, codes, slice_index_or}
+use Rattle.std.specs.Prelude.{ℕ, ◌+◌, Bool, not, ◌&&◌, ◌||◌, ◌==◌, nat_lt, nat_le, List, [], ◌∷◌, length, drop, take}
+use Rattle.std.specs.Prelude.{if◌then◌else◌, codes, slice_index_or}
 use Rattle.std.specs.List.{position_or_len}
 use Rattle.std.specs.Str.{bytes_eq}
 use Rattle.lw_verilog.specs.declared.kind.Kind.{Kind}
@@ -105,8 +106,10 @@ word bytes n = piece (word_kind (take n bytes)) n
 unfoldable pub comment_or_sign : List ℕ → Piece
 comment_or_sign bytes =
     if byte_at bytes 0 == slash && byte_at bytes 1 == slash then piece kind.Gap (2 + line_bytes (drop 2 bytes))
-    else (if byte_at bytes 0 == slash && byte_at bytes 1 == star then closed (drop 2 bytes) (before_pair star slash (drop 2 bytes))
-    else (if byte_at bytes 0 == open_bracket && byte_at bytes 1 == star then closed (drop 2 bytes) (before_pair star close_bracket (drop 2 bytes))
+    else (if byte_at bytes 0 == slash && byte_at bytes 1 == star then closed (drop 2 bytes)
+    (before_pair star slash (drop 2 bytes))
+    else (if byte_at bytes 0 == open_bracket && byte_at bytes 1 == star then closed (drop 2 bytes)
+    (before_pair star close_bracket (drop 2 bytes))
     else piece (sign_kind (byte_at bytes 0)) 1))
 
 -- The piece with which a text begins.

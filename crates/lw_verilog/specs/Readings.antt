@@ -1,5 +1,6 @@
 -- How the tokens of a text are read, and the first that breaks a rule.
-use Rattle.std.specs.Prelude.{ℕ, Bool, true, false, not, ◌&&◌, ◌==◌, is_none, slice_get, List, [], ◌∷◌, ◌++◌, Option, Some, None, Result, Ok, Err, if◌then◌else◌}
+use Rattle.std.specs.Prelude.{ℕ, Bool, true, false, not, ◌&&◌, ◌==◌, is_none, slice_get, List, [], ◌∷◌, ◌++◌, Option}
+use Rattle.std.specs.Prelude.{Some, None, Result, Ok, Err, if◌then◌else◌}
 use Rattle.std.specs.List.{list_all, list_any}
 use Rattle.std.specs.Option.{option_or}
 use Rattle.lw_genlib.specs.Cells.{CellParts, names_of}
@@ -18,8 +19,8 @@ use Rattle.lw_verilog.specs.Statements.{Statement, Tie, ties_in, number_of, is_f
 use Rattle.lw_verilog.specs.Tokens.{Token, is_gap, is_strange}
 use Rattle.lw_words.specs.Words.{is_name}
 
--- Where a reading stands: the place in the grammar, the names of the statement that is open, the ports that are declared so far, and the
--- statements that are ended.
+-- Where a reading stands: the place in the grammar, the names of the statement that is open, the ports that are
+-- declared so far, and the statements that are ended.
 pub record Reading : Type 0 where
   pub place : Place
   pub names : List (List ℕ)
@@ -117,13 +118,16 @@ cell_in cells names = cell_numbered cells (number_of cells names)
 
 -- each port is declared, none is listed twice, and each name that is declared is a port
 abbrev pub are_ports : List (List ℕ) → List (List ℕ) → Bool
-are_ports ports declared = is_none (twice_after [] ports) && list_all (is_among declared) ports && list_all (is_among ports) declared
+are_ports ports declared =
+    is_none (twice_after [] ports) && list_all (is_among declared) ports && list_all (is_among ports) declared
 
 abbrev pub ports_fault : List (List ℕ) → List (List ℕ) → Option VerilogKind
 ports_fault ports declared = if are_ports ports declared then None else Some kind.Port
 
--- The rule that a token breaks which may stand there: by the names of its statement, by the ports, and by what is declared.
-unfoldable pub rule_fault : List CellParts → List (List ℕ) → List (List ℕ) → List (List ℕ) → Task → List ℕ → Option VerilogKind
+-- The rule that a token breaks which may stand there: by the names of its statement, by the ports, and by what is
+-- declared.
+unfoldable pub rule_fault : List CellParts → List (List ℕ) → List (List ℕ) → List (List ℕ) → Task → List ℕ
+    → Option VerilogKind
 rule_fault cells names ports declared task.Word name = name_fault name
 rule_fault cells names ports declared task.Declare name = option_or (name_fault name) (declared_fault declared name)
 rule_fault cells names ports declared task.Cell name = cell_fault cells name
@@ -138,7 +142,8 @@ move_fault cells r name (Some m) = rule_fault cells r.names (ports_of r.said) r.
 
 -- the first rule that a token of this kind and this name breaks
 abbrev pub token_fault : List CellParts → Reading → Kind → List ℕ → Option VerilogKind
-token_fault cells r what name = if is_strange what then Some kind.BadByte else move_fault cells r name (move_at r.place what)
+token_fault cells r what name =
+    if is_strange what then Some kind.BadByte else move_fault cells r name (move_at r.place what)
 
 abbrev pub moved_on : Reading → List ℕ → Option Move → Reading
 moved_on r name None = r
@@ -160,10 +165,11 @@ abbrev pub fault_or : ℕ → Option VerilogKind → Result Reading FaultAt → 
 fault_or line (Some k) other = Err (record { line = line; kind = k })
 fault_or line None other = other
 
--- What tokens come to behind a reading: all that is read up to `endmodule`, or the first token that breaks a rule. The last token is the
--- end of the text, which may stand nowhere.
+-- What tokens come to behind a reading: all that is read up to `endmodule`, or the first token that breaks a rule. The
+-- last token is the end of the text, which may stand nowhere.
 unfoldable pub read : List CellParts → Reading → List Token → Result Reading FaultAt
 read cells r [] = Ok r
 read cells r (t ∷ ts) =
     if is_done r.place then Ok r
-    else fault_or t.line (token_fault cells r t.kind t.name) (read cells (moved_on r t.name (move_at r.place t.kind)) ts)
+    else fault_or t.line (token_fault cells r t.kind t.name)
+    (read cells (moved_on r t.name (move_at r.place t.kind)) ts)

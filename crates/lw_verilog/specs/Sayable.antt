@@ -1,5 +1,6 @@
 -- Which netlists have a Verilog text.
-use Rattle.std.specs.Prelude.{ℕ, Bool, false, not, List, [], ◌∷◌, ◌++◌, find, Option, Some, None, if◌then◌else◌, option_map, slice_get, length, nat_lt}
+use Rattle.std.specs.Prelude.{ℕ, Bool, false, not, List, [], ◌∷◌, ◌++◌, find, Option, Some, None, if◌then◌else◌}
+use Rattle.std.specs.Prelude.{option_map, slice_get, length, nat_lt}
 use Rattle.std.specs.List.{flat_map, list_all, list_any}
 use Rattle.std.specs.Option.{option_or}
 use Rattle.std.specs.Str.{bytes_eq}
@@ -62,12 +63,14 @@ first_tied cells n = first_or_none (flat_map (λ gate. cell_tied (cell_of cells 
 
 -- the first test of the cells by which a netlist has no text
 abbrev pub cells_refused : List CellParts → NetlistParts → Option NoVerilog
-cells_refused cells n = option_or (option_map reason.Clash (clash cells n)) (option_map reason.Pins (first_tied cells n))
+cells_refused cells n =
+    option_or (option_map reason.Clash (clash cells n)) (option_map reason.Pins (first_tied cells n))
 
 -- The first test by which a netlist without latches has no text.
 abbrev pub netlist_refused : List CellParts → NetlistParts → Option NoVerilog
 netlist_refused cells n =
-    option_or (option_map reason.Bytes (first_hidden cells n)) (option_or (option_map reason.Same (first_same n)) (cells_refused cells n))
+    option_or (option_map reason.Bytes (first_hidden cells n))
+    (option_or (option_map reason.Same (first_same n)) (cells_refused cells n))
 
 -- The first test by which a netlist with this frame has no text.
 abbrev pub refused : List CellParts → NetlistParts → Frame → Option NoVerilog

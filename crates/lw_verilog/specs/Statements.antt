@@ -1,5 +1,6 @@
 -- What the statements of a text say: its model, its ports, its gates and its wires.
-use Rattle.std.specs.Prelude.{ℕ, ◌≡◌, Bool, true, position, slice_get, List, [], ◌∷◌, map, drop, Option, Some, None, if◌then◌else◌, codes}
+use Rattle.std.specs.Prelude.{ℕ, ◌≡◌, Bool, true, position, slice_get, List, [], ◌∷◌, map, drop, Option, Some, None}
+use Rattle.std.specs.Prelude.{if◌then◌else◌, codes}
 use Rattle.std.specs.List.{flat_map, list_any}
 use Rattle.std.specs.Str.{bytes_eq}
 use Rattle.lw_genlib.specs.Cells.{CellParts, names_of}
@@ -56,7 +57,8 @@ pub record IsNetPlace (names : List (List ℕ)) (formal : List ℕ) (place : ℕ
   pub net : slice_get names place ≡ Some (net_for (ties_in names) formal)
 
 abbrev pub gate_of : ℕ → CellParts → List Tie → DraftGate
-gate_of number cell ties = record { cell = record { 0 = number }; pins = map (net_for ties) cell.pins; out = net_for ties cell.output }
+gate_of number cell ties =
+    record { cell = record { 0 = number }; pins = map (net_for ties) cell.pins; out = net_for ties cell.output }
 
 abbrev pub gate_at : ℕ → List Tie → Option CellParts → List DraftGate
 gate_at number ties None = []

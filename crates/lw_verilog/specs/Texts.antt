@@ -1,5 +1,6 @@
 -- The Verilog text of a netlist.
-use Rattle.std.specs.Prelude.{ℕ, zero, suc, ◌+◌, ◌-◌, ◌==◌, Bool, List, [], ◌∷◌, ◌++◌, Option, Some, None, length, drop, if◌then◌else◌, codes, decimal, slice_get, slice_index_or}
+use Rattle.std.specs.Prelude.{ℕ, zero, suc, ◌+◌, ◌-◌, ◌==◌, Bool, List, [], ◌∷◌, ◌++◌, Option, Some, None, length, drop}
+use Rattle.std.specs.Prelude.{if◌then◌else◌, codes, decimal, slice_get, slice_index_or}
 use Rattle.std.specs.List.{flat_map}
 use Rattle.std.specs.Str.{bytes_eq}
 use Rattle.lw_pool.specs.declared.id.NetId.{NetId}
@@ -30,7 +31,8 @@ joined (name ∷ names) = escaped name ++ further names
 
 -- the module and its ports
 abbrev pub header_text : NetlistParts → List ℕ
-header_text n = codes "module " ++ (escaped n.model ++ (40 ∷ (joined (names_of_inputs n ++ names_of_outputs n) ++ codes ");\n")))
+header_text n =
+    codes "module " ++ (escaped n.model ++ (40 ∷ (joined (names_of_inputs n ++ names_of_outputs n) ++ codes ");\n")))
 
 -- a declaration by this keyword
 abbrev pub declaration : List ℕ → List ℕ → List ℕ
@@ -48,7 +50,8 @@ tie_text formal net = 46 ∷ escaped formal ++ (40 ∷ escaped net ++ 41 ∷ [])
 abbrev pub pins_text : List (List ℕ) → List (List ℕ) → List NetId → List ℕ
 pins_text names [] nets = []
 pins_text names (pin ∷ pins) [] = []
-pins_text names (pin ∷ pins) (net ∷ nets) = (tie_text pin (net_name names net) ++ 44 ∷ 32 ∷ []) ++ pins_text names pins nets
+pins_text names (pin ∷ pins) (net ∷ nets) =
+    (tie_text pin (net_name names net) ++ 44 ∷ 32 ∷ []) ++ pins_text names pins nets
 
 -- the first byte of each name of an instance
 abbrev pub letter_u : ℕ
@@ -64,7 +67,10 @@ begins_u name = slice_index_or name 0 0 == letter_u
 abbrev pub gate_line : List (List ℕ) → ℕ → Gate → Option CellParts → List ℕ
 gate_line names number gate None = []
 gate_line names number gate (Some cell) =
-    escaped cell.name ++ (instance_name number ++ (32 ∷ 40 ∷ pins_text names cell.pins gate.pins ++ (tie_text cell.output (net_name names gate.out) ++ codes ");\n")))
+    escaped cell.name
+    ++ (instance_name number
+    ++ (32 ∷ 40 ∷ pins_text names cell.pins gate.pins
+    ++ (tie_text cell.output (net_name names gate.out) ++ codes ");\n")))
 
 abbrev pub gate_text : List CellParts → List (List ℕ) → ℕ → Gate → List ℕ
 gate_text cells names number gate = gate_line names number gate (slice_get cells gate.cell.0)
@@ -86,13 +92,15 @@ assignment output net = codes "assign " ++ (escaped output ++ (codes "= " ++ (es
 
 -- an output whose net has another name
 abbrev pub assignment_text : List (List ℕ) → Port → List ℕ
-assignment_text names port = if bytes_eq (net_name names port.net) port.name then [] else assignment port.name (net_name names port.net)
+assignment_text names port =
+    if bytes_eq (net_name names port.net) port.name then [] else assignment port.name (net_name names port.net)
 
 -- the names that no instance has
 abbrev pub taken_names : NetlistParts → List (List ℕ)
 taken_names n = n.names ++ names_of_outputs n
 
--- The text: the header, the inputs, the outputs, the further nets, the gates, the outputs whose nets have other names, and the end.
+-- The text: the header, the inputs, the outputs, the further nets, the gates, the outputs whose nets have other names,
+-- and the end.
 abbrev pub verilog_text : List CellParts → NetlistParts → List ℕ
 verilog_text cells n =
     header_text n

@@ -1,5 +1,6 @@
 -- The tokens of a text.
-use Rattle.std.specs.Prelude.{ℕ, zero, suc, ◌+◌, ◌-◌, ◌^◌, ◌≡◌, ◌<◌, ◌≤◌, ◌==◌, Bool, true, false, List, [], ◌∷◌, ◌++◌, length, take, drop, if◌then◌else◌, count_by}
+use Rattle.std.specs.Prelude.{ℕ, zero, suc, ◌+◌, ◌-◌, ◌^◌, ◌≡◌, ◌<◌, ◌≤◌, ◌==◌, Bool, true, false, List, [], ◌∷◌, ◌++◌}
+use Rattle.std.specs.Prelude.{length, take, drop, if◌then◌else◌, count_by}
 use Rattle.lw_verilog.specs.declared.kind.Kind.{Kind}
 use Rattle.lw_verilog.specs.declared.kind.Kind.TheVariants as kind
 use Rattle.lw_verilog.specs.declared.kind.Piece.{Piece}
@@ -51,7 +52,8 @@ name_of bytes = if byte_at bytes 0 == stroke then drop 1 bytes else bytes
 
 -- the token of a piece in this line; the end of the text is in the last one
 abbrev pub token : ℕ → ℕ → Piece → List ℕ → Token
-token last line p bytes = record { kind = p.kind; name = name_of (take p.size bytes); line = if is_end p.kind then last else line }
+token last line p bytes =
+    record { kind = p.kind; name = name_of (take p.size bytes); line = if is_end p.kind then last else line }
 
 abbrev pub token_if : ℕ → ℕ → Piece → List ℕ → List Token
 token_if last line p bytes = if is_gap p.kind then [] else token last line p bytes ∷ []
@@ -61,7 +63,8 @@ unfoldable pub tokens_from : ℕ → ℕ → ℕ → List ℕ → List Token
 tokens_from zero last line bytes = []
 tokens_from (suc n) last line bytes =
     token_if last line (first_piece bytes) bytes
-    ++ tokens_from n last (line + line_feeds (take (first_piece bytes).size bytes)) (drop (first_piece bytes).size bytes)
+    ++ tokens_from n last (line + line_feeds (take (first_piece bytes).size bytes))
+    (drop (first_piece bytes).size bytes)
 
 -- The tokens of a text, and behind them its end. There are no more pieces than bytes.
 abbrev pub tokens : List ℕ → List Token

@@ -1,5 +1,6 @@
 -- Flags for a run of numbers.
-use Rattle.std.specs.Prelude.{ℕ, Option, MatchOption, ◌≡◌, ◌≢◌, ◌<◌, ◌≤◌, ◌+◌, ◌||◌, ◌^◌, Bool, false, List, length, slice_index_or}
+use Rattle.std.specs.Prelude.{ℕ, Option, MatchOption, ◌≡◌, ◌≢◌, ◌<◌, ◌≤◌, ◌+◌, ◌||◌, ◌^◌, Bool, false, List, length}
+use Rattle.std.specs.Prelude.{slice_index_or}
 use Rattle.lw_netlist.specs.Closing.{is_among}
 use Rattle.lw_verilog.specs.Texts.{instance_name}
 
@@ -22,7 +23,8 @@ number_limit = 2 ^ 64
 
 -- The number whose text this is, if it is no more than the most, or none where no smaller one has this text.
 abbrev pub IsNumberBy : (ℕ → List ℕ) → List ℕ → Option ℕ → Type 0
-IsNumberBy text_of text o = MatchOption o ((k : ℕ) → k < most_flagged → text ≢ text_of k) (λ k. (text ≡ text_of k) × (k ≤ most_flagged))
+IsNumberBy text_of text o =
+    MatchOption o ((k : ℕ) → k < most_flagged → text ≢ text_of k) (λ k. (text ≡ text_of k) × (k ≤ most_flagged))
 
 -- flags after those were raised whose places pass a test
 pub record Raises (test : ℕ → Bool) (old new : List Bool) : Type 0 where

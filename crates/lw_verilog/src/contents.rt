@@ -129,13 +129,16 @@ fn push_gate(
 }
 
 impl Contents {
-    ghost use Rattle.std.specs.Prelude.{◌≡◌, ◌<◌, ◌++◌, List, None, length, IfOk, OnOk, true, false};
+    ghost use Rattle.std.specs.Prelude.{◌≡◌, ◌<◌, ◌++◌, List, None, length, IfOk, OnOk, true};
+    ghost use Rattle.std.specs.Prelude.{false};
     ghost use Rattle.lw_genlib.specs.Cells.{CellParts};
     ghost use Rattle.lw_verilog.specs.Tokens.{is_name, name_of};
     ghost use Rattle.lw_verilog.specs.declared.place.Task.TheVariants as tasks;
     ghost use Rattle.lw_verilog.specs.Grammar.{move_at};
-    ghost use Rattle.lw_verilog.specs.Keeping.{draft_in, fault_in, Acts, Adds, Keeps, KeepsBody, MayEnd, TakesToken, TellsFault};
-    ghost use Rattle.lw_verilog.specs.Readings.{Reading, is_done, is_word, moved_on, nothing_read, piece_fault, piece_read, token_fault};
+    ghost use Rattle.lw_verilog.specs.Keeping.{draft_in, fault_in, Acts, Adds, Keeps, KeepsBody};
+    ghost use Rattle.lw_verilog.specs.Keeping.{MayEnd, TakesToken, TellsFault};
+    ghost use Rattle.lw_verilog.specs.Readings.{Reading, is_done, is_word, moved_on, nothing_read};
+    ghost use Rattle.lw_verilog.specs.Readings.{piece_fault, piece_read, token_fault};
 
     pub(crate) fn new(alloc: Global) -> Result<Self, AllocError>
         ensures { IfOk result (λ contents. (cells : List CellParts) →

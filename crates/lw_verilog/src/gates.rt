@@ -1,5 +1,6 @@
 // The gates of instances.
-ghost use Rattle.std.specs.Prelude.{◌≡◌, ◌<◌, ◌++◌, [], ◌∷◌, true, None, Some, All, length, map, IfOk, OnOk};
+ghost use Rattle.std.specs.Prelude.{◌≡◌, ◌<◌, ◌++◌, [], ◌∷◌, true, None, Some, All, length, map};
+ghost use Rattle.std.specs.Prelude.{IfOk, OnOk};
 ghost use Rattle.std.specs.List.{list_any};
 ghost use Rattle.lw_verilog.specs.Readings.{cell_in, missing_fault};
 ghost use Rattle.lw_verilog.specs.Statements.{gate_by, is_for, net_for, number_of, ties_in};

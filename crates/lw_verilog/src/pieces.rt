@@ -1,7 +1,10 @@
 // The pieces of a text.
 ghost use Rattle.std.specs.Prelude.{◌≡◌, ◌<◌, ◌^◌, length, not};
 ghost use Rattle.std.specs.List.{position};
-ghost use Rattle.lw_verilog.specs.Pieces.{byte_at, is_separator, is_visible, begins_name, is_name_byte, separators, visibles, name_bytes, line_bytes, before_pair, word_kind, sign_kind, closed, escaped, comment_or_sign, first_piece};
+ghost use Rattle.lw_verilog.specs.Pieces.{byte_at, is_separator, is_visible, begins_name};
+ghost use Rattle.lw_verilog.specs.Pieces.{is_name_byte, separators, visibles, name_bytes};
+ghost use Rattle.lw_verilog.specs.Pieces.{line_bytes, before_pair, word_kind, sign_kind, closed};
+ghost use Rattle.lw_verilog.specs.Pieces.{escaped, comment_or_sign, first_piece};
 ghost use Rattle.lw_words.specs.Lines.{is_line_feed};
 
 use crate::{Kind, Piece};

@@ -1,10 +1,12 @@
 // Names and declarations.
-ghost use Rattle.std.specs.Prelude.{◌≡◌, ◌<◌, ◌∷◌, ◌++◌, [], codes, cond, length, map, All, MatchOption};
+ghost use Rattle.std.specs.Prelude.{◌≡◌, ◌<◌, ◌∷◌, ◌++◌, [], codes, cond, length, map, All};
+ghost use Rattle.std.specs.Prelude.{MatchOption};
 ghost use Rattle.std.specs.List.{flat_map, list_any};
 ghost use Rattle.std.specs.Str.{bytes_eq};
 ghost use Rattle.lw_netlist.specs.Closing.{is_among};
 ghost use Rattle.lw_io.specs.Writers.{Writes};
-ghost use Rattle.lw_verilog.specs.Texts.{escaped, further, joined, next_name, declaration, wire_text, assignment, assignment_text};
+ghost use Rattle.lw_verilog.specs.Texts.{escaped, further, joined, next_name, declaration};
+ghost use Rattle.lw_verilog.specs.Texts.{wire_text, assignment, assignment_text};
 ghost use Rattle.lw_netlist.specs.Plain.{port_name};
 
 use crate::known::Known;

@@ -1,12 +1,16 @@
 // Which netlists have a Verilog text.
-ghost use Rattle.std.specs.Prelude.{◌≡◌, ◌<◌, ◌∷◌, [], None, Some, true, false, map, find, All, IfOk, option_map};
+ghost use Rattle.std.specs.Prelude.{◌≡◌, ◌<◌, ◌∷◌, [], None, Some, true, false, map, find, All};
+ghost use Rattle.std.specs.Prelude.{IfOk, option_map};
 ghost use Rattle.std.specs.List.{flat_map, list_all, list_any};
 ghost use Rattle.std.specs.Option.{option_or};
 ghost use Rattle.lw_netlist.specs.Closing.{is_among};
 ghost use Rattle.lw_netlist.specs.Plain.{HasCell, IsOver, port_name};
 ghost use Rattle.lw_mapped.specs.Texts.{HasNames, names_of_inputs};
 ghost use Rattle.lw_verilog.specs.Pieces.{is_visible};
-ghost use Rattle.lw_verilog.specs.Sayable.{is_hidden, cell_names, gate_names, first_hidden, first_same, has_name, cell_of, clash, cell_tied, first_or_none, first_tied, cells_refused, netlist_refused, refused};
+ghost use Rattle.lw_verilog.specs.Sayable.{is_hidden, cell_names, gate_names, first_hidden};
+ghost use Rattle.lw_verilog.specs.Sayable.{first_same, has_name, cell_of, clash, cell_tied};
+ghost use Rattle.lw_verilog.specs.Sayable.{first_or_none, first_tied, cells_refused};
+ghost use Rattle.lw_verilog.specs.Sayable.{netlist_refused, refused};
 
 use crate::NoVerilog;
 use crate::pieces::is_visible;

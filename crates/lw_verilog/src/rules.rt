@@ -1,33 +1,29 @@
 // The rules that names break.
-ghost use Rattle.std.specs.Prelude.{◌≡◌, ◌<◌, true, false, None, Some, [], length, replicate, drop, option_map, ◌&&◌, Contains, IfOk, MatchOption, slice_get, slice_index_or};
+ghost use Rattle.std.specs.Prelude.{◌≡◌, ◌<◌, true, false, None, Some, [], length, replicate, drop};
+ghost use Rattle.std.specs.Prelude.{option_map, ◌&&◌, Contains, IfOk, MatchOption, slice_get};
+ghost use Rattle.std.specs.Prelude.{slice_index_or};
 ghost use Rattle.std.specs.List.{list_all, list_any};
 ghost use Rattle.std.specs.Option.{option_or};
 ghost use Rattle.std.specs.Str.{bytes_eq};
 ghost use Rattle.lw_genlib.specs.Cells.{names_of};
 ghost use Rattle.lw_netlist.specs.Closing.{is_among};
 ghost use Rattle.lw_verilog.specs.Raising.{RaisesPorts};
-ghost use Rattle.lw_verilog.specs.Readings.{has_hash, name_fault, declared_fault, cell_fault, formal_fault, cell_in, gives_all, missing_fault, ports_fault};
+ghost use Rattle.lw_verilog.specs.Readings.{has_hash, name_fault, declared_fault, cell_fault};
+ghost use Rattle.lw_verilog.specs.Readings.{formal_fault, cell_in, gives_all, missing_fault};
+ghost use Rattle.lw_verilog.specs.Readings.{ports_fault};
 ghost use Rattle.lw_verilog.specs.Statements.{IsNetPlace, first_name, is_for, number_of, ties_in};
-ghost use Rattle.lw_words.specs.Words.{is_name};
 
 use crate::VerilogKind;
 use lw_genlib::{Cell, Library};
 use lw_netlist::{Signals, SpelledNames};
 use lw_pool::{CellId, Name};
+use lw_words::is_name;
 use std::alloc::{AllocError, Global};
-
-const NAME_MAX: usize = 2000;
 
 fn has_hash(name: &[u8]) -> bool
     ensures { result ≡ has_hash name.now }
 {
     name.iter().any(|b| *b == b'#')
-}
-
-fn is_name(name: &[u8]) -> bool
-    ensures { result ≡ is_name name.now }
-{
-    name.len() <= NAME_MAX && !name.ends_with(b"\\")
 }
 
 /// The rule that a name breaks which is no cell's and no pin's.

@@ -7,7 +7,8 @@ ghost use Rattle.std.specs.Str.Parse.{digits_value};
 ghost use Rattle.lw_netlist.specs.Closing.{is_among};
 ghost use Rattle.lw_verilog.specs.Texts.{begins_u, instance_name, passed};
 ghost use Rattle.lw_verilog.specs.Named.{names_in, Fits};
-ghost use Rattle.lw_verilog.specs.Windows.{AreTaken, HasFlag, IsNumberBy, Raises, most_flagged, number_limit, width};
+ghost use Rattle.lw_verilog.specs.Windows.{AreTaken, HasFlag, IsNumberBy, Raises, most_flagged};
+ghost use Rattle.lw_verilog.specs.Windows.{number_limit, width};
 ghost use Rattle.lw_netlist.specs.Plain.{port_name};
 
 use crate::putting::is_output;

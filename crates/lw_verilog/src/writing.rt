@@ -5,7 +5,8 @@ ghost use Rattle.lw_io.specs.Writers.{Writes};
 ghost use Rattle.lw_netlist.specs.Plain.{HasCell, IsOver};
 ghost use Rattle.lw_mapped.specs.Texts.{HasNames, names_of_inputs};
 ghost use Rattle.lw_verilog.specs.Named.{names_in, net_limit};
-ghost use Rattle.lw_verilog.specs.Texts.{tie_text, pins_text, instance_name, gate_line, gate_text, gates_text, header_text, verilog_text};
+ghost use Rattle.lw_verilog.specs.Texts.{tie_text, pins_text, instance_name, gate_line, gate_text};
+ghost use Rattle.lw_verilog.specs.Texts.{gates_text, header_text, verilog_text};
 
 use crate::putting::{
     put_assignments, put_declarations, put_escaped, put_joined, put_port_declarations, put_wires,

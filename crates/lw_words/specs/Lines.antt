@@ -1,5 +1,6 @@
 -- The logical lines of a whole text.
-use Rattle.std.specs.Prelude.{ℕ, ◌+◌, Bool, true, false, not, ◌&&◌, ◌||◌, ◌==◌, nat_lt, List, [], ◌∷◌, ◌++◌, length, map, take, drop, if◌then◌else◌, filter}
+use Rattle.std.specs.Prelude.{ℕ, ◌+◌, Bool, true, false, not, ◌&&◌, ◌||◌, ◌==◌, nat_lt, List, [], ◌∷◌, ◌++◌, length}
+use Rattle.std.specs.Prelude.{map, take, drop, if◌then◌else◌, filter}
 use Rattle.std.specs.List.{slice_split, list_any}
 use Rattle.lw_words.specs.Limits.{longest_word}
 
@@ -83,7 +84,8 @@ pub record Text : Type 0 where
   pub number : ℕ
   pub bytes : List ℕ
 
--- These bytes before the first of the texts that follow, which continues them. Where the text ends here, nothing need follow.
+-- These bytes before the first of the texts that follow, which continues them. Where the text ends here, nothing need
+-- follow.
 abbrev pub continued_by : Bool → ℕ → List ℕ → List Text → List Text
 continued_by ends number bytes [] = if ends then record { number = number; bytes = bytes } ∷ [] else []
 continued_by ends number bytes (next ∷ texts) = record { number = number; bytes = bytes ++ next.bytes } ∷ texts
@@ -97,7 +99,8 @@ text_before ends number text others =
 abbrev pub text_of : Bool → List ℕ → List ℕ
 text_of counts line = trimmed (uncommented counts line)
 
--- The texts of physical lines, of which the first has this number. The third argument says whether it begins a logical line.
+-- The texts of physical lines, of which the first has this number. The third argument says whether it begins a logical
+-- line.
 abbrev pub texts_from : Bool → Bool → Bool → ℕ → List (List ℕ) → List Text
 texts_from ends marked begins number [] = []
 texts_from ends marked begins number (line ∷ lines) =

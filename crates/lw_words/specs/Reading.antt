@@ -1,9 +1,12 @@
 -- What has been read of a text whose end is still to come.
-use Rattle.std.specs.Prelude.{ℕ, ◌+◌, ◌≡◌, Bool, true, false, ◌&&◌, ◌==◌, List, [], ◌∷◌, ◌++◌, if◌then◌else◌, option_to_list, ⊤}
+use Rattle.std.specs.Prelude.{ℕ, ◌+◌, ◌≡◌, Bool, true, false, ◌&&◌, ◌==◌, List, [], ◌∷◌, ◌++◌, if◌then◌else◌}
+use Rattle.std.specs.Prelude.{option_to_list, ⊤}
 use Rattle.lw_words.specs.declared.place.Place.{Place}
-use Rattle.lw_words.specs.declared.place.Place.TheVariants.{Start, Hash, Mark, Text, Stroke, Gap, Comment, ContinuedComment}
+use Rattle.lw_words.specs.declared.place.Place.TheVariants.{Start, Hash, Mark, Text, Stroke, Gap, Comment}
+use Rattle.lw_words.specs.declared.place.Place.TheVariants.{ContinuedComment}
 use Rattle.lw_words.specs.Lines as lines
-use Rattle.lw_words.specs.Lines.{LogicalLine, is_blank, before_hash, uncommented, trimmed, text_of, is_continued, with_blank}
+use Rattle.lw_words.specs.Lines.{LogicalLine, is_blank, before_hash, uncommented, trimmed, text_of, is_continued}
+use Rattle.lw_words.specs.Lines.{with_blank}
 use Rattle.lw_words.specs.Gathering.{Gathered, nothing_gathered, mark_gathered, with_byte, ended, line_gathered}
 
 -- A place moves over a byte that is no line feed.
@@ -92,13 +95,34 @@ at_start = record { done = []; begins = true; number = 1; at = 1; text = []; lin
 -- the physical line ends with this text
 abbrev pub line_ended : Unfinished → List ℕ → Unfinished
 line_ended u text =
-    if is_continued text then record { done = u.done; begins = false; number = u.number; at = u.at + 1; text = u.text ++ with_blank text; line = [] }
-    else record { done = u.done ++ record { number = u.number; bytes = u.text ++ text } ∷ []; begins = true; number = u.at + 1; at = u.at + 1; text = []; line = [] }
+    if is_continued text then record {
+      done = u.done;
+      begins = false;
+      number = u.number;
+      at = u.at + 1;
+      text = u.text ++ with_blank text;
+      line = [];
+    }
+    else record {
+      done = u.done ++ record { number = u.number; bytes = u.text ++ text } ∷ [];
+      begins = true;
+      number = u.at + 1;
+      at = u.at + 1;
+      text = [];
+      line = [];
+    }
 
 abbrev pub behind_byte : Bool → Unfinished → ℕ → Unfinished
 behind_byte marked u b =
     if b == 10 then line_ended u (text_of (marked && u.begins) u.line)
-    else record { done = u.done; begins = u.begins; number = u.number; at = u.at; text = u.text; line = u.line ++ b ∷ [] }
+    else record {
+      done = u.done;
+      begins = u.begins;
+      number = u.number;
+      at = u.at;
+      text = u.text;
+      line = u.line ++ b ∷ [];
+    }
 
 abbrev pub behind_bytes : Bool → Unfinished → List ℕ → Unfinished
 behind_bytes marked u [] = u
@@ -170,7 +194,8 @@ pub record IsReading (marked : Bool) (u : Unfinished) (number at : ℕ) (place :
 -- Over any byte.
 
 abbrev pub next_place : Bool → Place → ℕ → Place
-next_place marked place b = if b == 10 then (if goes_on place then Text else first_place marked) else place_after place b
+next_place marked place b =
+    if b == 10 then (if goes_on place then Text else first_place marked) else place_after place b
 
 abbrev pub next_gathered : Place → ℕ → Gathered → Gathered
 next_gathered place b g =

@@ -25,14 +25,16 @@ pub record StandsFor (lines : Lines) (fed : List ℕ) (taken : ℕ) : Type 0 whe
   -- the lines that are kept are those that were not taken
   pub left : lines.ready.items ≡ drop taken (lines_so_far lines fed)
   -- where more bytes may come, what is kept beside is of the line that is not finished
-  pub open_line : lines.finished ≡ false → IsReading lines.marked (unfinished lines.marked fed) lines.number lines.at lines.place lines.gathering
+  pub open_line : lines.finished ≡ false → IsReading lines.marked
+      (unfinished lines.marked fed) lines.number lines.at lines.place lines.gathering
 
 -- more bytes
 pub record ReadsAll (old : Lines) (bytes : List ℕ) (new : Lines) : Type 0 where
   pub marked : new.marked ≡ old.marked
   pub finished : new.finished ≡ old.finished
   pub fed : new.fed ≡ old.fed + length bytes
-  pub stands : (fed : List ℕ) (taken : ℕ) → old.finished ≡ false → StandsFor old fed taken → StandsFor new (fed ++ bytes) taken
+  pub stands : (fed : List ℕ) (taken : ℕ) → old.finished ≡ false → StandsFor old fed taken
+      → StandsFor new (fed ++ bytes) taken
 
 -- one more byte
 pub record ReadsByte (old : Lines) (b : ℕ) (new : Lines) : Type 0 where

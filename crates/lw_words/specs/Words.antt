@@ -1,5 +1,6 @@
 -- Words as the readers of lines know them.
-use Rattle.std.specs.Prelude.{ℕ, Bool, false, not, ◌&&◌, ◌≡◌, ◌==◌, true, nat_le, nat_eq, List, [], ◌∷◌, length, if◌then◌else◌, All, codes}
+use Rattle.std.specs.Prelude.{ℕ, Bool, false, not, ◌&&◌, ◌≡◌, ◌==◌, true, nat_le, nat_eq, List, [], ◌∷◌, length}
+use Rattle.std.specs.Prelude.{if◌then◌else◌, All, codes}
 use Rattle.std.specs.List.{list_any, ends_with}
 use Rattle.std.specs.Str.{bytes_eq}
 use Rattle.lw_words.specs.Gathering.{IsWord, IsNoHash}

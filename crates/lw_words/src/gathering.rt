@@ -37,8 +37,10 @@ impl Model for Gathering {
 
 impl Gathering {
     ghost use Rattle.std.specs.Prelude.{◌≡◌, [], All, IfOk, OnOk};
-    ghost use Rattle.lw_words.specs.Gathering.{IsInk, IsNoHash, nothing_gathered, mark_gathered, with_byte, with_bytes, ended, line_gathered};
+    ghost use Rattle.lw_words.specs.Gathering.{IsInk, IsNoHash, nothing_gathered, mark_gathered};
+    ghost use Rattle.lw_words.specs.Gathering.{with_byte, with_bytes, ended, line_gathered};
 
+    /// No byte of a line was read yet.
     pub fn new(alloc: Global) -> Self
         ensures { result ≡ nothing_gathered }
     {

@@ -7,7 +7,7 @@
 //! * `place`: where a reader stands in a physical line;
 //! * `gathering`, `reading`: the words of a line, byte by byte, and those of a word in one go;
 //! * `lines`: lines of the bytes that are fed (`Lines`);
-//! * `commands`: words that a reader knows;
+//! * `names`, `commands`: words that may be names, and words that a reader knows;
 //! * `laws`: what holds of all logical lines.
 //!
 //! The one definition to read is `logical_lines` in `specs/Lines.antt`. `lw_files` gives the lines
@@ -19,6 +19,7 @@ mod gathering;
 mod laws;
 mod line;
 mod lines;
+mod names;
 mod place;
 mod reading;
 mod words;
@@ -27,4 +28,5 @@ pub use commands::{is, is_ignored};
 pub use laws::{finished_lines_stay, words_fit};
 pub use line::Line;
 pub use lines::Lines;
+pub use names::{are_names, is_name};
 pub use words::Words;

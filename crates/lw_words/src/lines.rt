@@ -1,5 +1,6 @@
 // Lines of the bytes that are fed.
-ghost use Rattle.std.specs.Prelude.{◌≡◌, ◌+◌, ◌≤◌, ◌<◌, false, true, [], ◌++◌, List, ℕ, length, take, OnOk, IfOk, slice_get, option_to_list};
+ghost use Rattle.std.specs.Prelude.{◌≡◌, ◌+◌, ◌≤◌, ◌<◌, false, true, [], ◌++◌, List, ℕ, length};
+ghost use Rattle.std.specs.Prelude.{take, OnOk, IfOk, slice_get, option_to_list};
 ghost use Rattle.lw_words.specs.Limits.{most_bytes};
 
 use crate::gathering::Gathering;
@@ -30,7 +31,8 @@ pub struct Lines {
 
 impl Lines {
     ghost use Rattle.lw_words.specs.Reading.{IsComment};
-    ghost use Rattle.lw_words.specs.Standing.{StandsFor, ReadsByte, EndsLine, PutsLine, ReadsAll, is_marked, is_finished, fed_count, lines_so_far};
+    ghost use Rattle.lw_words.specs.Standing.{StandsFor, ReadsByte, EndsLine, PutsLine, ReadsAll};
+    ghost use Rattle.lw_words.specs.Standing.{is_marked, is_finished, fed_count, lines_so_far};
 
     /// In the marked reading a `#@` that begins a line is kept.
     pub fn new(alloc: Global, marked: bool) -> Self

@@ -2,7 +2,9 @@
 ghost use Rattle.std.specs.Prelude.{◌≡◌, ◌≢◌, ◌≤◌, false, length, take, All, IsTrue, IfOk, OnOk};
 ghost use Rattle.lw_words.specs.Lines.{is_blank};
 ghost use Rattle.lw_words.specs.Gathering.{with_byte, ended, IsInk, IsPlainByte};
-ghost use Rattle.lw_words.specs.Reading.{after_ink, after_text, after_stroke, place_after, with_ink, over_text, over_stroke, over_bytes, gathered_after, gathered_at_end};
+ghost use Rattle.lw_words.specs.Reading.{after_ink, after_text, after_stroke, place_after};
+ghost use Rattle.lw_words.specs.Reading.{with_ink, over_text, over_stroke, over_bytes};
+ghost use Rattle.lw_words.specs.Reading.{gathered_after, gathered_at_end};
 
 use crate::gathering::Gathering;
 use crate::place::Place;

@@ -40,6 +40,7 @@ impl Words {
         Words { bytes, ends }
     }
 
+    /// How many words there are.
     pub fn len(&self) -> usize
         ensures { result ≡ length self.now }
     {

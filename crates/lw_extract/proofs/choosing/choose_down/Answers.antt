@@ -15,7 +15,7 @@ pub loop-place-init : goal.loop-place-init
 loop-place-init g c = record {
   can_next = tt;
   is_finite = tt;
-  known = c.new-tops.ensures;
+  known = c.in_ok-tops.ensures;
   down =
       let needed = subst (λ (rs : List ClassId). AreRoots rs c.classes.result c.in_ok-needed.needed.items) c.as_slice-roots.ensures c.in_ok-needed.ensures in
       let roots = subst (λ n. AreRoots c.args.job.now.ports.now.roots n c.in_ok-needed.needed.items) c.classes.ensures.classes needed in
@@ -51,8 +51,8 @@ need-requires g c =
     let size : length c.args.job.now.graph.now.pairs ≡ length c.deref_mut.result.now = sym c.loop-place.invariant.down.one_each ∙ ap length (sym c.deref_mut.ensures.value) in
     subst (λ n. All (λ (x : ClassId). x.0 < n) c.as_slice.result.now) size (All-same (λ (x : ClassId). x.0 < length c.args.job.now.graph.now.pairs) c.as_slice.result.now c.in-Some-choice.found.pins c.as_slice.ensures.classes pins)
 
-pub loop-place-preserved-in-Continue-branch-2 : goal.loop-place-preserved-in-Continue-branch-2
-loop-place-preserved-in-Continue-branch-2 g c =
+pub loop-place-preserved-in-Continue-branch-3 : goal.loop-place-preserved-in-Continue-branch-3
+loop-place-preserved-in-Continue-branch-3 g c =
     let turn : IsTurn c.args.places.now (length c.loop-place.yielded) c.in-Some.place.now = YieldsList-turn (YieldsList-from_rev_slice c.args.places.now cc) c.loop-place.yielded _ c.loop-place.yielded_by _ _ c.in-Some.place c.in-Some.is c.next.ensures.steps in
     let choice = turn_choice c.args.job.now.graph.now (g.C.Cost.costs c.args.job.now.cost.now) c.args.job.now.pats.now c.args.job.now.marks.now c.args.job.now.ports.now.roots c.args.places.now c.requires.places (length c.loop-place.yielded) c.in-Some.place.now c.in-Some-choice.found turn c.in-Some-choice.ensures.choice in
     let within = turn_within c.args.job.now.graph.now (g.C.Cost.costs c.args.job.now.cost.now) c.args.job.now.pats.now c.args.job.now.marks.now c.args.job.now.ports.now.roots c.args.places.now c.requires.places (length c.loop-place.yielded) c.in-Some.place.now c.requires.ready.labels.least.one_each turn in

@@ -3,14 +3,14 @@ use Rattle.lw_label.proofs.labels.relabel_with_bounds.Goals as goal
 pub new-requires : goal.new-requires
 new-requires g c = c.requires
 
-pub new-tops-requires : goal.new-tops-requires
-new-tops-requires g c = c.requires
+pub new-requires-2 : goal.new-requires-2
+new-requires-2 g c = c.requires
 
 pub mark_all-requires : goal.mark_all-requires
 mark_all-requires g c = record {
   cells = c.requires;
   unmarked = c.in_ok-room.ensures;
-  known = c.new-tops.ensures;
+  known = c.in_ok-tops.ensures;
 }
 
 pub returns-clause-least : goal.returns-clause-least

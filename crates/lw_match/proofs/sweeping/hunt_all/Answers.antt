@@ -4,7 +4,7 @@ use Rattle.lw_match.proofs.sweeping.hunt_all.Goals as goal
 
 pub loop-number-init : goal.loop-number-init
 loop-number-init g c = record {
-  goes_on = stays_on g.C.Cost.costs c.args.query.now c.args.hunt.now c.args.hunt.now.unbound;
+  goes_on = stays_on g.C.Cost.costs c.args.query.now c.args.hunt.now c.args.hunt.now.scratch;
   none = λ e i lt. absurd (omega arith);
 }
 

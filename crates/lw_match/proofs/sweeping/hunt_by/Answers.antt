@@ -4,7 +4,7 @@ use Rattle.lw_match.proofs.sweeping.hunt_by.Goals as goal
 pub returns-in-Some-clause-goes_on : goal.returns-in-Some-clause-goes_on
 returns-in-Some-clause-goes_on g c =
     let q = c.args.query.now in
-    found_on g.C.Cost.costs q c.args.hunt.now c.target_after-hunt.result c.in-Some.best c.find_better_by.new.unbound c.target_after-hunt.ensures.goes_on c.in-Some.ensures.sound c.target_after-hunt.ensures.sharper
+    found_on g.C.Cost.costs q c.args.hunt.now c.target_after-hunt.result c.in-Some.best c.find_better_by.new.scratch c.target_after-hunt.ensures.goes_on c.in-Some.ensures.sound c.target_after-hunt.ensures.sharper
 
 pub returns-in-Some-clause-none : goal.returns-in-Some-clause-none
 returns-in-Some-clause-none g c = λ whole.
@@ -13,4 +13,4 @@ returns-in-Some-clause-none g c = λ whole.
 
 pub returns-in_default-clause-goes_on : goal.returns-in_default-clause-goes_on
 returns-in_default-clause-goes_on g c =
-    let q = c.args.query.now in stays_on g.C.Cost.costs q c.args.hunt.now c.find_better_by.new.unbound
+    let q = c.args.query.now in stays_on g.C.Cost.costs q c.args.hunt.now c.find_better_by.new.scratch

@@ -25,7 +25,7 @@ pub loop-number-init : goal.loop-number-init
 loop-number-init g c =
     let q = c.args.query.now in
     record {
-      goes_on = stays_on g.C.Cost.costs q c.args.hunt.now c.args.hunt.now.unbound;
+      goes_on = stays_on g.C.Cost.costs q c.args.hunt.now c.args.hunt.now.scratch;
       done = done_start g.C.Cost.costs q c.args.list c.args.roots.now c.args.hunt.now;
     }
 

@@ -1,0 +1,12 @@
+pub mod Words
+pub mod Plain
+pub mod Deadlines
+pub mod Pages
+pub mod Refusals
+pub mod Recovered
+pub mod Cases
+pub mod Answers
+pub mod Outcomes
+pub mod Promises
+pub mod Complete
+pub mod Checked
