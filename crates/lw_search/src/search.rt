@@ -146,8 +146,7 @@ impl Search {
             self.watches.renew(&self.clauses)?;
         }
         let roots = [left.node(), right.node()];
-        self.cones
-            .enter(self.clauses.aig().gates(), roots, stops)
+        self.cones.enter(self.clauses.aig().gates(), roots, stops)
     }
 
     // Begins a search: what is known without an assignment.

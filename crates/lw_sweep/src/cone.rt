@@ -5,6 +5,7 @@ use std::alloc::{AllocError, Global};
 
 // How many nodes it has at most, and how many sums.
 const MOST_INNER: usize = 512;
+
 const MOST_LEAVES: usize = 63;
 
 // The nodes of a cone: those that are no sums, and sums.
@@ -66,7 +67,11 @@ impl Cone {
     pub(crate) fn image(&self, literal: Literal) -> Literal {
         for (node, image) in &self.images {
             if *node == literal.node() {
-                return if literal.0 % 2 == 1 { image.flip() } else { *image };
+                return if literal.0 % 2 == 1 {
+                    image.flip()
+                } else {
+                    *image
+                };
             }
         }
         literal

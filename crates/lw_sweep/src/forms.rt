@@ -1,5 +1,5 @@
-// Sums of inputs modulo 2 in one form: a sum is split in two at the highest bit in which the numbers
-// of its inputs differ.
+// Sums of inputs modulo 2 in one form: a sum is split in two at the highest bit in which the
+// numbers of its inputs differ.
 use lw_aig::Literal;
 use std::alloc::{AllocError, Global};
 

@@ -10,6 +10,7 @@ const MOST_INPUTS: u32 = 1024;
 
 // How many of the first 192 values of such a sum are true: 96, and seldom far from it.
 const FEWEST: u32 = 58;
+
 const MOST: u32 = 134;
 
 #[derive(Debug, Drop)]

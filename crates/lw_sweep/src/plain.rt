@@ -9,8 +9,8 @@ use lw_aig::{Gate, Literal};
 use std::alloc::{AllocError, Global};
 
 impl Sweep {
-    // The conjunction of two literals as a node of its own, or none where there is no room for it, or
-    // where the literals are of no nodes of the graph.
+    // The conjunction of two literals as a node of its own, or none where there is no room for it,
+    // or where the literals are of no nodes of the graph.
     pub(crate) fn plain(
         &mut self,
         alloc: Global,
@@ -57,7 +57,12 @@ impl Sweep {
     }
 
     // Appends a conjunction, which stands for itself and is in no class.
-    fn append(&mut self, alloc: Global, left: Literal, right: Literal) -> Result<Literal, AllocError>
+    fn append(
+        &mut self,
+        alloc: Global,
+        left: Literal,
+        right: Literal,
+    ) -> Result<Literal, AllocError>
         requires room { length self.old < most_nodes }
         requires left { IsBelow (length self.old) left }
         requires right { IsBelow (length self.old) right }
@@ -71,6 +76,7 @@ impl Sweep {
 
     // The exclusive disjunction of two literals in nodes of its own, if there is room. The graph
     // grows.
+    #[tactic(auto, using(crate::proofs::Growing::extended_itself, crate::proofs::Growing::extended_both))]
     pub(crate) fn exclusive(
         &mut self,
         alloc: Global,
@@ -87,6 +93,7 @@ impl Sweep {
     }
 
     // Each of two literals without the other one.
+    #[tactic(auto, using(crate::proofs::Growing::extended_itself, crate::proofs::Growing::extended_both))]
     fn differences(
         &mut self,
         alloc: Global,
@@ -130,17 +137,21 @@ impl Sweep {
     }
 
     // The same for an exclusive disjunction in nodes of its own.
-    pub(crate) fn renew_exclusive(&mut self, alloc: Global, literal: Literal) -> Result<(), AllocError>
+    #[tactic(auto, using(crate::proofs::Growing::extended_itself, crate::proofs::Growing::extended_both))]
+    pub(crate) fn renew_exclusive(
+        &mut self,
+        alloc: Global,
+        literal: Literal,
+    ) -> Result<(), AllocError>
         ensures { IsExtended self.old self.new }
     {
         let node = literal.node();
         let Some((a, b)) = self.sides(node) else {
             return Ok(());
         };
-        for part in [a.node(), b.node(), node] {
-            self.renew(alloc, part)?;
-        }
-        Ok(())
+        self.renew(alloc, a.node())?;
+        self.renew(alloc, b.node())?;
+        self.renew(alloc, node)
     }
 
     // Lets what stands for a literal stand for another, if the search finds both to be equal.
@@ -161,8 +172,8 @@ impl Sweep {
         Ok(true)
     }
 
-    // Lets what stands for a literal stand for a node, if the search finds the literal to be equal to
-    // another, for which the node stands.
+    // Lets what stands for a literal stand for a node, if the search finds the literal to be equal
+    // to another, for which the node stands.
     pub(crate) fn adopt_by(
         &mut self,
         alloc: Global,

@@ -1,5 +1,5 @@
-// Values in patterns as rows of a matrix modulo 2, each less earlier ones: its pivot, the first place
-// that is true in it, is false in all later rows.
+// Values in patterns as rows of a matrix modulo 2, each less earlier ones: its pivot, the first
+// place that is true in it, is false in all later rows.
 use crate::patterns::BASE;
 use std::alloc::{AllocError, Global};
 
@@ -44,7 +44,9 @@ impl Rows {
     pub(crate) fn push(&mut self, values: &[u64], sum: u64) -> Result<bool, AllocError> {
         for (k, value) in values.iter().enumerate() {
             if *value != 0 {
-                let place = k.wrapping_mul(64).wrapping_add(value.trailing_zeros() as usize);
+                let place = k
+                    .wrapping_mul(64)
+                    .wrapping_add(value.trailing_zeros() as usize);
                 self.pivots.push(u32::try_from(place).unwrap_or(0))?;
                 self.sums.push(sum)?;
                 self.values.extend_from_slice(values)?;

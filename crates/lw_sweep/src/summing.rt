@@ -51,14 +51,15 @@ impl Sweep {
         None
     }
 
-    // The sum in the form of two sums in the form, which stands for their exclusive disjunction. The
-    // graph grows.
+    // The sum in the form of two sums in the form, which stands for their exclusive disjunction.
+    // The graph grows.
+    #[tactic(auto, using(crate::proofs::Growing::extended_itself, crate::proofs::Growing::extended_both))]
     fn add_sums(&mut self, alloc: Global, task: Task) -> Result<Option<Literal>, AllocError>
         ensures { IsExtended self.old self.new }
     {
         let mut tasks = Vec::new(alloc);
         tasks.push(task)?;
-        for _ in 0..MOST_STEPS {
+        'tasks: for _ in 0..MOST_STEPS {
             let Some(last) = tasks.last().copied() else {
                 break;
             };
@@ -71,6 +72,7 @@ impl Sweep {
 
     // One step: takes the last task away, if its sum is known now, or puts others on it that come
     // first. Whether it does.
+    #[tactic(auto, using(crate::proofs::Growing::extended_itself, crate::proofs::Growing::extended_both))]
     fn add_step(
         &mut self,
         alloc: Global,
@@ -107,6 +109,7 @@ impl Sweep {
     }
 
     // Adds two sums by their halves, or puts the sums of these on the tasks.
+    #[tactic(auto, using(crate::proofs::Growing::extended_itself, crate::proofs::Growing::extended_both))]
     fn add_halves(
         &mut self,
         alloc: Global,
@@ -145,6 +148,7 @@ impl Sweep {
     }
 
     // Lets the sum of the sums of halves stand for the exclusive disjunction of two sums.
+    #[tactic(auto, using(crate::proofs::Growing::extended_itself, crate::proofs::Growing::extended_both))]
     fn cross(
         &mut self,
         alloc: Global,
@@ -172,6 +176,7 @@ impl Sweep {
     }
 
     // The exclusive disjunction of those of halves.
+    #[tactic(auto, using(crate::proofs::Growing::extended_itself, crate::proofs::Growing::extended_both))]
     fn crossed(
         &mut self,
         alloc: Global,
@@ -189,7 +194,9 @@ impl Sweep {
         self.exclusive(alloc, low, high)
     }
 
-    // Adds a sum in the form to an exclusive disjunction and to the sum in the form that stands for it.
+    // Adds a sum in the form to an exclusive disjunction, and to the sum in the form that stands
+    // for it.
+    #[tactic(auto, using(crate::proofs::Growing::extended_itself, crate::proofs::Growing::extended_both))]
     fn add_leaf(
         &mut self,
         alloc: Global,
@@ -216,6 +223,7 @@ impl Sweep {
     }
 
     // The exclusive disjunction of some leaves, for which a sum in the form stands.
+    #[tactic(auto, using(crate::proofs::Growing::extended_itself, crate::proofs::Growing::extended_both))]
     fn sum_of_leaves(
         &mut self,
         alloc: Global,
@@ -240,6 +248,7 @@ impl Sweep {
     }
 
     // Writes leaves that are sums of others as those: whether there was room. The others are left.
+    #[tactic(auto, using(crate::proofs::Growing::extended_itself, crate::proofs::Growing::extended_both))]
     fn free_leaves(
         &mut self,
         alloc: Global,
@@ -265,8 +274,9 @@ impl Sweep {
         Ok(true)
     }
 
-    // The conjunction at a node, with its leaves as they are written: what stands for it is what stands
-    // for the node.
+    // The conjunction at a node, with its leaves as they are written: what stands for it is what
+    // stands for the node.
+    #[tactic(auto, using(crate::proofs::Growing::extended_itself, crate::proofs::Growing::extended_both))]
     fn rewrite(&mut self, alloc: Global, cone: &mut Cone, node: u32) -> Result<bool, AllocError>
         ensures { IsExtended self.old self.new }
     {
@@ -286,6 +296,7 @@ impl Sweep {
     }
 
     // The same for all nodes of a cone.
+    #[tactic(auto, using(crate::proofs::Growing::extended_itself, crate::proofs::Growing::extended_both))]
     fn rewrite_all(&mut self, alloc: Global, cone: &mut Cone) -> Result<bool, AllocError>
         ensures { IsExtended self.old self.new }
     {
@@ -298,8 +309,8 @@ impl Sweep {
         Ok(true)
     }
 
-    // Lets a sum in the form stand for a conjunction that looks like one, if both are found to be equal
-    // above the sums that the conjunction is made of. The graph grows.
+    // Lets a sum in the form stand for a conjunction that looks like one, if both are found to be
+    // equal above the sums that the conjunction is made of. The graph grows.
     pub(crate) fn settle_sum(&mut self, alloc: Global, node: u32) -> Result<bool, AllocError>
         ensures { IsExtended self.old self.new }
     {
@@ -311,13 +322,17 @@ impl Sweep {
         }
         cone.inner.sort_unstable();
         let own = Literal(node.wrapping_mul(2));
-        let Some(sums) = self.parity.sums(alloc, &self.patterns, &cone.leaves, own, own)? else {
+        let Some(sums) = self
+            .parity
+            .sums(alloc, &self.patterns, &cone.leaves, own, own)?
+        else {
             return Ok(false);
         };
         self.settle_cone(alloc, node, &mut cone, &sums)
     }
 
     // The same, where the leaves of the cone are known.
+    #[tactic(auto, using(crate::proofs::Growing::extended_itself, crate::proofs::Growing::extended_both))]
     fn settle_cone(
         &mut self,
         alloc: Global,

@@ -1,4 +1,4 @@
-ghost use Rattle.std.specs.Prelude.{◌≡◌, ◌+◌, ◌^◌, ◌<◌, ◌++◌, [], ◌∷◌, length, IfOk, IfSome, MatchResult};
+ghost use Rattle.std.specs.Prelude.{◌≡◌, ◌+◌, ◌^◌, ◌<◌, ◌++◌, [], ◌∷◌, length, IfOk, IfSome, IsTrue, MatchResult};
 
 use crate::classes::Classes;
 use crate::forms::Forms;
@@ -325,7 +325,12 @@ impl Sweep {
     }
 
     // Appends a conjunction, which stands for itself. If memory runs out, nothing is changed.
-    pub(crate) fn push(&mut self, alloc: Global, left: Literal, right: Literal) -> Result<(), AllocError>
+    pub(crate) fn push(
+        &mut self,
+        alloc: Global,
+        left: Literal,
+        right: Literal,
+    ) -> Result<(), AllocError>
         requires room { length self.old < most_nodes }
         requires left { IsBelow (length self.old) left }
         requires right { IsBelow (length self.old) right }
