@@ -1,5 +1,6 @@
 -- Literals that are equal in each graph that has both.
-use Rattle.std.proofs.Common.{ℕ, ◌*◌, ◌/◌, ◌%◌, ◌==◌, ◌<◌, ◌≡◌, Bool, true, false, not, ◌&&◌, Some, List, length, slice_get, refl, sym, ◌∙◌, ap, subst, arith}
+use Rattle.std.proofs.Common.{ℕ, ◌*◌, ◌/◌, ◌%◌, ◌==◌, ◌<◌, ◌≡◌, Bool, true, false, not, ◌&&◌, Some, List, [], ◌∷◌, ◌++◌, length, slice_get, refl, sym, ◌∙◌, ap, subst, arith}
+use Rattle.lw_facts.proofs.Lists.{get_last}
 use Rattle.lw_aig.specs.declared.gate.Gate.{Gate}
 use Rattle.lw_aig.specs.declared.gate.Gate.TheVariants.{And}
 use Rattle.lw_aig.specs.declared.literal.Literal.{Literal}
@@ -93,3 +94,8 @@ pub equal_through : (gates : List Gate) (own through other s : Literal) → AreE
 equal_through gates own through other s e f g = record {
   always = λ v values. g.always v values ∙ (sym (f.always v values) ∙ sym (e.always v values));
 }
+
+-- the gate at the end has its own literal
+pub pushed_own : (gates new : List Gate) (n : ℕ) (a b own : Literal) → new ≡ gates ++ And a b ∷ [] → n ≡ length gates → own.0 ≡ 2 * n → IsConjunction new a b own
+pushed_own gates new n a b own e at is =
+    own_conjunction new n a b own (ap (λ gs. slice_get gs n) e ∙ (ap (slice_get (gates ++ And a b ∷ [])) at ∙ get_last gates (And a b))) is
