@@ -28,3 +28,4 @@ mod splits;
 pub use fault::GraphFault;
 pub use graph::build;
 pub use mode::Mode;
+pub use splits::split_count;

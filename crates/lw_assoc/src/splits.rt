@@ -61,7 +61,7 @@ fn splits_at(forms: &Forms, b: u32, mode: Mode) -> u32
 }
 
 /// The splits of all base forms.
-pub(crate) fn split_count(forms: &Forms, mode: Mode) -> u64
+pub fn split_count(forms: &Forms, mode: Mode) -> u64
     ensures count { result ≡ numbered_splits (law_mode mode) forms.now }
     ensures kept { AreForms forms.now }
 {

@@ -9,3 +9,4 @@ pub mod Products
 pub mod Renumbered
 pub mod Sampled
 pub mod Tables
+pub mod Links

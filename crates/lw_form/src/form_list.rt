@@ -1,15 +1,22 @@
-ghost use Rattle.std.specs.Prelude.{◌≡◌, ◌<◌, ℕ, List, Bool, false, Some, slice_get, map, length};
+ghost use Rattle.std.specs.Prelude.{◌≡◌, ◌<◌, ◌≤◌, ◌↔◌, ℕ, List, Bool, false, Some, slice_get, map, length, IsTrue, MatchResult};
 ghost use Rattle.lw_laws.specs.NumberedForms.{IsPart, NumberOccurs};
 ghost use Rattle.lw_laws.specs.NumberedForms.Base.{base_and};
 ghost use Rattle.lw_laws.specs.NumberedValues.{AreNumberedValues};
 ghost use Rattle.lw_form.specs.Kept.{AreForms, AreSamples, CountsInputs, HasPart};
+ghost use Rattle.lw_form.specs.Links.{HaveOneValue, with_pair};
+ghost use Rattle.lw_pool.specs.Numbers.{most_signals};
 
 use crate::{Base, FormIds};
 use indexmap::IndexSet;
 use lw_pool::{FormId, NetId};
+use std::alloc::AllocError;
 use std::marker::Model;
 
-/// The list of the base forms that occur in a network, and two forms of each net.
+// How many nets and pairs of forms there are at most.
+const MOST_PAIRS: usize = 262_144;
+
+/// The list of the base forms that occur in a network, and two forms of each net, behind which
+/// further pairs of forms may stand.
 ///
 /// Form 2b is the listed base form b, and form 2b + 1 its complement. True is listed first, then
 /// the inputs in order, then Ands alone. The operands of an And are listed before it, and so is the
@@ -97,6 +104,27 @@ impl Forms {
         ensures kept { AreForms self.now }
     {
         self.sops.len() as u32
+    }
+
+    /// Whether no pair may be added: there are 262,144 nets and pairs.
+    pub fn is_full(&self) -> bool
+        ensures { IsTrue result ↔ (most_signals ≤ length self.now.sops) }
+    {
+        self.sops.len() >= MOST_PAIRS
+    }
+
+    /// Adds a pair of listed forms that have one value. If memory runs out, nothing is changed.
+    pub fn link(&mut self, left: FormId, right: FormId) -> Result<(), AllocError>
+        requires one_value { HaveOneValue self.old left.0 right.0 }
+        requires room { length self.old.sops < most_signals }
+        ensures { MatchResult result (λ _. self.new ≡ with_pair self.old left.0 right.0)
+            (λ _. self.new ≡ self.old) }
+    {
+        self.sops.reserve(1)?;
+        self.facs.reserve(1)?;
+        self.sops.push_reserved(left.0);
+        self.facs.push_reserved(right.0);
+        Ok(())
     }
 
     /// A base form.

@@ -6,4 +6,5 @@ pub mod Ordering
 pub mod Plain
 pub mod Ports
 pub mod Signs
+pub mod Unions
 pub mod Written

@@ -9,6 +9,7 @@
 //! * `draft`, `fault`: what comes in, and why it is no network;
 //! * `naming`, `written`: from names to numbers;
 //! * `places`, `close`: the order of nodes, and the network in it (`Network::close`);
+//! * `joining`: networks that are joined over the inputs of one of them;
 //! * `laws`: theorems on what is closed.
 //!
 //! The one definition to read is `IsClosed` in `specs/Closing.antt`. `lw_blif` closes what it read.
@@ -18,6 +19,7 @@ mod close;
 mod draft;
 mod eval;
 mod fault;
+mod joining;
 mod laws;
 mod naming;
 mod network;

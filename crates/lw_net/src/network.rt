@@ -2,6 +2,7 @@ ghost use Rattle.std.specs.Prelude.{◌≡◌, length};
 
 use crate::close::{parts_of, put_in_order};
 use crate::eval::fill;
+use crate::joining::{Place, add_names, add_nodes};
 use crate::written::{Written, by_numbers};
 use crate::{Draft, NetFault, Node, Nodes};
 use lw_pool::{Name, Names, NetId, Nets};
@@ -35,6 +36,7 @@ impl Network {
     ghost use Rattle.lw_laws.specs.Networks.{AreValues, IsInOrder, given};
     ghost use Rattle.lw_net.specs.Networks.{IsNetwork};
     ghost use Rattle.lw_net.specs.Plain.{plain, HasRisingDepths};
+    ghost use Rattle.lw_net.specs.Unions.{CanBeJoined, bare, joined_to};
 
     /// The name of the model.
     pub fn model(&self) -> &Name
@@ -93,6 +95,52 @@ impl Network {
         let nodes = self.nodes();
         nets[..x.len()].copy_from_slice(x);
         fill(nodes, x.len(), nets);
+    }
+
+    /// The inputs of a network alone.
+    pub fn bare(alloc: Global, net: &Network) -> Result<Network, AllocError>
+        ensures { IfOk result (λ inputs. inputs ≡ bare net.now) }
+    {
+        let inputs = net.inputs();
+        let mut names = Vec::new(alloc);
+        add_names(alloc, &mut names, &net.names()[..inputs as usize])?;
+        Ok(Network {
+            model: Name::from_slice(alloc, net.model().as_bytes())?,
+            names: Names::from_vec(names),
+            inputs,
+            nodes: Nodes::new(alloc),
+            outputs: Nets::from_vec(Vec::new(alloc)),
+        })
+    }
+
+    /// The network with the nodes of another one behind its own, whose input i is the input at place
+    /// i. Nodes and names are copied; the names of the other one's inputs are left out, and the
+    /// others may stand twice then.
+    pub fn joined(
+        self,
+        alloc: Global,
+        other: &Network,
+        places: &[u32],
+    ) -> Result<Network, AllocError>
+        requires { CanBeJoined self other.now places.now }
+        ensures { IfOk result (λ union. union ≡ joined_to self other.now places.now) }
+    {
+        let inputs = other.inputs();
+        let place = Place {
+            inputs,
+            first: self.nets(),
+            places,
+        };
+        let (mut names, mut nodes) = (self.names.into_vec(), self.nodes.into_vec());
+        add_nodes(alloc, &mut nodes, &place, other.nodes())?;
+        add_names(alloc, &mut names, &other.names()[inputs as usize..])?;
+        Ok(Network {
+            model: self.model,
+            names: Names::from_vec(names),
+            inputs: self.inputs,
+            nodes: Nodes::from_vec(nodes),
+            outputs: self.outputs,
+        })
     }
 
     /// The network of a draft, with its nodes by depth and, at one depth, as they are written.
