@@ -4,6 +4,7 @@ pub mod FactoringSteps
 pub mod Finished
 pub mod Joining
 pub mod KeptForms
+pub mod Linked
 pub mod ListedForms
 pub mod Numbers
 pub mod Parts
