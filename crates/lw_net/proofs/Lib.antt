@@ -2,6 +2,7 @@ pub mod Assembled
 pub mod Buckets
 pub mod Closed
 pub mod Filling
+pub mod Joined
 pub mod NamedOrder
 pub mod Names
 pub mod Paths
