@@ -62,10 +62,10 @@ module _ (one other : NetworkParts) (places : List ℕ) (is : IsNetwork one) (is
       record {
         drives = let o = placed_out other.inputs (length one.names) k places node.out at.drives in omega arith;
         before =
-          All-map (λ (net : NetId). net.0 < one.inputs + (length one.nodes + k)) place node.fanins
-          (All-weaker (λ (net : NetId). net.0 < other.inputs + k) (λ net. (place net).0 < one.inputs + (length one.nodes + k)) (λ net lt. let p = placed_below other.inputs one.inputs (length one.names) k places net can.placed.one_each can.placed.within (omega arith) lt in omega arith) node.fanins at.before);
+            All-map (λ (net : NetId). net.0 < one.inputs + (length one.nodes + k)) place node.fanins
+            (All-weaker (λ (net : NetId). net.0 < other.inputs + k) (λ net. (place net).0 < one.inputs + (length one.nodes + k)) (λ net lt. let p = placed_below other.inputs one.inputs (length one.names) k places net can.placed.one_each can.placed.within (omega arith) lt in omega arith) node.fanins at.before);
         columns =
-          All-weaker (λ (row : List ℕ). length row ≡ length node.fanins) (λ row. length row ≡ length (map place node.fanins)) (λ row e. e ∙ sym (length-map node.fanins place)) node.rows at.columns;
+            All-weaker (λ (row : List ℕ). length row ≡ length node.fanins) (λ row. length row ≡ length (map place node.fanins)) (λ row e. e ∙ sym (length-map node.fanins place)) node.rows at.columns;
       }
 
   nodes_at : (j : ℕ) (node : Node) → (slice_get one.nodes j ≡ Some node) ⊎ ((k : ℕ) × (slice_get (map (placed_node other.inputs (length one.names) places) other.nodes) k ≡ Some node) × (j ≡ length one.nodes + k)) → IsNodeAt one.inputs j node
@@ -77,13 +77,13 @@ module _ (one other : NetworkParts) (places : List ℕ) (is : IsNetwork one) (is
   pub joined_kept : IsNetwork (joined_to one other places)
   joined_kept = record {
     named =
-      let n = names_count in
-      let m = is.named in
-      let l = length-append one.nodes (map (placed_node other.inputs (length one.names) places) other.nodes) in
-      let p = length-map other.nodes (placed_node other.inputs (length one.names) places) in
-      omega arith;
+        let n = names_count in
+        let m = is.named in
+        let l = length-append one.nodes (map (placed_node other.inputs (length one.names) places) other.nodes) in
+        let p = length-map other.nodes (placed_node other.inputs (length one.names) places) in
+        omega arith;
     few = let n = names_count in let r = can.room in omega arith;
     nodes = λ j node e. nodes_at j node (one_of_two one.nodes (map (placed_node other.inputs (length one.names) places) other.nodes) j node e);
     outputs =
-      All-weaker (λ (net : NetId). net.0 < length one.names) (λ net. net.0 < length (one.names ++ drop other.inputs other.names)) (λ net lt. let n = names_count in omega arith) one.outputs is.outputs;
+        All-weaker (λ (net : NetId). net.0 < length one.names) (λ net. net.0 < length (one.names ++ drop other.inputs other.names)) (λ net lt. let n = names_count in omega arith) one.outputs is.outputs;
   }
