@@ -19,12 +19,12 @@ CRATES = Path(__file__).resolve().parent.parent / "crates"
 
 # clause: its definition, and the most files, lines, and lines beside the formats
 CLAUSES = {
-    "mapping": ("lw_top.specs.Mappings.IsMappingText", 45, 1500, 600),
-    "no_cover": ("lw_top.specs.Mappings.LacksOutput", 45, 1350, 500),
-    "checked": ("lw_top.specs.Mappings.IsCheckedMapping", 60, 2050, 600),
-    "tables": ("lw_top.specs.Tabled.AreTables", 40, 1050, 400),
-    "trading": ("lw_top.specs.Traded.IsTrade", 60, 1900, 650),
-    "complete": ("lw_top.specs.Answers.IsAnswer", 125, 3750, 2400),
+    "mapping": ("lw_top.specs.Mappings.IsMappingText", 45, 1650, 600),
+    "no_cover": ("lw_top.specs.Mappings.LacksOutput", 45, 1450, 500),
+    "checked": ("lw_top.specs.Mappings.IsCheckedMapping", 60, 2200, 600),
+    "tables": ("lw_top.specs.Tabled.AreTables", 40, 1100, 400),
+    "trading": ("lw_top.specs.Traded.IsTrade", 60, 2000, 680),
+    "complete": ("lw_top.specs.Answers.IsAnswer", 125, 4000, 2550),
 }
 
 # The definitions that say the formats of texts, of words and of names in texts.
