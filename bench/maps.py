@@ -114,26 +114,27 @@ def after(found):
     print()
 
 
-def front_ends(found):
-    print("### Front ends\n")
-    columns = ["given", *AFTER, *MAPPED]
-    head("set, library", "circuits in common", *columns[:-len(MAPPED)], *["ABC: " + name for name in MAPPED])
+def to_map(found, columns):
+    """Delay and area of each column, as ratios to ABC's map, over the circuits that all of them have."""
     for (folder, library), figures in found.items():
         among = common(figures, ["map", *columns])
         row(f"{folder}, {library}", len(among), *[ratio(figures, name, "map", 3, among)[0] + ", " +
                                                   ratio(figures, name + " area", "map area", 2, among)[0] for name in columns])
     print()
+
+
+def front_ends(found):
+    print("### Front ends\n")
+    columns = ["given", *AFTER, *MAPPED]
+    head("set, library", "circuits in common", *columns[:-len(MAPPED)], *["ABC: " + name for name in MAPPED])
+    to_map(found, columns)
 
 
 def recovery(found):
     print("### Front ends with `lwarea`\n")
     columns = ["given recovered", *(f"after {name} recovered" for name in MAPPED)]
     head("set, library", "circuits in common", *(column.removesuffix(" recovered") for column in columns))
-    for (folder, library), figures in found.items():
-        among = common(figures, ["map", *columns])
-        row(f"{folder}, {library}", len(among), *[ratio(figures, name, "map", 3, among)[0] + ", " +
-                                                  ratio(figures, name + " area", "map area", 2, among)[0] for name in columns])
-    print()
+    to_map(found, columns)
 
 
 def times(found):
