@@ -1,9 +1,9 @@
 -- The needed classes from the highest down, each with its chosen match.
-use Rattle.std.proofs.Common.{ℕ, zero, suc, ◌<◌, ◌≤◌, ◌≡◌, ◌⊎◌, inl, inr, Bool, true, false, List, [], ◌∷◌, ◌++◌, length, reverse, take, get_or, Contains, All, IsSome, Option, Some, None, slice_get, slice_index_or, option_map, refl, ap, sym, ◌∙◌, subst, arith, true≢false}
+use Rattle.std.proofs.Common.{ℕ, suc, ◌<◌, ◌≤◌, ◌≡◌, inl, inr, Bool, true, false, List, [], ◌∷◌, ◌++◌, length, reverse, take, get_or, Contains, All, IsSome, Option, Some, None, slice_get, slice_index_or, option_map, refl, ap, sym, ◌∙◌, subst, arith}
 use Rattle.std.proofs.lemmas.List.{take_all, take_more, length_push, length-reverse, reverse-append}
-use Rattle.std.proofs.lemmas.List.Elements.{Contains-push, Contains-push_cases, Contains-append_left, All-from_recursion}
+use Rattle.std.proofs.lemmas.List.Elements.{All-from_recursion}
 use Rattle.std.proofs.lemmas.Option.{none-some, same_Some, slice_get-map}
-use Rattle.lw_facts.proofs.Lists.{contains_cases, contains_tail, contained_at, contains_reverse, some_within, at_contained}
+use Rattle.lw_facts.proofs.Lists.{contained_at, contains_reverse, some_within, at_contained}
 use Rattle.lw_pool.specs.declared.id.ClassId.{ClassId}
 use Rattle.lw_pool.specs.declared.id.NetId.{NetId}
 use Rattle.lw_laws.specs.Graphs.{Graph}
@@ -13,10 +13,10 @@ use Rattle.lw_laws.specs.Extracts.{IsChosen, IsLeafClass, IsNeeded, IsGateBefore
 use Rattle.lw_laws.specs.Extracts.IsNeeded.{by_root, by_pin}
 use Rattle.lw_laws.proofs.Extracts.{IsChosen_once}
 use Rattle.lw_laws.proofs.Lists.{all_contains}
-use Rattle.lw_naming.specs.declared.places.Place.{Place}
-use Rattle.lw_naming.specs.Needed.{IsNoted, AreNoted, AreRoots, HasAlso}
-use Rattle.lw_naming.specs.Places.{IsPlaceBefore}
-use Rattle.lw_naming.proofs.Noting.{still_noted}
+use Rattle.lw_needed.specs.declared.places.Place.{Place}
+use Rattle.lw_needed.specs.Needed.{IsNoted, AreRoots, HasAlso}
+use Rattle.lw_needed.specs.Places.{IsPlaceBefore}
+use Rattle.lw_needed.proofs.Descent as descent
 use Rattle.lw_cost.specs.declared.mark.Mark.{Mark}
 use Rattle.lw_cost.specs.declared.mark.Match.{Match}
 use Rattle.lw_cost.specs.Values.{plain_match}
@@ -37,101 +37,34 @@ module _ (g : Graph) (cost : Cost) (pats : List Pattern) (marks : List (Option M
   Needed c = IsNeeded g cost pats (labels marks) (heights marks) (numbers roots) c
 
   -- What holds when some of the places have been seen, with the classes that got a gate, the last one first.
-  pub record IsDown (seen : List Place) (needed : List Bool) (ups : List Chosen) : Type 0 where
-    pub one_each : length needed ≡ length g.pairs
-    pub sound : (c : ℕ) → IsNoted needed c → Needed c
-    pub at_roots : AreNoted needed (numbers roots)
-    pub at_pins : (x : Chosen) → Contains ups x → AreNoted needed (numbers x.found.pins)
-    pub each : (x : Chosen) → Contains ups x → IsChoice g cost pats marks x.class.0 x.found
-    pub noted : (x : Chosen) → Contains ups x → IsNoted needed x.class.0
-    pub place : (x : Chosen) → Contains ups x → (p : Place) × Contains seen p × (p.class.0 ≡ x.class.0)
-    pub all : (p : Place) → Contains seen p → IsNoted needed p.class.0 → (x : Chosen) × Contains ups x × (x.class.0 ≡ p.class.0)
-    pub sorted : (i j : ℕ) (x y : Chosen) → slice_get ups i ≡ Some x → slice_get ups j ≡ Some y → i < j → IsGateBefore (heights marks) x.class.0 y.class.0
+  abbrev pub IsDown : List Place → List Bool → List Chosen → Type 0
+  IsDown seen needed ups = descent.IsDown (λ (x : Chosen). x.class.0) (λ (x : Chosen). x.found.pins) (λ (x : Chosen). IsChoice g cost pats marks x.class.0 x.found) (λ (ups : List Chosen) (c : ℕ). Needed c)
+      (λ (x y : Chosen). IsGateBefore (heights marks) x.class.0 y.class.0) (length g.pairs) roots seen needed ups
 
   pub down_start : (needed : List Bool) → AreRoots roots (length g.pairs) needed → IsDown [] needed []
-  down_start needed are = record {
-    one_each = are.one_each;
-    sound = λ c e. by_root ((are.are c).0 e);
-    at_roots = λ c k. (are.are c).1 k;
-    at_pins = λ x (k, lt, e) q i. absurd (omega arith);
-    each = λ x (k, lt, e). absurd (omega arith);
-    noted = λ x (k, lt, e). absurd (omega arith);
-    place = λ x (k, lt, e). absurd (omega arith);
-    all = λ p (k, lt, e) f. absurd (omega arith);
-    sorted = λ i j x y e f lt. absurd (none-some x e);
-  }
+  down_start needed are = descent.down_start (λ (x : Chosen). x.class.0) (λ (x : Chosen). x.found.pins) (λ (x : Chosen). IsChoice g cost pats marks x.class.0 x.found) (λ (ups : List Chosen) (c : ℕ). Needed c)
+      (λ (x y : Chosen). IsGateBefore (heights marks) x.class.0 y.class.0) (length g.pairs) roots needed (λ c k. by_root k) are
 
   -- a place of a class that is not needed
   pub down_skip : (seen : List Place) (needed : List Bool) (ups : List Chosen) (p : Place) → slice_index_or needed p.class.0 false ≡ false → IsDown seen needed ups → IsDown (seen ++ p ∷ []) needed ups
-  down_skip seen needed ups p not is = record {
-    one_each = is.one_each;
-    sound = is.sound;
-    at_roots = is.at_roots;
-    at_pins = is.at_pins;
-    each = is.each;
-    noted = is.noted;
-    place = λ x k. let (q, at, e) = is.place x k in (q, Contains-append_left seen (p ∷ []) q at, e);
-    all = λ q k e. all_at q e (Contains-push_cases seen p q k);
-    sorted = is.sorted;
-  }
-    where
-      all_at : (q : Place) → IsNoted needed q.class.0 → Contains seen q ⊎ (p ≡ q) → (x : Chosen) × Contains ups x × (x.class.0 ≡ q.class.0)
-      all_at q e (inl k) = is.all q k e
-      all_at q e (inr s) = absurd (true≢false (sym e ∙ (ap (λ (z : Place). slice_index_or needed z.class.0 false) (sym s) ∙ not)))
+  down_skip = descent.down_skip (λ (x : Chosen). x.class.0) (λ (x : Chosen). x.found.pins) (λ (x : Chosen). IsChoice g cost pats marks x.class.0 x.found) (λ (ups : List Chosen) (c : ℕ). Needed c)
+      (λ (x y : Chosen). IsGateBefore (heights marks) x.class.0 y.class.0) (length g.pairs) roots
 
   -- a place of a needed class
   pub down_take : (seen : List Place) (needed new : List Bool) (ups : List Chosen) (p : Place) (found : Match) → slice_index_or needed p.class.0 false ≡ true → (IsLeafClass g p.class.0 → ⊥) → IsChoice g cost pats marks p.class.0 found → HasAlso needed found.pins new → heights marks p.class.0 ≡ p.depth → ((q : Place) → Contains seen q → heights marks q.class.0 ≡ q.depth) → ((q : Place) → Contains seen q → IsPlaceBefore p q) → IsDown seen needed ups → IsDown (seen ++ p ∷ []) new (gate_at p found ∷ ups)
-  down_take seen needed new ups p found noted out (pattern, chosen) also high high_seen before is = record {
-    one_each = also.one_each ∙ is.one_each;
-    sound = λ c e. sound c ((also.are c).0 e);
-    at_roots = λ c k. still_noted also c (is.at_roots c k);
-    at_pins = λ y k. at_pins y (contains_cases (gate_at p found) ups y k);
-    each = λ y k. each y (contains_cases (gate_at p found) ups y k);
-    noted = λ y k. noted_at y (contains_cases (gate_at p found) ups y k);
-    place = λ y k. place y (contains_cases (gate_at p found) ups y k);
-    all = λ q k e. all_at q ((also.are q.class.0).0 e) (Contains-push_cases seen p q k);
-    sorted = sorted;
-  }
+  down_take seen needed new ups p found noted out (pattern, chosen) also high high_seen before is =
+      descent.down_take (λ (x : Chosen). x.class.0) (λ (x : Chosen). x.found.pins) (λ (x : Chosen). IsChoice g cost pats marks x.class.0 x.found) (λ (ups : List Chosen) (c : ℕ). Needed c)
+      (λ (x y : Chosen). IsGateBefore (heights marks) x.class.0 y.class.0) (length g.pairs) roots seen needed new ups p (gate_at p found) noted refl (pattern, chosen) also (λ c n. n) (λ c n k. by_pin {c = p.class.0} {q = c} {m = plain_match found} {p = pattern} n out chosen k)
+      (λ q k i. not_pin q (before q k) (high_seen q k) i)
+      (λ y q k s. subst (λ n. IsGateBefore (heights marks) p.class.0 n) s (gate_before q (before q k) (high_seen q k))) is
     where
-      sound : (c : ℕ) → IsNoted needed c ⊎ Contains (numbers found.pins) c → Needed c
-      sound c (inl e) = is.sound c e
-      sound c (inr k) = by_pin {c = p.class.0} {q = c} {m = plain_match found} {p = pattern} (is.sound p.class.0 noted) out chosen k
-
-      at_pins : (y : Chosen) → (gate_at p found ≡ y) ⊎ Contains ups y → AreNoted new (numbers y.found.pins)
-      at_pins y (inl s) q i = (also.are q).1 (inr (subst (λ (z : Chosen). Contains (numbers z.found.pins) q) (sym s) i))
-      at_pins y (inr k) q i = still_noted also q (is.at_pins y k q i)
-
-      each : (y : Chosen) → (gate_at p found ≡ y) ⊎ Contains ups y → IsChoice g cost pats marks y.class.0 y.found
-      each y (inl s) = subst (λ (z : Chosen). IsChoice g cost pats marks z.class.0 z.found) s (pattern, chosen)
-      each y (inr k) = is.each y k
-
-      noted_at : (y : Chosen) → (gate_at p found ≡ y) ⊎ Contains ups y → IsNoted new y.class.0
-      noted_at y (inl s) = subst (λ (z : Chosen). IsNoted new z.class.0) s (still_noted also p.class.0 noted)
-      noted_at y (inr k) = still_noted also y.class.0 (is.noted y k)
-
-      place : (y : Chosen) → (gate_at p found ≡ y) ⊎ Contains ups y → (q : Place) × Contains (seen ++ p ∷ []) q × (q.class.0 ≡ y.class.0)
-      place y (inl s) = (p, Contains-push seen p, ap (λ (z : Chosen). z.class.0) s)
-      place y (inr k) = let (q, at, e) = is.place y k in (q, Contains-append_left seen (p ∷ []) q at, e)
-
       not_pin : (q : Place) → IsPlaceBefore p q → heights marks q.class.0 ≡ q.depth → Contains (numbers found.pins) q.class.0 → ⊥
       not_pin q (inl lt) same k = let lower = all_contains (λ d. suc (heights marks d) ≤ heights marks p.class.0) (numbers found.pins) q.class.0 chosen.supports.lower k in omega (arith, lower, high, same, lt)
       not_pin q (inr (e, lt)) same k = let lower = all_contains (λ d. suc (heights marks d) ≤ heights marks p.class.0) (numbers found.pins) q.class.0 chosen.supports.lower k in omega (arith, lower, high, same, e)
 
-      all_at : (q : Place) → IsNoted needed q.class.0 ⊎ Contains (numbers found.pins) q.class.0 → Contains seen q ⊎ (p ≡ q) → (y : Chosen) × Contains (gate_at p found ∷ ups) y × (y.class.0 ≡ q.class.0)
-      all_at q either (inr s) = (gate_at p found, (0, omega arith, refl), ap (λ (z : Place). z.class.0) s)
-      all_at q (inl e) (inl k) = let (y, at, f) = is.all q k e in (y, contains_tail (gate_at p found) ups y at, f)
-      all_at q (inr i) (inl k) = absurd (not_pin q (before q k) (high_seen q k) i)
-
       gate_before : (q : Place) → IsPlaceBefore p q → heights marks q.class.0 ≡ q.depth → IsGateBefore (heights marks) p.class.0 q.class.0
       gate_before q (inl lt) same = inl (omega (arith, high, same, lt))
       gate_before q (inr (e, lt)) same = inr (high ∙ (e ∙ sym same), lt)
-
-      sorted : (i j : ℕ) (y z : Chosen) → slice_get (gate_at p found ∷ ups) i ≡ Some y → slice_get (gate_at p found ∷ ups) j ≡ Some z → i < j → IsGateBefore (heights marks) y.class.0 z.class.0
-      sorted i zero y z e f lt = absurd (omega arith)
-      sorted (suc i) (suc j) y z e f lt = is.sorted i j y z e f (omega arith)
-      sorted zero (suc j) y z e f lt =
-          let (q, k, s) = is.place z (at_contained ups j z f) in
-          subst (λ (w : Chosen). IsGateBefore (heights marks) w.class.0 z.class.0) (same_Some (gate_at p found) y e) (subst (λ n. IsGateBefore (heights marks) p.class.0 n) s (gate_before q (before q k) (high_seen q k)))
 
   -- the flags and the matches when all places have been seen
   pub down_end : (nets : List (Option NetId)) (places seen : List Place) (needed : List Bool) (ups : List Chosen) → AreInputNets g nets → ArePlaces nets marks places → All (λ (root : ClassId). IsSome (slice_index_or marks root.0 None)) roots → ((p : Place) → Contains places p → Contains seen p) → ((p : Place) → Contains seen p → Contains places p) → IsDown seen needed ups → AreChosen g cost pats marks roots ups
@@ -190,7 +123,7 @@ module _ (g : Graph) (cost : Cost) (pats : List Pattern) (marks : List (Option M
           let (x, i, s) = gate c noted k at out in
           let (r, choice) = is.each x i in
           let once = IsChosen_once g cost pats (labels marks) (heights marks) c m (plain_match x.found) p r chosen (subst (λ n. IsChosen g cost pats (labels marks) (heights marks) n (plain_match x.found) r) s choice) in
-          is.at_pins x i q (subst (λ qs. Contains qs q) once.1 inside)
+          is.at_parts x i q (subst (λ qs. Contains qs q) once.1 inside)
 
 -- the place that comes next, from the last down
 abbrev pub IsTurn : List Place → ℕ → Place → Type 0

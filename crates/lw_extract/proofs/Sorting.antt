@@ -7,9 +7,9 @@ use Rattle.std.proofs.lemmas.List.Sorted.{Contains-permutation, IsPermutation-sy
 use Rattle.std.proofs.lemmas.Option.{slice_get-get_or}
 use Rattle.lw_facts.proofs.Lists.{get_reverse, contains_take_reverse, some_within, at_contained}
 use Rattle.lw_pool.specs.declared.id.NetId.{NetId}
-use Rattle.lw_naming.specs.declared.places.Place.{Place}
-use Rattle.lw_naming.specs.Places.{IsPlaceBefore, AreInDepthOrder}
-use Rattle.lw_naming.proofs.Sorting.{AreInOrderBelow, in_order_push, in_order_skip}
+use Rattle.lw_needed.specs.declared.places.Place.{Place}
+use Rattle.lw_needed.specs.Places.{IsPlaceBefore, AreInDepthOrder}
+use Rattle.lw_needed.proofs.Sorting.{AreInOrderBelow, in_order_push, in_order_skip}
 use Rattle.lw_cost.specs.declared.mark.Mark.{Mark}
 use Rattle.lw_extract.specs.Orders.{ArePlaces, AreMarked}
 

@@ -2,8 +2,8 @@
 use Rattle.std.specs.Prelude.{ℕ, ◌≡◌, List, Contains, Option, Some, None, slice_index_or}
 use Rattle.lw_pool.specs.declared.id.NetId.{NetId}
 use Rattle.lw_cost.specs.declared.mark.Mark.{Mark}
-use Rattle.lw_naming.specs.declared.places.Place.{Place}
-use Rattle.lw_naming.specs.Places.{AreInClassOrder, AreInDepthOrder}
+use Rattle.lw_needed.specs.declared.places.Place.{Place}
+use Rattle.lw_needed.specs.Places.{AreInClassOrder, AreInDepthOrder}
 
 -- the places are those of the classes that have a mark and no net yet, each with its height for its depth
 pub record ArePlaces (nets : List (Option NetId)) (marks : List (Option Mark)) (places : List Place) : Type 0 where

@@ -11,7 +11,7 @@ use crate::ordering::by_height;
 use lw_bounds::Bounds;
 use lw_cost::{Cost, Mark, Match};
 use lw_match::{Tops, least_before};
-use lw_naming::{Place, need, needed_by};
+use lw_needed::{Place, need, needed_by};
 use lw_pool::{ClassId, NetId};
 use std::alloc::{AllocError, Global};
 

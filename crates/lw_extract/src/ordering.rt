@@ -3,7 +3,7 @@ ghost use Rattle.std.specs.Prelude.{◌≡◌, ◌<◌, ◌^◌, IfOk, length};
 ghost use Rattle.lw_extract.specs.Orders.{AreByHeight};
 
 use lw_cost::Mark;
-use lw_naming::{Place, sort_places};
+use lw_needed::{Place, sort_places};
 use lw_pool::{ClassId, NetId};
 use std::alloc::{AllocError, Global};
 

@@ -28,7 +28,7 @@ use Rattle.lw_lut.specs.Covers.TableCover.{wire, table}
 use Rattle.lw_lut.specs.Covers.TableCovers.{no_covers, cover}
 use Rattle.lw_pool.specs.Numbers.{numbers}
 use Rattle.lw_laws.proofs.Shared.{pair_within}
-use Rattle.lw_lut.proofs.TableValues.{long}
+use Rattle.lw_lut.proofs.Numbers.{long}
 
 -- Each tree has a cover by tables of at most two pins.
 

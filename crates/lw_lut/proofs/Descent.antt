@@ -1,16 +1,16 @@
 -- The needed classes from the deepest down, each with its table.
-use Rattle.std.proofs.Common.{ℕ, zero, suc, drop, ◌^◌, ◌<◌, ◌≤◌, ◌≡◌, ◌⊎◌, ◌/◌, ◌↔◌, inl, inr, Bool, true, false, List, [], ◌∷◌, ◌++◌, length, reverse, get_or, Contains, All, Option, Some, None, slice_get, slice_index_or, refl, ap, sym, ◌∙◌, subst, arith, true≢false}
+use Rattle.std.proofs.Common.{ℕ, zero, suc, drop, ◌^◌, ◌<◌, ◌≤◌, ◌≡◌, ◌/◌, ◌↔◌, inl, inr, Bool, true, false, List, [], ◌∷◌, ◌++◌, length, reverse, get_or, Contains, All, Option, Some, None, slice_get, slice_index_or, refl, ap, sym, ◌∙◌, subst, arith}
 use Rattle.std.proofs.lemmas.List.{reverse-append}
 use Rattle.std.proofs.lemmas.List.Elements.{Contains-push, Contains-push_cases, Contains-append_left, All-contains}
-use Rattle.std.proofs.lemmas.Option.{none-some, same_Some, slice_get-get_or, slice_get_within}
+use Rattle.std.proofs.lemmas.Option.{same_Some, slice_get-get_or, slice_get_within}
 use Rattle.lw_facts.proofs.Lists.{contains_cases, contains_tail, contained_in_map, at_contained, contained_at, some_within}
 use Rattle.lw_pool.specs.declared.id.ClassId.{ClassId}
 use Rattle.lw_laws.specs.Graphs.{Graph, Unfolds}
 use Rattle.lw_laws.specs.Extracts.{IsLeafClass}
-use Rattle.lw_naming.specs.declared.places.Place.{Place}
-use Rattle.lw_naming.specs.Needed.{IsNoted, AreNoted, AreRoots, HasAlso}
-use Rattle.lw_naming.specs.Places.{IsPlaceBefore}
-use Rattle.lw_naming.proofs.Noting.{still_noted}
+use Rattle.lw_needed.specs.declared.places.Place.{Place}
+use Rattle.lw_needed.specs.Needed.{IsNoted, AreRoots, HasAlso}
+use Rattle.lw_needed.specs.Places.{IsPlaceBefore}
+use Rattle.lw_needed.proofs.Descent as descent
 use Rattle.lw_lut.specs.declared.table.Table.{Table}
 use Rattle.lw_laws.specs.Trees.{leaf}
 use Rattle.lw_lut.specs.Covers.{TableCover, IsTableCover, tree_of, depth_of, IsLeastDepth}
@@ -55,79 +55,26 @@ module _ (g : Graph) (most : ℕ) (lists : DepthLists) (least : AreLeastDepths g
 
 module _ (g : Graph) (most : ℕ) (depths : List (Option ℕ)) (roots : List ClassId) where
   -- What holds when some of the places have been seen, with the tables so far, the last one first.
-  pub record IsDown (seen : List Place) (needed : List Bool) (ups : List Table) : Type 0 where
-    pub one_each : length needed ≡ length depths
-    pub sound : (c : ℕ) → IsNoted needed c → IsNeeded (numbers roots) ups c
-    pub at_roots : AreNoted needed (numbers roots)
-    pub at_fanins : (t : Table) → Contains ups t → AreNoted needed (numbers t.fanins)
-    pub each : (t : Table) → Contains ups t → IsTable g most depths t
-    pub noted : (t : Table) → Contains ups t → IsNoted needed t.out.0
-    pub place : (t : Table) → Contains ups t → (p : Place) × Contains seen p × (p.class.0 ≡ t.out.0)
-    pub all : (p : Place) → Contains seen p → IsNoted needed p.class.0 → (t : Table) × Contains ups t × (t.out.0 ≡ p.class.0)
-    pub sorted : (i j : ℕ) (t u : Table) → slice_get ups i ≡ Some t → slice_get ups j ≡ Some u → i < j → IsTableBefore depths t u
+  abbrev pub IsDown : List Place → List Bool → List Table → Type 0
+  IsDown seen needed ups = descent.IsDown (λ (t : Table). t.out.0) (λ (t : Table). t.fanins) (IsTable g most depths) (λ (ups : List Table) (c : ℕ). IsNeeded (numbers roots) ups c) (IsTableBefore depths) (length depths) roots seen needed ups
 
   pub down_start : (needed : List Bool) → AreRoots roots (length depths) needed → IsDown [] needed []
-  down_start needed are = record {
-    one_each = are.one_each;
-    sound = λ c e. by_root ((are.are c).0 e);
-    at_roots = λ c k. (are.are c).1 k;
-    at_fanins = λ x (k, lt, e) q i. absurd (omega arith);
-    each = λ x (k, lt, e). absurd (omega arith);
-    noted = λ x (k, lt, e). absurd (omega arith);
-    place = λ x (k, lt, e). absurd (omega arith);
-    all = λ p (k, lt, e) f. absurd (omega arith);
-    sorted = λ i j x y e f lt. absurd (none-some x e);
-  }
+  down_start needed are = descent.down_start (λ (t : Table). t.out.0) (λ (t : Table). t.fanins) (IsTable g most depths) (λ (ups : List Table) (c : ℕ). IsNeeded (numbers roots) ups c) (IsTableBefore depths) (length depths) roots needed (λ c k. by_root k) are
 
   -- a place of a class that is not needed
   pub down_skip : (seen : List Place) (needed : List Bool) (ups : List Table) (p : Place) → slice_index_or needed p.class.0 false ≡ false → IsDown seen needed ups → IsDown (seen ++ p ∷ []) needed ups
-  down_skip seen needed ups p not is = record {
-    one_each = is.one_each;
-    sound = is.sound;
-    at_roots = is.at_roots;
-    at_fanins = is.at_fanins;
-    each = is.each;
-    noted = is.noted;
-    place = λ x k. let (q, at, e) = is.place x k in (q, Contains-append_left seen (p ∷ []) q at, e);
-    all = λ q k e. all_at q e (Contains-push_cases seen p q k);
-    sorted = is.sorted;
-  }
-    where
-      all_at : (q : Place) → IsNoted needed q.class.0 → Contains seen q ⊎ (p ≡ q) → (x : Table) × Contains ups x × (x.out.0 ≡ q.class.0)
-      all_at q e (inl k) = is.all q k e
-      all_at q e (inr s) = absurd (true≢false (sym e ∙ (ap (λ (z : Place). slice_index_or needed z.class.0 false) (sym s) ∙ not)))
+  down_skip = descent.down_skip (λ (t : Table). t.out.0) (λ (t : Table). t.fanins) (IsTable g most depths) (λ (ups : List Table) (c : ℕ). IsNeeded (numbers roots) ups c) (IsTableBefore depths) (length depths) roots
 
   -- a place of a needed class
   pub down_take : (seen : List Place) (needed new : List Bool) (ups : List Table) (p : Place) (t : Table) → slice_index_or needed p.class.0 false ≡ true → t.out ≡ p.class → IsTable g most depths t → HasAlso needed t.fanins new → depth_in depths p.class.0 ≡ Some p.depth → ((q : Place) → Contains seen q → depth_in depths q.class.0 ≡ Some q.depth) → ((q : Place) → Contains seen q → IsPlaceBefore p q) → IsDown seen needed ups → IsDown (seen ++ p ∷ []) new (t ∷ ups)
-  down_take seen needed new ups p t noted out made also high high_seen before is = record {
-    one_each = also.one_each ∙ is.one_each;
-    sound = λ c e. sound c ((also.are c).0 e);
-    at_roots = λ c k. still_noted also c (is.at_roots c k);
-    at_fanins = λ y k. at_fanins y (contains_cases t ups y k);
-    each = λ y k. elim (contains_cases t ups y k) [ inl s ↦ subst (λ (z : Table). IsTable g most depths z) s made | inr k ↦ is.each y k ];
-    noted = λ y k. elim (contains_cases t ups y k) [ inl s ↦ subst (λ (z : Table). IsNoted new z.out.0) s (still_noted also t.out.0 noted_here) | inr k ↦ still_noted also y.out.0 (is.noted y k) ];
-    place = λ y k. place y (contains_cases t ups y k);
-    all = λ q k e. all_at q ((also.are q.class.0).0 e) (Contains-push_cases seen p q k);
-    sorted = sorted;
-  }
+  down_take seen needed new ups p t noted out made also high high_seen before is =
+      descent.down_take (λ (t : Table). t.out.0) (λ (t : Table). t.fanins) (IsTable g most depths) (λ (ups : List Table) (c : ℕ). IsNeeded (numbers roots) ups c) (IsTableBefore depths) (length depths) roots seen needed new ups p t (ap (λ n. slice_index_or needed n false) same ∙ noted) same made also (λ c n. needed_later (numbers roots) t ups n)
+      (λ c n k. by_fanin t (needed_later (numbers roots) t ups n) (0, omega arith, refl) k)
+      (λ q k i. not_fanin q (before q k) (high_seen q k) i)
+      (λ u q k s. table_before q u s (before q k) (high_seen q k)) is
     where
       same : t.out.0 ≡ p.class.0
       same = ap (λ (z : ClassId). z.0) out
-
-      noted_here : IsNoted needed t.out.0
-      noted_here = ap (λ n. slice_index_or needed n false) same ∙ noted
-
-      sound : (c : ℕ) → IsNoted needed c ⊎ Contains (numbers t.fanins) c → IsNeeded (numbers roots) (t ∷ ups) c
-      sound c (inl e) = needed_later (numbers roots) t ups (is.sound c e)
-      sound c (inr k) = by_fanin t (needed_later (numbers roots) t ups (is.sound t.out.0 noted_here)) (0, omega arith, refl) k
-
-      at_fanins : (y : Table) → (t ≡ y) ⊎ Contains ups y → AreNoted new (numbers y.fanins)
-      at_fanins y (inl s) q i = (also.are q).1 (inr (subst (λ (z : Table). Contains (numbers z.fanins) q) (sym s) i))
-      at_fanins y (inr k) q i = still_noted also q (is.at_fanins y k q i)
-
-      place : (y : Table) → (t ≡ y) ⊎ Contains ups y → (q : Place) × Contains (seen ++ p ∷ []) q × (q.class.0 ≡ y.out.0)
-      place y (inl s) = (p, Contains-push seen p, sym same ∙ ap (λ (z : Table). z.out.0) s)
-      place y (inr k) = let (q, at, e) = is.place y k in (q, Contains-append_left seen (p ∷ []) q at, e)
 
       p_depth : p.depth ≡ suc made.depth
       p_depth = same_Some p.depth (suc made.depth) (sym high ∙ (ap (depth_in depths) (sym same) ∙ made.depth_is))
@@ -140,23 +87,11 @@ module _ (g : Graph) (most : ℕ) (depths : List (Option ℕ)) (roots : List Cla
           let pd = p_depth in
           elim first [ inl l ↦ omega (arith, l, s, lt, pd) | inr (l, m) ↦ omega (arith, l, s, lt, pd) ]
 
-      all_at : (q : Place) → IsNoted needed q.class.0 ⊎ Contains (numbers t.fanins) q.class.0 → Contains seen q ⊎ (p ≡ q) → (y : Table) × Contains (t ∷ ups) y × (y.out.0 ≡ q.class.0)
-      all_at q either (inr s) = (t, (0, omega arith, refl), same ∙ ap (λ (z : Place). z.class.0) s)
-      all_at q (inl e) (inl k) = let (y, at, f) = is.all q k e in (y, contains_tail t ups y at, f)
-      all_at q (inr i) (inl k) = absurd (not_fanin q (before q k) (high_seen q k) i)
-
       table_before : (q : Place) (u : Table) → q.class.0 ≡ u.out.0 → IsPlaceBefore p q → depth_in depths q.class.0 ≡ Some q.depth → IsTableBefore depths t u
       table_before q u here first deep d e at bt =
           let dp : d ≡ p.depth = same_Some d p.depth (sym at ∙ (ap (depth_in depths) same ∙ high)) in
           let eq : e ≡ q.depth = same_Some e q.depth (sym bt ∙ (ap (depth_in depths) (sym here) ∙ deep)) in
           elim first [ inl l ↦ inl (omega (arith, l, dp, eq)) | inr (l, m) ↦ inr (omega (arith, l, dp, eq), omega (arith, m, same, here)) ]
-
-      sorted : (i j : ℕ) (y z : Table) → slice_get (t ∷ ups) i ≡ Some y → slice_get (t ∷ ups) j ≡ Some z → i < j → IsTableBefore depths y z
-      sorted i zero y z e f lt = absurd (omega arith)
-      sorted (suc i) (suc j) y z e f lt = is.sorted i j y z e f (omega arith)
-      sorted zero (suc j) y z e f lt =
-          let (q, k, s) = is.place z (at_contained ups j z f) in
-          subst (λ (w : Table). IsTableBefore depths w z) (same_Some t y e) (table_before q z s (before q k) (high_seen q k))
 
   -- the tables when all places have been seen
   pub down_end : (places seen : List Place) (needed : List Bool) (ups : List Table) → ArePlaces depths places → ((c : ℕ) → depth_in depths c ≡ Some 0 → IsLeafClass g c) → ((c : ℕ) → IsLeafClass g c → depth_in depths c ≡ Some 0) → All (λ (root : ClassId). IsKnown depths root.0) roots → ((p : Place) → Contains places p → Contains seen p) → IsDown seen needed ups → AreTables g most depths (numbers roots) ups
@@ -169,7 +104,7 @@ module _ (g : Graph) (most : ℕ) (depths : List (Option ℕ)) (roots : List Cla
     where
       flagged : (c : ℕ) → IsNeeded (numbers roots) ups c → IsNoted needed c
       flagged c (by_root k) = is.at_roots c k
-      flagged q (by_fanin t n k i) = is.at_fanins t k q i
+      flagged q (by_fanin t n k i) = is.at_parts t k q i
 
       gate : (c : ℕ) → IsNoted needed c → (e : ℕ) → depth_in depths c ≡ Some e → (IsLeafClass g c → ⊥) → (t : Table) × Contains ups t × (t.out.0 ≡ c)
       gate c noted zero at out = absurd (out (shallow c at))
@@ -214,7 +149,7 @@ module _ (g : Graph) (most : ℕ) (lists : DepthLists) (least : AreLeastDepths g
     one_each = is.one_each;
     sound = is.sound;
     at_roots = is.at_roots;
-    at_fanins = is.at_fanins;
+    at_parts = is.at_parts;
     each = is.each;
     noted = is.noted;
     place = λ t h. let (p, i, e) = is.place t h in (p, front p i, e);

@@ -9,7 +9,7 @@ use Rattle.lw_lut.specs.Cuts.{spelled, is_set}
 use Rattle.lw_lut.specs.Tables.{given}
 use Rattle.lw_lut.proofs.Bits.{spelled_join, spelled_low}
 use Rattle.lw_pool.specs.Numbers.{numbers}
-use Rattle.lw_lut.proofs.TableValues.{long}
+use Rattle.lw_lut.proofs.Numbers.{long}
 
 -- the class is not the first one
 pub given_skip : (f : ℕ) (fs : List ℕ) (place c : ℕ) → f ≢ c → given (f ∷ fs) place c ≡ given fs place c

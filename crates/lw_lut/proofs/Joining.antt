@@ -18,7 +18,7 @@ use Rattle.lw_lut.specs.Cuts.{PlainCut, IsCutAt, spelled, is_set, pin_value, tur
 use Rattle.lw_lut.specs.Packed.{joined_value, joined_bits}
 use Rattle.lw_lut.proofs.Bits.{packed_set, spelled_low, spelled_join}
 use Rattle.lw_pool.specs.Numbers.{numbers}
-use Rattle.lw_lut.proofs.TableValues.{long}
+use Rattle.lw_lut.proofs.Numbers.{long}
 
 -- the tree with its pins that many further on
 abbrev pub moved : ℕ → Tree → Tree

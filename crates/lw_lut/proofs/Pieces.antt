@@ -12,7 +12,10 @@ use Rattle.lw_lut.specs.Placed.{header_text}
 use Rattle.lw_lut.specs.Texts.{binary, row, rows_from, wires, wire_text, net_name}
 use Rattle.lw_lut.specs.declared.table.Table.{Table}
 use Rattle.lw_words.specs.Texts.{ended, line}
-use Rattle.lw_lut.proofs.SaidCloses.{binary_long}
+
+pub binary_long : (k place : ℕ) → length (binary k place) ≡ k
+binary_long zero place = refl
+binary_long (suc k) place = ap suc (binary_long k place)
 
 -- words and then a line end
 pub ended_is : (words : List (List ℕ)) → ended words ≡ flat_map (λ (word : List ℕ). 32 ∷ word) words ++ 10 ∷ []

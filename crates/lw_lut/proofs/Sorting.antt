@@ -6,8 +6,8 @@ use Rattle.std.proofs.lemmas.List.Elements.{Contains-push, Contains-push_cases, 
 use Rattle.std.proofs.lemmas.List.Sorted.{Contains-permutation, IsPermutation-sym}
 use Rattle.std.proofs.lemmas.Option.{slice_get-get_or}
 use Rattle.lw_facts.proofs.Lists.{some_within, at_contained}
-use Rattle.lw_naming.specs.declared.places.Place.{Place}
-use Rattle.lw_naming.proofs.Sorting.{AreInOrderBelow, in_order_none, in_order_push, in_order_skip}
+use Rattle.lw_needed.specs.declared.places.Place.{Place}
+use Rattle.lw_needed.proofs.Sorting.{AreInOrderBelow, in_order_none, in_order_push, in_order_skip}
 use Rattle.lw_lut.specs.Choosing.{ArePlaces}
 
 module _ (depths : List (Option ℕ)) where

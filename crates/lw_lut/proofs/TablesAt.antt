@@ -12,7 +12,7 @@ use Rattle.lw_lut.specs.Tables.{IsTableAt, table_value}
 use Rattle.lw_lut.proofs.Bits.{packed_set, spelled_low}
 use Rattle.lw_lut.proofs.Fanins.{spelled_given}
 use Rattle.lw_pool.specs.Numbers.{numbers}
-use Rattle.lw_lut.proofs.TableValues.{long}
+use Rattle.lw_lut.proofs.Numbers.{long}
 
 pub cut_table : (g : Graph) (most c : ℕ) (cut : PlainCut) (fanins : List ClassId) → IsCutAt g c (is_odd c) cut → length cut.pins ≤ most → ((q : ClassId) → Contains fanins q ↔ Contains cut.pins q) → IsTableAt g most c (numbers fanins) (packed (table_value cut c (numbers fanins)) 0 (2 ^ length fanins))
 cut_table g most c cut fanins is few same = record {

@@ -3,8 +3,8 @@ use Rattle.std.specs.Prelude.{ℕ, suc, ◌<◌, ◌≤◌, ◌≡◌, ◌⊎◌
 use Rattle.lw_pool.specs.declared.id.ClassId.{ClassId}
 use Rattle.lw_laws.specs.Graphs.{Graph}
 use Rattle.lw_laws.specs.Extracts.{IsLeafClass}
-use Rattle.lw_naming.specs.declared.places.Place.{Place}
-use Rattle.lw_naming.specs.Places.{AreInClassOrder, AreInDepthOrder}
+use Rattle.lw_needed.specs.declared.places.Place.{Place}
+use Rattle.lw_needed.specs.Places.{AreInClassOrder, AreInDepthOrder}
 use Rattle.lw_lut.specs.Depths.{DepthLists, AreLeastDepths}
 use Rattle.lw_lut.specs.Searches.{depth_in, IsBelow, IsKnown}
 use Rattle.lw_lut.specs.Tables.{IsTableAt, AreRisingClasses}

@@ -2,12 +2,9 @@ pub mod Choosing
 pub mod Covers
 pub mod Cuts
 pub mod Depths
-pub mod Meaning
 pub mod Nets
 pub mod Packed
 pub mod Placed
-pub mod Readable
-pub mod Said
 pub mod Reaches
 pub mod Searches
 pub mod Sweeps

@@ -4,7 +4,7 @@ ghost use Rattle.lw_lut.specs.Choosing.{AreByDepth, AreChosen, AreListed, AreRoo
 
 use crate::found::Depths;
 use crate::table::Table;
-use lw_naming::{Place, need, needed_by, sort_places};
+use lw_needed::{Place, need, needed_by, sort_places};
 use lw_pool::ClassId;
 use std::alloc::{AllocError, Global};
 

@@ -9,10 +9,10 @@
 //! * `choosing`: the classes that are needed, each with its table;
 //! * `ports`, `placing`, `naming`, `net`, `making`: the network of these tables;
 //! * `lines`, `writing`: its text;
-//! * `laws`: theorems on depths, networks and texts.
+//! * `laws`: theorems on depths and networks.
 //!
 //! The one definition to read is `IsTableNetOf` in `specs/Nets.antt`. `lw_map` calls `depths` and
-//! `tables`, and `lw_top` writes the text.
+//! `tables`, and `lw_top` writes the text. What the text means is said in `lw_lut_text`.
 #![tactic(auto)]
 
 mod choosing;
@@ -38,12 +38,7 @@ mod writing;
 
 pub use finding::depths;
 pub use found::Depths;
-pub use laws::{
-    class_depths_are_form_depths, made_tables_are_sayable, network_ports_fit, table_depths_are_one,
-    table_nets_are_kept, table_nets_are_named_apart, table_texts_are_mappings, tables_close,
-    tables_compute_classes, tables_have_least_depths, the_limit_alone_is_left_out,
-    written_tables_are_read,
-};
+pub use laws::{class_depths_are_form_depths, table_nets_are_kept};
 pub use lists::Tables;
 pub use making::tables;
 pub use net::TableNet;

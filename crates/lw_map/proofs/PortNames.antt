@@ -17,7 +17,7 @@ use Rattle.lw_laws.proofs.Lists.{slice_get_some, all_map}
 use Rattle.lw_laws.proofs.Numbers.{slice_get_map_back}
 use Rattle.lw_net.specs.Networks.{NetworkParts, IsNetwork, name_in, input_names, output_names}
 use Rattle.lw_net.specs.Plain as network
-use Rattle.lw_lut.proofs.ReadNames.{different_of}
+use Rattle.lw_lut_text.proofs.ReadNames.{different_of}
 use Rattle.lw_net.specs.Ports.{output_port, ports_of}
 
 -- Names that differ

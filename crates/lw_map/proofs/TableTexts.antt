@@ -15,14 +15,14 @@ use Rattle.lw_laws.proofs.Numbers.{slice_get_map}
 use Rattle.lw_net.specs.Networks.{NetworkParts, IsNetwork, name_in, output_names}
 use Rattle.lw_net.specs.Plain as network
 use Rattle.lw_form.specs.Limits.{most_bases}
-use Rattle.lw_lut.specs.Meaning.{ArePortsOf}
+use Rattle.lw_lut_text.specs.Meaning.{ArePortsOf}
 use Rattle.lw_lut.specs.Nets.{PlainTableNet}
-use Rattle.lw_lut.specs.Readable.{AreSayablePorts, IsSayable}
+use Rattle.lw_lut_text.specs.Readable.{AreSayablePorts, IsSayable}
 use Rattle.lw_lut.specs.declared.table.Table.{Table}
 use Rattle.lw_lut.proofs.FormDepths.{some_depth}
-use Rattle.lw_lut.proofs.MadeTables.{made_are_sayable}
+use Rattle.lw_lut_text.proofs.MadeTables.{made_are_sayable}
 use Rattle.lw_lut.proofs.NetsPlaced.{few_nets}
-use Rattle.lw_lut.proofs.PortsFit.{ports_apart, roots_known}
+use Rattle.lw_lut_text.proofs.PortsFit.{ports_apart, roots_known}
 use Rattle.lw_lut.proofs.TableNets.{outs_below}
 use Rattle.lw_map.specs.Options.{Options, IsWide}
 use Rattle.lw_map.specs.Mapped.{IsWithinLimits}

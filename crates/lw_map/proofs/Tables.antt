@@ -11,11 +11,11 @@ use Rattle.lw_net.specs.Plain as network
 use Rattle.lw_extract.specs.declared.ports.Ports.{Ports}
 use Rattle.lw_lut.specs.declared.ports.TablePorts.{TablePorts}
 use Rattle.lw_lut.specs.Depths.{DepthLists, AreLeastDepths}
-use Rattle.lw_lut.specs.Meaning.{ArePortsOf as AreTablePortsOf}
+use Rattle.lw_lut_text.specs.Meaning.{ArePortsOf as AreTablePortsOf}
 use Rattle.lw_lut.specs.Searches.{IsKnown}
 use Rattle.lw_lut.specs.Nets.{PlainTableNet, IsTableNet, AreFit, IsTableNetOf}
 use Rattle.lw_lut.proofs.FormDepths.{some_depth}
-use Rattle.lw_lut.proofs.PortsFit as fitting
+use Rattle.lw_lut_text.proofs.PortsFit as fitting
 use Rattle.lw_map.specs.declared.choices.Choices.{Choices}
 use Rattle.lw_map.specs.Options.{Options, plain_options}
 use Rattle.lw_map.specs.Choices.{AreChoicesOf}

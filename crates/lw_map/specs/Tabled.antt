@@ -11,9 +11,9 @@ use Rattle.lw_net.specs.Closing.{IsClosed}
 use Rattle.lw_net.specs.Networks.{NetworkParts, input_names, output_names}
 use Rattle.lw_net.specs.Plain.{plain}
 use Rattle.lw_lut.specs.Depths.{DepthLists, AreLeastDepths}
-use Rattle.lw_lut.specs.Meaning.{IsTableMapping}
+use Rattle.lw_lut_text.specs.Meaning.{IsTableMapping}
 use Rattle.lw_lut.specs.Nets.{PlainTableNet, AreFit, IsTableNet, IsTableNetOf}
-use Rattle.lw_lut.specs.Readable.{IsTablesRead}
+use Rattle.lw_lut_text.specs.Readable.{IsTablesRead}
 use Rattle.lw_map.specs.Options.{Options}
 use Rattle.lw_words.specs.Words.{IsSignalName}
 use Rattle.lw_pool.specs.Numbers.{numbers}

@@ -10,7 +10,7 @@ ghost use Rattle.lw_map.specs.Options.{Options, IsWide};
 ghost use Rattle.lw_map.specs.Mapped.{IsWithinLimits};
 ghost use Rattle.lw_map.specs.Tabled.{AreLeaves, HasReadableNames, IsTabled, IsTablesTextOf};
 
-use lw_lut::{table_texts_are_mappings, written_tables_are_read};
+use lw_lut_text::{table_texts_are_mappings, written_tables_are_read};
 
 /// The text of the tables that a network comes to is read as BLIF, its limit on the number of
 /// signals left out. The network that is read computes each output of the first one, at the least

@@ -4,5 +4,3 @@ pub mod GivenNames
 pub mod NameCount
 mod NamesGiven
 mod NamesHeld
-pub mod Noting
-pub mod Sorting

@@ -18,7 +18,7 @@ use Rattle.lw_files.proofs.Kept.{AreKept}
 use Rattle.lw_words.specs.Words.{IsSignalName}
 use Rattle.lw_net.specs.Ports.{output_port}
 use Rattle.lw_netlist.specs.Plain.{plain_port, port_name}
-use Rattle.lw_lut.proofs.GivenNames.{numbered_one}
+use Rattle.lw_lut_text.proofs.GivenNames.{numbered_one}
 
 -- a name among names that are all of the format
 among : (names : List (List ℕ)) (name : List ℕ) → All IsSignalName names → Contains names name → IsSignalName name

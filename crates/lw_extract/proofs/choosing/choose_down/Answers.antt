@@ -6,7 +6,7 @@ use Rattle.std.proofs.lemmas.Iterator.Consumers.{YieldsList-turn, YieldsList-end
 use Rattle.lw_pool.specs.declared.id.ClassId.{ClassId}
 use Rattle.lw_extract.specs.declared.choosing.Chosen.{Chosen}
 use Rattle.lw_extract.specs.Choosing.{RootsHaveMarks}
-use Rattle.lw_naming.specs.Needed.{AreRoots, HasAlso}
+use Rattle.lw_needed.specs.Needed.{AreRoots, HasAlso}
 use Rattle.lw_extract.proofs.Descent.{IsDown, IsTurn, down_start, turn_no_leaf, turn_within, turn_choice, turn_some, turn_pins, turn_skip, turn_take, turns_end}
 use Rattle.lw_extract.proofs.Picking.{marked_within}
 use Rattle.lw_extract.proofs.choosing.choose_down.Goals as goal

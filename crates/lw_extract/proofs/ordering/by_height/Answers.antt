@@ -1,6 +1,6 @@
 use Rattle.std.proofs.Common.{◌+◌, subst, sym, refl, ap, ◌∙◌, arith}
 use Rattle.lw_facts.proofs.Tests.{none_when_not_some}
-use Rattle.lw_naming.specs.declared.places.Place.{Place}
+use Rattle.lw_needed.specs.declared.places.Place.{Place}
 use Rattle.lw_extract.proofs.ClassNets.{not_none}
 use Rattle.lw_extract.proofs.Sorting.{AreMarkedBelow, marked_all, marked_moved, marked_push, marked_skip, marked_small}
 use Rattle.lw_extract.proofs.ordering.by_height.Goals as goal

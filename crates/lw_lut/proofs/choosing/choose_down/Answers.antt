@@ -2,8 +2,8 @@ use Rattle.std.proofs.Common.{◌≡◌, ◌∙◌, ◌++◌, ◌-◌, ◌<◌, 
 use Rattle.std.proofs.lemmas.List.{get_or_read, reverse-append, with_items_is}
 use Rattle.std.proofs.lemmas.List.Elements.{All-nil, All-cons}
 use Rattle.lw_pool.specs.declared.id.ClassId.{ClassId}
-use Rattle.lw_naming.specs.Needed.{AreRoots, HasAlso}
-use Rattle.lw_naming.specs.declared.places.Place.{Place}
+use Rattle.lw_needed.specs.Needed.{AreRoots, HasAlso}
+use Rattle.lw_needed.specs.declared.places.Place.{Place}
 use Rattle.lw_lut.specs.declared.table.Table.{Table}
 use Rattle.lw_lut.proofs.Descent.{IsDown, down_start, drop_all, turn_class, turn_cut, turn_fanins, turn_skip, turn_take, turns_end}
 use Rattle.lw_lut.proofs.choosing.choose_down.Goals as goal

@@ -1,6 +1,6 @@
 use Rattle.std.proofs.Common.{◌+◌, suc, Some, subst, sym, refl, ap, ◌∙◌, arith}
 use Rattle.std.proofs.lemmas.Option.{same_Some}
-use Rattle.lw_naming.specs.declared.places.Place.{Place}
+use Rattle.lw_needed.specs.declared.places.Place.{Place}
 use Rattle.lw_lut.proofs.Sorting.{AreListedBelow, listed_push, listed_skip, positive}
 use Rattle.lw_lut.proofs.choosing.listed.Goals as goal
 use Rattle.lw_lut.proofs.choosing.listed.Goals.{in-Some+then-depth-gt0+in_ok-push, in-Some+else-depth-gt0, in_default}

@@ -1,8 +1,8 @@
 use Rattle.std.proofs.Common.{subst, arith}
 use Rattle.lw_net.specs.Plain as network
 use Rattle.lw_net.proofs.Rise.{in_order}
-use Rattle.lw_lut.specs.Meaning.{IsTableMapping}
-use Rattle.lw_lut.specs.Said.{draft_said}
+use Rattle.lw_lut_text.specs.Meaning.{IsTableMapping}
+use Rattle.lw_lut_text.specs.Said.{draft_said}
 use Rattle.lw_map.proofs.PortNames.{has_ports, port_names}
 use Rattle.lw_map.proofs.TableTexts.{names_few, ports_are, tables_sayable}
 use Rattle.lw_map.proofs.laws.tabled_texts_are_mappings.Goals as goal

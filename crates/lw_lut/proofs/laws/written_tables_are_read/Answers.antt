@@ -1,5 +1,0 @@
-use Rattle.lw_lut.proofs.TablesRead.{tables_are_read}
-use Rattle.lw_lut.proofs.laws.written_tables_are_read.Goals as goal
-
-pub returns : goal.returns
-returns c = tables_are_read
