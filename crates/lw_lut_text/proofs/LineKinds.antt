@@ -9,6 +9,7 @@ use Rattle.std.proofs.lemmas.Bool.{and_parts}
 use Rattle.std.proofs.lemmas.Bool.Decides.{nat_tests}
 use Rattle.std.proofs.lemmas.List.{length-append}
 use Rattle.std.proofs.lemmas.Nat.Bits.{bit_at-lt}
+use Rattle.lw_lut.proofs.Pieces.{binary_long}
 use Rattle.lw_pool.specs.declared.id.ClassId.{ClassId}
 use Rattle.lw_pool.specs.declared.latch.Frame.{Frame}
 use Rattle.lw_pool.specs.declared.latch.Latch.{Latch}
@@ -24,7 +25,6 @@ use Rattle.lw_lut.specs.Texts.{binary, is_buffer, net_name}
 use Rattle.lw_lut.specs.declared.table.Table.{Table}
 use Rattle.lw_lut_text.proofs.TextLines.{Words, row_words, row_lines_from, off_row, row_lines, table_head, table_lines, wire_head, wire_row, wire_one, wire_lines, latch_words, node_lines, inner_lines}
 use Rattle.lw_words.specs.Words.{first_word}
-use Rattle.lw_lut_text.proofs.SaidCloses.{binary_long}
 
 abbrev pub asks_for : Words → Command
 asks_for words = command_of (first_word words)

@@ -6,12 +6,12 @@ use Rattle.std.specs.List.{list_all, AllByRecursion as Each}
 use Rattle.std.proofs.lemmas.Bool.{and_parts, not-true}
 use Rattle.std.proofs.lemmas.List.Elements.{recursion_from_All}
 use Rattle.std.proofs.lemmas.Nat.Bits.{bit_at-lt}
+use Rattle.lw_lut.proofs.Pieces.{binary_long}
 use Rattle.lw_laws.proofs.Heights.{all_weaker}
 use Rattle.lw_words.specs.Gathering.{IsInk, IsNoHash}
 use Rattle.lw_lut.specs.Texts.{binary}
 use Rattle.lw_lut_text.proofs.WordLines.{IsWritten}
 use Rattle.lw_words.specs.Words.{IsSignalName}
-use Rattle.lw_lut_text.proofs.SaidCloses.{binary_long}
 use Rattle.lw_frame.proofs.GoodWords.{IsGood, is_good, good-byte, good-bytes, ends-good, ends-name, ends_stroke}
 
 good_word : (word : List ℕ) → 0 < length word → length word ≤ 4095 → Each IsGood word → IsWritten word
