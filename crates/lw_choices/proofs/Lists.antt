@@ -1,7 +1,6 @@
 -- Lists by place, with an element behind them or another in place of one.
-use Rattle.std.proofs.Common.{◌≡◌, ◌≢◌, ℕ, zero, suc, ◌+◌, ◌<◌, ◌⊎◌, inl, inr, length, take, List, [], ◌∷◌, ◌++◌, Contains, Some, slice_get, slice_index_or, slice_set, refl, sym, ap, ◌∙◌, subst, arith}
+use Rattle.std.proofs.Common.{◌≡◌, ◌≢◌, ℕ, zero, suc, ◌+◌, ◌<◌, ◌⊎◌, inl, inr, length, List, [], ◌∷◌, ◌++◌, Contains, Some, slice_get, slice_index_or, slice_set, refl, sym, ap, ◌∙◌, arith}
 use Rattle.std.proofs.lemmas.Option.{same_Some, slice_get_within}
-use Rattle.lw_choices.specs.Areas.{total}
 
 module _ {X : Type 0} where
   pub get_some : (xs : List X) (i : ℕ) → i < length xs → (x : X) × (slice_get xs i ≡ Some x)
@@ -70,16 +69,6 @@ module _ {X : Type 0} where
 
   pub at_contained : (xs : List X) (n : ℕ) (x : X) → slice_get xs n ≡ Some x → Contains xs x
   at_contained xs n x at = let lt = slice_get_within xs n x at in (n, lt, same_Some (slice_index_or xs n x) x (sym (got xs n x lt) ∙ at))
-
-total_suc : (xs : List ℕ) (k : ℕ) → k < length xs → total (take (suc k) xs) ≡ total (take k xs) + slice_index_or xs k 0
-total_suc [] k lt = absurd (omega arith)
-total_suc (x ∷ xs) zero lt = omega arith
-total_suc (x ∷ xs) (suc k) lt = let ih = total_suc xs k (omega arith) in omega arith
-
-pub total_more : (xs : List ℕ) (k : ℕ) → k < length xs → total (take (k + 1) xs) ≡ total (take k xs) + slice_index_or xs k 0
-total_more xs k lt =
-    let one : suc k ≡ k + 1 = omega arith in
-    subst (λ n. total (take n xs) ≡ total (take k xs) + slice_index_or xs k 0) one (total_suc xs k lt)
 
 pub in_tail : {X : Type 0} (y x : X) (xs : List X) → Contains xs x → Contains (y ∷ xs) x
 in_tail y x xs (k, lt, e) = (suc k, omega arith, e)

@@ -1,5 +1,6 @@
 -- The area of a cover: that of its gates, each as often as it is used, cut at a greatest area.
-use Rattle.std.specs.Prelude.{ℕ, ◌+◌, ◌^◌, min, List, [], ◌∷◌, length, map, slice_index_or}
+use Rattle.std.specs.Prelude.{ℕ, ◌+◌, ◌^◌, min, List, [], length, map, slice_index_or}
+pub use Rattle.lw_facts.specs.Sums.{total}
 use Rattle.lw_laws.specs.Costs.{Cost}
 use Rattle.lw_genlib.specs.Cells.{CellParts}
 use Rattle.lw_genlib.specs.Tables.{delays_of_cells}
@@ -14,10 +15,6 @@ area_of_cell cell = cell.area.0
 -- the area of the cell with a number: 0 past the last
 abbrev pub area_at : List CellParts → ℕ → ℕ
 area_at cells cell = slice_index_or (map area_of_cell cells) cell 0
-
-abbrev pub total : List ℕ → ℕ
-total [] = 0
-total (area ∷ areas) = area + total areas
 
 -- an input has no area, and a cell its own and those of its pins
 abbrev pub area_cost : List CellParts → Cost

@@ -1,6 +1,7 @@
 -- Facts about lists.
 use Rattle.std.proofs.lemmas.Map.Keys.{IsDistinct-from_apart}
 use Rattle.std.proofs.lemmas.Bool.{false_from_ne_true, false≢true}
+use Rattle.lw_facts.specs.Sums.{total}
 use Rattle.lw_facts.proofs.Numbers.{capped_more, times_ten_spread}
 use Rattle.std.proofs.Common.{All, Bool, Contains, IsTrue, List, None, Option, Some, [], ap, arith, cond, drop, false, get_or, inl, inr, length, map, min, not, refl, replicate, reverse, slice_get, slice_index_or, subst, suc, suc-add, sym, take, true, zero, zero-add, ℕ, ◌&&◌, ◌*◌, ◌++◌, ◌+◌, ◌-◌, ◌<◌, ◌^◌, ◌∙◌, ◌∷◌, ◌≡◌, ◌≤◌, ◌⊎◌, ap₂, ◌||◌}
 use Rattle.std.proofs.Math.Nat.{pow-succ'}
@@ -320,3 +321,14 @@ pub slice_range_append : (bytes more : List ℕ) (from end : ℕ) → from ≤ l
 slice_range_append bytes more from end low high =
     ap (λ b. take (end - from) b) (drop-append-le from bytes more low)
     ∙ take-append-le (end - from) (drop from bytes) more (omega (arith, length-drop from bytes))
+
+total_suc : (xs : List ℕ) (k : ℕ) → k < length xs → total (take (suc k) xs) ≡ total (take k xs) + slice_index_or xs k 0
+total_suc [] k lt = absurd (omega arith)
+total_suc (x ∷ xs) zero lt = omega arith
+total_suc (x ∷ xs) (suc k) lt = let ih = total_suc xs k (omega arith) in omega arith
+
+-- the sum of one more
+pub total_more : (xs : List ℕ) (k : ℕ) → k < length xs → total (take (k + 1) xs) ≡ total (take k xs) + slice_index_or xs k 0
+total_more xs k lt =
+    let one : suc k ≡ k + 1 = omega arith in
+    subst (λ n. total (take n xs) ≡ total (take k xs) + slice_index_or xs k 0) one (total_suc xs k lt)

@@ -17,11 +17,6 @@ pub binary_long : (k place : ℕ) → length (binary k place) ≡ k
 binary_long zero place = refl
 binary_long (suc k) place = ap suc (binary_long k place)
 
--- words and then a line end
-pub ended_is : (words : List (List ℕ)) → ended words ≡ flat_map (λ (word : List ℕ). 32 ∷ word) words ++ 10 ∷ []
-ended_is [] = refl
-ended_is (word ∷ words) = ap (λ l. 32 ∷ (word ++ l)) (ended_is words) ∙ sym (append_assoc (32 ∷ word) (flat_map (λ (word : List ℕ). 32 ∷ word) words) (10 ∷ []))
-
 -- the names of some classes' nets, one more, and then a line end
 pub ended_nets : (n : PlainTableNet) (classes : List ClassId) (last : List ℕ) → ended (map (λ (q : ClassId). net_name n q.0) classes ++ last ∷ []) ≡ flat_map (λ (q : ClassId). 32 ∷ net_name n q.0) classes ++ (32 ∷ (last ++ 10 ∷ []))
 ended_nets n [] last = refl

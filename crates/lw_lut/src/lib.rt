@@ -8,7 +8,7 @@
 //! * `table`, `lists`, `rows`: tables, made from cuts, and their rows;
 //! * `choosing`: the classes that are needed, each with its table;
 //! * `ports`, `placing`, `naming`, `net`, `making`: the network of these tables;
-//! * `lines`, `writing`: its text;
+//! * `writing`: its text;
 //! * `laws`: theorems on depths and networks.
 //!
 //! The one definition to read is `IsTableNetOf` in `specs/Nets.antt`. `lw_map` calls `depths` and
@@ -20,7 +20,6 @@ mod cut;
 mod finding;
 mod found;
 mod laws;
-mod lines;
 mod lists;
 mod making;
 mod naming;

@@ -8,10 +8,10 @@ ghost use Rattle.lw_lut.specs.Nets.{net_classes};
 ghost use Rattle.lw_lut.specs.Placed.{header_text, wire, HasNets};
 ghost use Rattle.lw_lut.specs.Texts.{net_name, table_text, tables_text, wire_text, wires, IsFramed};
 
-use crate::lines::{put_latches, put_line, put_word};
 use crate::net::TableNet;
 use crate::rows::{SmallTable, put_rows};
 use crate::table::Table;
+use lw_frame::{put_latches, put_line, put_word};
 use lw_io::{Failed, Sink, Writer};
 use lw_pool::{ClassId, Frame};
 

@@ -4,9 +4,10 @@ ghost use Rattle.lw_mapped.specs.Texts.{label_line, optional_label, label_lines,
 ghost use Rattle.lw_mapped.specs.Texts.{optional_net, net_lines, HasNames};
 ghost use Rattle.lw_io.specs.Writers.{Writes};
 
-use crate::lines::{name_of, put_word};
+use crate::lines::name_of;
 use itoa::Buffer;
 use lw_fixed::{Micro, print};
+use lw_frame::put_word;
 use lw_io::{Sink, Writer};
 use lw_netlist::Gate;
 use lw_pool::{ClassId, Name};

@@ -1,14 +1,12 @@
-// What stands around a netlist: the arrivals of its inputs, and latches.
+// The arrivals of a netlist's inputs.
 ghost use Rattle.std.specs.Prelude.{◌≤◌, length};
-ghost use Rattle.std.specs.List.{flat_map};
 ghost use Rattle.lw_mapped.specs.Texts.{arrival_line, optional_arrival, arrival_lines};
 ghost use Rattle.lw_io.specs.Writers.{Writes};
-ghost use Rattle.lw_frame.specs.Latches.{latch_line};
 
-use crate::lines::{put_word, put_words};
 use lw_fixed::{Micro, print};
+use lw_frame::put_word;
 use lw_io::{Sink, Writer};
-use lw_pool::{Latch, Name};
+use lw_pool::Name;
 
 fn put_arrival<S: Sink>(out: &mut Writer<'_, S>, name: &[u8], start: Micro)
     ensures { Writes S.taken S.faults out.old out.new (arrival_line name.now start) }
@@ -38,23 +36,5 @@ pub(crate) fn put_arrivals<S: Sink>(out: &mut Writer<'_, S>, names: &[Name], sta
 {
     for (k, start) in starts.iter().enumerate() {
         put_optional_arrival(out, names[k].as_bytes(), *start);
-    }
-}
-
-fn put_latch<S: Sink>(out: &mut Writer<'_, S>, latch: &Latch)
-    ensures { Writes S.taken S.faults out.old out.new (latch_line latch.now) }
-{
-    out.put(b".latch");
-    put_word(out, latch.input.as_bytes());
-    put_word(out, latch.output.as_bytes());
-    put_words(out, latch.rest.as_slice());
-    out.put(b"\n");
-}
-
-pub(crate) fn put_latches<S: Sink>(out: &mut Writer<'_, S>, latches: &[Latch])
-    ensures { Writes S.taken S.faults out.old out.new (flat_map latch_line latches.now) }
-{
-    for latch in latches {
-        put_latch(out, latch);
     }
 }

@@ -6,7 +6,8 @@ ghost use Rattle.lw_frame.specs.Texts.{spaced};
 ghost use Rattle.lw_mapped.specs.Texts.{ties, gate_line, gate_text, wire, wire_text, HasNames};
 ghost use Rattle.lw_io.specs.Writers.{Writes};
 
-use crate::lines::{name_of, put_tie, put_word};
+use crate::lines::{name_of, put_tie};
+use lw_frame::put_word;
 use lw_genlib::{Cell, Library};
 use lw_io::{Sink, Writer};
 use lw_netlist::{Gate, Port};

@@ -6,6 +6,7 @@ ghost use Rattle.lw_io.specs.Writers.{Writes};
 ghost use Rattle.lw_words.specs.Texts.{line};
 ghost use Rattle.lw_netlist.specs.Plain.{port_name};
 
+use lw_frame::put_word;
 use lw_io::{Sink, Writer};
 use lw_netlist::Port;
 use lw_pool::{Name, NetId};
@@ -16,31 +17,6 @@ pub fn name_of(names: &[Name], net: NetId) -> &[u8]
     ensures { result.now ≡ net_name names.now net }
 {
     names[net.0 as usize].as_bytes()
-}
-
-// A space and a word.
-pub(crate) fn put_word<S: Sink>(out: &mut Writer<'_, S>, word: &[u8])
-    ensures { Writes S.taken S.faults out.old out.new (spaced_word word.now) }
-{
-    out.put(b" ");
-    out.put(word);
-}
-
-pub(crate) fn put_words<S: Sink>(out: &mut Writer<'_, S>, words: &[Name])
-    ensures { Writes S.taken S.faults out.old out.new (spaced words.now) }
-{
-    for word in words {
-        put_word(out, word.as_bytes());
-    }
-}
-
-// A line of a first word and others.
-pub(crate) fn put_line<S: Sink>(out: &mut Writer<'_, S>, first: &[u8], others: &[Name])
-    ensures { Writes S.taken S.faults out.old out.new (line first.now others.now) }
-{
-    out.put(first);
-    put_words(out, others);
-    out.put(b"\n");
 }
 
 // A space, and a pin or an output with its net.

@@ -8,10 +8,11 @@ ghost use Rattle.lw_io.specs.Writers.{Writes};
 
 use crate::Certificate;
 use crate::certificate_lines::{put_labels, put_nets};
-use crate::frames::{put_arrivals, put_latches};
+use crate::frames::put_arrivals;
 use crate::gates::{put_gates, put_wires};
-use crate::lines::{put_line, put_ports, put_word};
+use crate::lines::put_ports;
 use lw_fixed::Micros;
+use lw_frame::{put_latches, put_line, put_word};
 use lw_genlib::Library;
 use lw_io::{Failed, Sink, Writer};
 use lw_netlist::{Netlist, Port};

@@ -1,5 +1,6 @@
 -- A cost that is a sum, and jumps where the sum is no less than a threshold.
-use Rattle.std.specs.Prelude.{ℕ, ◌+◌, ◌-◌, ◌^◌, min, nat_lt, if◌then◌else◌, List, [], ◌∷◌, length, map}
+use Rattle.std.specs.Prelude.{ℕ, ◌+◌, ◌-◌, ◌^◌, min, nat_lt, if◌then◌else◌, List, [], length, map}
+pub use Rattle.lw_facts.specs.Sums.{total}
 use Rattle.lw_laws.specs.Costs.{Cost}
 use Rattle.lw_genlib.specs.Cells.{CellParts}
 use Rattle.lw_genlib.specs.Tables.{delays_of_cells}
@@ -7,10 +8,6 @@ use Rattle.lw_genlib.specs.Tables.{delays_of_cells}
 -- the greatest cost
 abbrev pub most_cost : ℕ
 most_cost = 2 ^ 62
-
-abbrev pub total : List ℕ → ℕ
-total [] = 0
-total (cost ∷ costs) = cost + total costs
 
 abbrev pub joined : ℕ → ℕ → ℕ
 joined a b = min most_cost (a + b)

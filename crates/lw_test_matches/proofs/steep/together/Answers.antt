@@ -1,5 +1,5 @@
 use Rattle.std.proofs.Common.{arith}
-use Rattle.lw_test_matches.proofs.Leaves.{total_more}
+use Rattle.lw_facts.proofs.Lists.{total_more}
 use Rattle.lw_test_matches.proofs.steep.together.Goals as goal
 
 pub loop-pin-preserved : goal.loop-pin-preserved

@@ -1,7 +1,7 @@
 use Rattle.std.proofs.Common.{take}
 use Rattle.std.specs.List.{flat_map}
 use Rattle.lw_io.specs.Writers.{Writes}
-use Rattle.lw_mapped.proofs.frames.put_latches.Given as goal
+use Rattle.lw_frame.proofs.writing.put_latches.Given as goal
 use Rattle.lw_frame.specs.Latches.{latch_line}
 
 abbrev pub invariant-loop-latch : goal.invariant-loop-latch

@@ -1,7 +1,7 @@
 use Rattle.std.proofs.Common.{◌++◌, sym, subst}
 use Rattle.lw_io.specs.Writers.{Writes}
 use Rattle.lw_io.proofs.Putting.{Writes-both}
-use Rattle.lw_mapped.proofs.lines.put_line.Goals as goal
+use Rattle.lw_frame.proofs.writing.put_line.Goals as goal
 use Rattle.lw_frame.proofs.WrittenLines.{ended_is}
 
 pub returns : goal.returns

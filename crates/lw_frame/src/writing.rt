@@ -1,15 +1,16 @@
-// Lines of words, and latches.
+// Lines of words, and latches, as they are written.
 ghost use Rattle.std.specs.Prelude.{◌∷◌};
 ghost use Rattle.std.specs.List.{flat_map};
 ghost use Rattle.lw_io.specs.Writers.{Writes};
 ghost use Rattle.lw_words.specs.Texts.{line};
 ghost use Rattle.lw_frame.specs.Latches.{latch_line};
+ghost use Rattle.lw_frame.specs.Texts.{spaced};
 
 use lw_io::{Sink, Writer};
 use lw_pool::{Latch, Name};
 
-// A space and a word.
-pub(crate) fn put_word<S: Sink>(out: &mut Writer<'_, S>, word: &[u8])
+/// Writes a space and a word.
+pub fn put_word<S: Sink>(out: &mut Writer<'_, S>, word: &[u8])
     ensures { Writes S.taken S.faults out.old out.new (32 ∷ word.now) }
 {
     out.put(b" ");
@@ -17,15 +18,15 @@ pub(crate) fn put_word<S: Sink>(out: &mut Writer<'_, S>, word: &[u8])
 }
 
 fn put_words<S: Sink>(out: &mut Writer<'_, S>, words: &[Name])
-    ensures { Writes S.taken S.faults out.old out.new (flat_map (λ word. 32 ∷ word) words.now) }
+    ensures { Writes S.taken S.faults out.old out.new (spaced words.now) }
 {
     for word in words {
         put_word(out, word.as_bytes());
     }
 }
 
-// A line of a first word and others.
-pub(crate) fn put_line<S: Sink>(out: &mut Writer<'_, S>, first: &[u8], others: &[Name])
+/// Writes a line of a first word and others.
+pub fn put_line<S: Sink>(out: &mut Writer<'_, S>, first: &[u8], others: &[Name])
     ensures { Writes S.taken S.faults out.old out.new (line first.now others.now) }
 {
     out.put(first);
@@ -43,7 +44,8 @@ fn put_latch<S: Sink>(out: &mut Writer<'_, S>, latch: &Latch)
     out.put(b"\n");
 }
 
-pub(crate) fn put_latches<S: Sink>(out: &mut Writer<'_, S>, latches: &[Latch])
+/// Writes a line for each latch.
+pub fn put_latches<S: Sink>(out: &mut Writer<'_, S>, latches: &[Latch])
     ensures { Writes S.taken S.faults out.old out.new (flat_map latch_line latches.now) }
 {
     for latch in latches {
