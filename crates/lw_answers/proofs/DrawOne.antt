@@ -16,7 +16,7 @@ use Rattle.lw_pattern.specs.Libraries.{library_patterns}
 use Rattle.lw_label.specs.Delays.{time_cost}
 use Rattle.lw_settle.specs.Steps.{AreSteps}
 use Rattle.lw_settle.proofs.Steps.{counts_once}
-use Rattle.lw_netlist.specs.Closing.{greatest}
+use Rattle.lw_named_netlist.specs.Closing.{greatest}
 use Rattle.lw_netlist.specs.Netlists.{NetlistParts}
 use Rattle.lw_netlist.specs.Plain as netlist
 use Rattle.lw_report.specs.Timings.{output_arrivals}

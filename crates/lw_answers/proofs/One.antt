@@ -8,7 +8,7 @@ use Rattle.lw_words.specs.Lines.{LogicalLine}
 use Rattle.lw_net.specs.Networks.{IsNetwork}
 use Rattle.lw_blif.specs.declared.parsed.Parsed.{Parsed}
 use Rattle.lw_netlist.specs.Netlists.{NetlistParts, IsNetlist}
-use Rattle.lw_netlist.specs.declared.fault.NetlistFault.TheVariants as whole
+use Rattle.lw_named_netlist.specs.declared.fault.NetlistFault.TheVariants as whole
 use Rattle.lw_mapped.specs.declared.closing.Mapped.{Mapped as MappedParts}
 use Rattle.lw_mapped.specs.declared.fault.MappedFault.{MappedFault}
 use Rattle.lw_mapped.specs.declared.fault.MappedFault.TheVariants as fault

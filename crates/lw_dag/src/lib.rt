@@ -13,7 +13,7 @@
 //! * `order`: a list in the order of the depths of its entries (`in_order`).
 //!
 //! The definitions to read are `AreHeights` and `IsFirst` in `specs/Graphs.antt`. `lw_net` and
-//! `lw_netlist` close drafts by these, and `lw_trade` orders gates.
+//! `lw_named_netlist` close drafts by these, and `lw_trade` orders gates.
 #![tactic(auto)]
 
 mod cycles;

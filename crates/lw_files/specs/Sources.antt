@@ -10,7 +10,7 @@ use Rattle.lw_net.specs.declared.fault.NetFault.TheVariants as whole
 use Rattle.lw_blif.specs.declared.parsed.Parsed.{Parsed}
 use Rattle.lw_blif.specs.declared.fault.BlifFault.TheVariants as fault
 use Rattle.lw_blif.specs.BlifNetworks.{IsBlifNetwork}
-use Rattle.lw_netlist.specs.declared.fault.NetlistFault.TheVariants as netlist
+use Rattle.lw_named_netlist.specs.declared.fault.NetlistFault.TheVariants as netlist
 use Rattle.lw_mapped.specs.declared.closing.Mapped.{Mapped as MappedParts}
 use Rattle.lw_mapped.specs.declared.fault.MappedFault.TheVariants as mapped_fault
 use Rattle.lw_mapped.specs.Unmapped.{IsUnmapped}

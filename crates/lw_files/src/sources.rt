@@ -14,8 +14,8 @@ use lw_blif::{BlifFault, Parsed, Reader};
 use lw_genlib::{LibFault, LibReader, Library};
 use lw_io::Shelf;
 use lw_mapped::{Mapped, MappedFault, MappedReader};
+use lw_named_netlist::NetlistFault;
 use lw_net::NetFault;
-use lw_netlist::NetlistFault;
 use std::alloc::Global;
 
 /// The library of a text, or its first fault.

@@ -13,7 +13,7 @@ use Rattle.lw_genlib.specs.Cells.{CellParts}
 use Rattle.lw_genlib.specs.Tables.{timing_of}
 use Rattle.lw_pattern.specs.Libraries.{library_patterns}
 use Rattle.lw_settle.specs.Steps.{AreSteps}
-use Rattle.lw_netlist.specs.Closing.{greatest}
+use Rattle.lw_dag.specs.Ordering.{greatest}
 use Rattle.lw_netlist.specs.Netlists.{NetlistParts}
 use Rattle.lw_netlist.specs.Plain.{plain as plain_netlist}
 use Rattle.lw_report.specs.Timings.{output_arrivals}

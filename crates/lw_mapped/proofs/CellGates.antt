@@ -7,8 +7,8 @@ use Rattle.std.proofs.lemmas.List.{length-map}
 use Rattle.std.proofs.lemmas.List.Elements.{All-append, All-from_recursion}
 use Rattle.lw_words.specs.Lines.{LogicalLine}
 use Rattle.lw_genlib.specs.Cells.{CellParts}
-use Rattle.lw_netlist.specs.declared.draft.DraftGate.{DraftGate}
-use Rattle.lw_netlist.specs.Closing.{IsOfCell}
+use Rattle.lw_named_netlist.specs.declared.draft.DraftGate.{DraftGate}
+use Rattle.lw_named_netlist.specs.Closing.{IsOfCell}
 use Rattle.lw_mapped.specs.declared.command.Command.{Command}
 use Rattle.lw_mapped.specs.declared.command.Command.TheVariants as command
 use Rattle.lw_mapped.specs.declared.fault.MappedKind.{MappedKind}

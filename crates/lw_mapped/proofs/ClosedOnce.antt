@@ -12,17 +12,17 @@ use Rattle.std.proofs.lemmas.Option.{slice_get_within}
 use Rattle.lw_facts.proofs.Lists.{contains_map, get_left, get_right, at_contained, contained_at}
 use Rattle.lw_laws.proofs.Numbers.{slice_get_map_back}
 use Rattle.lw_pool.specs.declared.id.NetId.{NetId}
-use Rattle.lw_netlist.specs.declared.draft.DraftGate.{DraftGate}
-use Rattle.lw_netlist.specs.declared.draft.GateDraft.{GateDraft}
-use Rattle.lw_netlist.specs.declared.draft.Wire.{Wire}
+use Rattle.lw_named_netlist.specs.declared.draft.DraftGate.{DraftGate}
+use Rattle.lw_named_netlist.specs.declared.draft.GateDraft.{GateDraft}
+use Rattle.lw_named_netlist.specs.declared.draft.Wire.{Wire}
 use Rattle.lw_netlist.specs.declared.gate.Gate.{Gate}
-use Rattle.lw_netlist.specs.Closing.{IsClosed, IsNetNamed, by_depth, closed_gate, drivers, greatest, links, needs_of, netlist_in, out_of, port_at, undriven_in}
-use Rattle.lw_netlist.specs.Closing.IsNetNamed.{at_input, at_gate, at_wire}
+use Rattle.lw_named_netlist.specs.Closing.{IsClosed, IsNetNamed, by_depth, closed_gate, drivers, greatest, links, needs_of, netlist_in, out_of, port_at, undriven_in}
+use Rattle.lw_named_netlist.specs.Closing.IsNetNamed.{at_input, at_gate, at_wire}
 use Rattle.lw_netlist.specs.Netlists.{NetlistParts}
-use Rattle.lw_netlist.proofs.Names.{once_distinct, drivers_are, to_of}
+use Rattle.lw_named_netlist.proofs.Names.{once_distinct, drivers_are, to_of}
 use Rattle.lw_dag.proofs.Numbering.{none_unknown, none_split, distinct_moved}
-use Rattle.lw_netlist.proofs.Paths.{driven_needs}
-use Rattle.lw_netlist.proofs.Starting.{bare_gate, link_of_gate}
+use Rattle.lw_named_netlist.proofs.Paths.{driven_needs}
+use Rattle.lw_named_netlist.proofs.Starting.{bare_gate, link_of_gate}
 use Rattle.lw_mapped.proofs.Places.{one-place}
 
 -- The order by depth holds each gate.

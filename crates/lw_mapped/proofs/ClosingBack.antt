@@ -17,18 +17,18 @@ use Rattle.lw_laws.specs.MappedNetlists.{AreNetNames}
 use Rattle.lw_laws.proofs.NetlistValues.{some_net_depths}
 use Rattle.lw_laws.proofs.Numbers.{slice_get_map_back}
 use Rattle.lw_pool.specs.declared.id.NetId.{NetId}
-use Rattle.lw_netlist.specs.declared.draft.DraftGate.{DraftGate}
-use Rattle.lw_netlist.specs.declared.draft.GateDraft.{GateDraft}
-use Rattle.lw_netlist.specs.declared.draft.Wire.{Wire}
+use Rattle.lw_named_netlist.specs.declared.draft.DraftGate.{DraftGate}
+use Rattle.lw_named_netlist.specs.declared.draft.GateDraft.{GateDraft}
+use Rattle.lw_named_netlist.specs.declared.draft.Wire.{Wire}
 use Rattle.lw_netlist.specs.declared.gate.Gate.{Gate}
 use Rattle.lw_netlist.specs.declared.gate.Port.{Port}
-use Rattle.lw_netlist.specs.Closing.{AreNameDepths, IsClosed, IsNetNamed, HasNoCycle, Hangs, Reaches, Link, by_depth, closed_gate, drivers, gate_link, wire_link, greatest, is_among, links, netlist_in, out_of, port_at}
-use Rattle.lw_netlist.specs.Closing.IsNetNamed.{at_input, at_gate, at_wire}
-use Rattle.lw_netlist.specs.Closing.Reaches.{by_step, by_path}
+use Rattle.lw_named_netlist.specs.Closing.{AreNameDepths, IsClosed, IsNetNamed, HasNoCycle, Hangs, Reaches, Link, by_depth, closed_gate, drivers, gate_link, wire_link, greatest, is_among, links, netlist_in, out_of, port_at}
+use Rattle.lw_named_netlist.specs.Closing.IsNetNamed.{at_input, at_gate, at_wire}
+use Rattle.lw_named_netlist.specs.Closing.Reaches.{by_step, by_path}
 use Rattle.lw_netlist.specs.Netlists.{NetlistParts, IsNetlist}
-use Rattle.lw_netlist.specs.Numbered.{number_in}
+use Rattle.lw_named_netlist.specs.Numbered.{number_in}
 use Rattle.lw_netlist.specs.Plain.{plain, plain_gate, port_name}
-use Rattle.lw_netlist.proofs.Names.{to_of}
+use Rattle.lw_named_netlist.proofs.Names.{to_of}
 use Rattle.lw_mapped.specs.Readable.{ports_of}
 use Rattle.lw_mapped.specs.Texts.{net_name}
 use Rattle.lw_mapped.proofs.Driving as back

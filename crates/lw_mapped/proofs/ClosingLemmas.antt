@@ -13,11 +13,11 @@ use Rattle.lw_frame.specs.Starts.{Arrival, IsEarly, starts_of}
 use Rattle.lw_frame.specs.Frames.{each_once, read_by, root_names, input_names, output_of}
 use Rattle.lw_frame.proofs.Once.{once-twice}
 use Rattle.lw_genlib.specs.Cells.{CellParts}
-use Rattle.lw_netlist.specs.declared.draft.DraftGate.{DraftGate}
-use Rattle.lw_netlist.specs.declared.draft.GateDraft.{GateDraft}
-use Rattle.lw_netlist.specs.declared.draft.Wire.{Wire}
+use Rattle.lw_named_netlist.specs.declared.draft.DraftGate.{DraftGate}
+use Rattle.lw_named_netlist.specs.declared.draft.GateDraft.{GateDraft}
+use Rattle.lw_named_netlist.specs.declared.draft.Wire.{Wire}
 use Rattle.lw_netlist.specs.declared.gate.Gate.{Gate}
-use Rattle.lw_netlist.specs.Closing.{IsClosed, IsGateDraft}
+use Rattle.lw_named_netlist.specs.Closing.{IsClosed, IsGateDraft}
 use Rattle.lw_mapped.specs.declared.contents.Contents.{Contents}
 use Rattle.lw_mapped.specs.declared.saying.Saying.{Saying}
 use Rattle.lw_mapped.specs.Keeping.{Keeps, IsOfFew}

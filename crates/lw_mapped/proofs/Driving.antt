@@ -11,21 +11,21 @@ use Rattle.std.proofs.lemmas.Option.{slice_get-get_or, slice_get_within, get_or_
 use Rattle.lw_facts.proofs.Lists.{contains_map, bytes_eq_same, get_left, get_right, at_contained, contained_at, none_among}
 use Rattle.lw_laws.specs.MappedNetlists.{AreNetNames}
 use Rattle.lw_pool.specs.declared.id.NetId.{NetId}
-use Rattle.lw_netlist.specs.declared.draft.GateDraft.{GateDraft}
-use Rattle.lw_netlist.specs.declared.draft.Wire.{Wire}
+use Rattle.lw_named_netlist.specs.declared.draft.GateDraft.{GateDraft}
+use Rattle.lw_named_netlist.specs.declared.draft.Wire.{Wire}
 use Rattle.lw_netlist.specs.declared.gate.Gate.{Gate}
 use Rattle.lw_netlist.specs.declared.gate.Port.{Port}
-use Rattle.lw_netlist.specs.Closing.{drivers, first_twice, first_undriven, gate_link, wire_link, is_among, links, needs_of, out_of, twice_after, undriven_in}
+use Rattle.lw_named_netlist.specs.Closing.{drivers, first_twice, first_undriven, gate_link, wire_link, is_among, links, needs_of, out_of, twice_after, undriven_in}
 use Rattle.lw_netlist.specs.Netlists.{NetlistParts, IsNetlist, IsGateAt}
-use Rattle.lw_netlist.specs.Numbered.{number_in}
+use Rattle.lw_named_netlist.specs.Numbered.{number_in}
 use Rattle.lw_netlist.specs.Plain.{plain, plain_port, port_name}
-use Rattle.lw_netlist.proofs.Names.{drivers_are, to_of}
+use Rattle.lw_named_netlist.proofs.Names.{drivers_are, to_of}
 use Rattle.lw_dag.proofs.Numbering.{number_at}
 use Rattle.lw_mapped.specs.Readable.{ports_of}
 use Rattle.lw_mapped.specs.Texts.{net_name, names_of_inputs, names_of_outputs}
 use Rattle.lw_mapped.proofs.Items.{named_gate, port_wire}
 use Rattle.lw_frame.proofs.Each.{each-of, each-append}
-use Rattle.lw_netlist.proofs.Found.{contains-among}
+use Rattle.lw_named_netlist.proofs.Found.{contains-among}
 
 -- Names that differ.
 

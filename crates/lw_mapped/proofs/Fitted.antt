@@ -12,9 +12,9 @@ use Rattle.lw_pool.specs.declared.latch.Frame.{Frame}
 use Rattle.lw_frame.specs.Frames.{Fits, input_names}
 use Rattle.lw_frame.specs.Starts.{IsEarly, StartsFit}
 use Rattle.lw_frame.proofs.Fitting.{frame_fits, starts_fit}
-use Rattle.lw_netlist.specs.declared.draft.DraftGate.{DraftGate}
-use Rattle.lw_netlist.specs.declared.draft.GateDraft.{GateDraft}
-use Rattle.lw_netlist.specs.Closing.{IsClosed, by_depth, out_of, port_at}
+use Rattle.lw_named_netlist.specs.declared.draft.DraftGate.{DraftGate}
+use Rattle.lw_named_netlist.specs.declared.draft.GateDraft.{GateDraft}
+use Rattle.lw_named_netlist.specs.Closing.{IsClosed, by_depth, out_of, port_at}
 use Rattle.lw_netlist.specs.Netlists.{NetlistParts}
 use Rattle.lw_netlist.specs.declared.gate.Gate.{Gate}
 use Rattle.lw_mapped.specs.declared.certificate.Certificate.{Certificate}

@@ -13,7 +13,7 @@ use Rattle.std.proofs.lemmas.Option.{slice_get-map}
 use Rattle.lw_facts.proofs.Lists.{bytes_eq_same}
 use Rattle.lw_pool.specs.declared.id.NetId.{NetId}
 use Rattle.lw_genlib.specs.Cells.{CellParts, IsListed, IsPinName, IsLibrary, names_of}
-use Rattle.lw_netlist.specs.declared.draft.DraftGate.{DraftGate}
+use Rattle.lw_named_netlist.specs.declared.draft.DraftGate.{DraftGate}
 use Rattle.lw_netlist.specs.declared.gate.Gate.{Gate}
 use Rattle.lw_mapped.specs.declared.fault.MappedKind.{MappedKind}
 use Rattle.lw_mapped.specs.declared.fault.MappedKind.TheVariants as kind

@@ -10,8 +10,8 @@ use Rattle.lw_pool.specs.declared.id.ClassId.{ClassId}
 use Rattle.lw_pool.specs.declared.latch.Frame.{Frame}
 use Rattle.lw_pool.specs.declared.latch.Latch.{Latch}
 use Rattle.lw_genlib.specs.Cells.{CellParts}
-use Rattle.lw_netlist.specs.declared.draft.DraftGate.{DraftGate}
-use Rattle.lw_netlist.specs.declared.draft.Wire.{Wire}
+use Rattle.lw_named_netlist.specs.declared.draft.DraftGate.{DraftGate}
+use Rattle.lw_named_netlist.specs.declared.draft.Wire.{Wire}
 use Rattle.lw_netlist.specs.declared.gate.Gate.{Gate}
 use Rattle.lw_netlist.specs.declared.gate.Port.{Port}
 use Rattle.lw_netlist.specs.Netlists.{NetlistParts}

@@ -12,13 +12,13 @@ use Rattle.lw_facts.proofs.Lists.{at_contained}
 use Rattle.lw_laws.proofs.Numbers.{slice_get_map_back}
 use Rattle.lw_pool.specs.declared.id.NetId.{NetId}
 use Rattle.lw_genlib.specs.Cells.{CellParts}
-use Rattle.lw_netlist.specs.declared.draft.DraftGate.{DraftGate}
-use Rattle.lw_netlist.specs.declared.draft.GateDraft.{GateDraft}
-use Rattle.lw_netlist.specs.declared.draft.Wire.{Wire}
+use Rattle.lw_named_netlist.specs.declared.draft.DraftGate.{DraftGate}
+use Rattle.lw_named_netlist.specs.declared.draft.GateDraft.{GateDraft}
+use Rattle.lw_named_netlist.specs.declared.draft.Wire.{Wire}
 use Rattle.lw_netlist.specs.declared.gate.Gate.{Gate}
 use Rattle.lw_netlist.specs.declared.gate.Port.{Port}
-use Rattle.lw_netlist.specs.Closing.{IsClosed, IsNetNamed, IsOfCell, by_depth, closed_gate, drivers, greatest, out_of, port_at}
-use Rattle.lw_netlist.specs.Closing.IsNetNamed.{at_input, at_gate, at_wire}
+use Rattle.lw_named_netlist.specs.Closing.{IsClosed, IsNetNamed, IsOfCell, by_depth, closed_gate, drivers, greatest, out_of, port_at}
+use Rattle.lw_named_netlist.specs.Closing.IsNetNamed.{at_input, at_gate, at_wire}
 use Rattle.lw_netlist.specs.Netlists.{IsGateAt, IsNetlist, NetlistParts}
 use Rattle.lw_netlist.specs.Plain.{HasCell, IsOver}
 use Rattle.lw_mapped.proofs.ClosedOnce.{at-most, gate-known, moved, nets-once, out-known, outputs-known, pins-known, ranked}

@@ -14,15 +14,15 @@ use Rattle.lw_laws.specs.Netlists.{AreNetDepths}
 use Rattle.lw_laws.specs.Networks.{greatest_depth}
 use Rattle.lw_laws.proofs.Numbers.{slice_get_map_back}
 use Rattle.lw_pool.specs.declared.id.NetId.{NetId}
-use Rattle.lw_netlist.specs.declared.draft.DraftGate.{DraftGate}
-use Rattle.lw_netlist.specs.declared.draft.GateDraft.{GateDraft}
-use Rattle.lw_netlist.specs.declared.draft.Wire.{Wire}
-use Rattle.lw_netlist.specs.Closing.{IsClosed, IsNetNamed, by_depth, closed_gate, drivers, greatest, netlist_in, out_of, port_at}
-use Rattle.lw_netlist.specs.Closing.IsNetNamed.{at_input, at_gate, at_wire}
+use Rattle.lw_named_netlist.specs.declared.draft.DraftGate.{DraftGate}
+use Rattle.lw_named_netlist.specs.declared.draft.GateDraft.{GateDraft}
+use Rattle.lw_named_netlist.specs.declared.draft.Wire.{Wire}
+use Rattle.lw_named_netlist.specs.Closing.{IsClosed, IsNetNamed, by_depth, closed_gate, drivers, greatest, netlist_in, out_of, port_at}
+use Rattle.lw_named_netlist.specs.Closing.IsNetNamed.{at_input, at_gate, at_wire}
 use Rattle.lw_netlist.specs.Netlists.{NetlistParts}
 use Rattle.lw_netlist.specs.Plain.{plain, plain_gate, plain_port}
-use Rattle.lw_netlist.proofs.Names.{to_of}
-use Rattle.lw_netlist.proofs.Starting.{bare_gate}
+use Rattle.lw_named_netlist.proofs.Names.{to_of}
+use Rattle.lw_named_netlist.proofs.Starting.{bare_gate}
 use Rattle.lw_mapped.specs.Readable.{IsNamed, ports_of}
 use Rattle.lw_mapped.proofs.ClosedOnce.{gate-known, keys-distinct, moved, outputs-known, pins-known, start-alone, start-or-wire}
 use Rattle.lw_mapped.proofs.Driving.{each-map}

@@ -4,7 +4,7 @@ use Rattle.std.specs.Prelude.{slice_get}
 use Rattle.std.specs.List.{IsDistinct}
 use Rattle.std.specs.Str.{bytes_eq}
 use Rattle.std.proofs.lemmas.Option.{slice_get_within, get_or_from_slice_get}
-use Rattle.lw_netlist.specs.Numbered.{number_in}
+use Rattle.lw_named_netlist.specs.Numbered.{number_in}
 use Rattle.lw_dag.proofs.Numbering.{number_at}
 
 -- the place of a name among names that differ

@@ -11,10 +11,10 @@ use Rattle.lw_frame.specs.Frames.{each_once, input_names, root_names}
 use Rattle.lw_frame.specs.Starts.{starts_of, start_of, at_once}
 use Rattle.lw_frame.proofs.Once.{once-distinct}
 use Rattle.lw_genlib.specs.Cells.{CellParts}
-use Rattle.lw_netlist.specs.declared.draft.GateDraft.{GateDraft}
+use Rattle.lw_named_netlist.specs.declared.draft.GateDraft.{GateDraft}
 use Rattle.lw_netlist.specs.declared.gate.Gate.{Gate}
 use Rattle.lw_netlist.specs.declared.gate.Port.{Port}
-use Rattle.lw_netlist.specs.Closing.{IsClosed}
+use Rattle.lw_named_netlist.specs.Closing.{IsClosed}
 use Rattle.lw_netlist.specs.Netlists.{NetlistParts}
 use Rattle.lw_netlist.specs.Plain.{HasCell, port_name}
 use Rattle.lw_pool.specs.declared.latch.Frame.{Frame}

@@ -10,12 +10,12 @@ use Rattle.lw_pool.specs.declared.id.ClassId.{ClassId}
 use Rattle.lw_frame.specs.Frames.{root_names, frame_of, input_names}
 use Rattle.lw_frame.specs.Starts.{starts_of}
 use Rattle.lw_genlib.specs.Cells.{CellParts}
-use Rattle.lw_netlist.specs.declared.draft.GateDraft.{GateDraft}
-use Rattle.lw_netlist.specs.declared.fault.NetlistFault.{NetlistFault}
-use Rattle.lw_netlist.specs.declared.fault.NetlistFault.TheVariants as whole
+use Rattle.lw_named_netlist.specs.declared.draft.GateDraft.{GateDraft}
+use Rattle.lw_named_netlist.specs.declared.fault.NetlistFault.{NetlistFault}
+use Rattle.lw_named_netlist.specs.declared.fault.NetlistFault.TheVariants as whole
 use Rattle.lw_netlist.specs.declared.gate.Gate.{Gate}
 use Rattle.lw_netlist.specs.Netlists.{NetlistParts}
-use Rattle.lw_netlist.specs.Closing.{IsClosed, HasFault}
+use Rattle.lw_named_netlist.specs.Closing.{IsClosed, HasFault}
 use Rattle.lw_mapped.specs.declared.closing.Mapped.{Mapped}
 use Rattle.lw_mapped.specs.declared.fault.MappedFault.{MappedFault}
 use Rattle.lw_mapped.specs.declared.fault.MappedFault.TheVariants as fault

@@ -6,7 +6,7 @@ ghost use Rattle.indexmap.specs.IndexMap.{get};
 ghost use Rattle.indexmap.specs.IndexSet.{index_set_len};
 ghost use Rattle.lw_frame.specs.Frames.{input_names, root_names};
 ghost use Rattle.lw_netlist.specs.declared.gate.Gate.{Gate as NetGate};
-ghost use Rattle.lw_netlist.specs.Closing.{IsGateDraft};
+ghost use Rattle.lw_named_netlist.specs.Closing.{IsGateDraft};
 ghost use Rattle.lw_netlist.specs.Plain.{IsOver};
 ghost use Rattle.lw_mapped.specs.Texts.{net_name};
 ghost use Rattle.lw_mapped.specs.Made.{IsMade, TellsWhole};
@@ -17,7 +17,8 @@ use indexmap::{IndexMap, IndexSet};
 use lw_fixed::Micros;
 use lw_frame::add_roots;
 use lw_genlib::Library;
-use lw_netlist::{DraftGates, Gate, GateDraft, Netlist, Wires};
+use lw_named_netlist::{DraftGates, GateDraft, Wires, close};
+use lw_netlist::{Gate, Netlist};
 use lw_pool::{ClassId, Frame, Latch, Name, Names};
 use std::alloc::{AllocError, Global};
 
@@ -174,7 +175,7 @@ fn closed(
     ensures over { IfOk result (λ mapped. IsOver lib.now mapped.netlist) }
     ensures fault { IfErr result (TellsWhole draft) }
 {
-    let netlist = Netlist::close(alloc, draft, lib)?;
+    let netlist = close(alloc, draft, lib)?;
     let Ok(nets) = classes_of(alloc, netlist.names(), netlist.gates(), nets) else {
         drop(netlist);
         return Err(MappedFault::Memory);

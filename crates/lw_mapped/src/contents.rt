@@ -10,7 +10,7 @@ use crate::{MappedKind, Refusal, Saying};
 use indexmap::{IndexMap, IndexSet};
 use lw_fixed::Micro;
 use lw_frame::Arrivals;
-use lw_netlist::{DraftGates, Wires};
+use lw_named_netlist::{DraftGates, Wires};
 use lw_pool::{ClassId, Latches, Name, Names};
 use std::alloc::{AllocError, Global};
 

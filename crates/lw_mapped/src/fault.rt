@@ -1,6 +1,6 @@
 // The rules that a line may break, and why a text is no mapped netlist.
 use lw_fixed::DecimalFault;
-use lw_netlist::NetlistFault;
+use lw_named_netlist::NetlistFault;
 use std::alloc::AllocError;
 use thiserror::Error;
 

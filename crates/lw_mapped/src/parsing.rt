@@ -17,7 +17,7 @@ use itoa::Buffer;
 use lw_fixed::{are_digits, read};
 use lw_frame::read_start;
 use lw_genlib::Library;
-use lw_netlist::Wire;
+use lw_named_netlist::Wire;
 use lw_pool::{ClassId, Latch};
 use lw_words::{Words, is, is_name};
 use std::alloc::Global;

@@ -1,6 +1,6 @@
 // What a line of a mapped text may say.
 use lw_fixed::Micro;
-use lw_netlist::{SpelledGate, Wire};
+use lw_named_netlist::{SpelledGate, Wire};
 use lw_pool::{ClassId, Latch, Name, Names};
 
 /// What a line says.

@@ -9,7 +9,7 @@ ghost use Rattle.lw_words.specs.Words.{is_among};
 
 use crate::MappedKind;
 use lw_genlib::Cell;
-use lw_netlist::SpelledGate;
+use lw_named_netlist::SpelledGate;
 use lw_pool::{CellId, Name};
 use lw_words::{Words, is_name};
 use std::alloc::{AllocError, Global};

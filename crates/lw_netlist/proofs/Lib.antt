@@ -1,16 +1,4 @@
-pub mod Assembled
-pub mod Chains
-pub mod Closed
 pub mod Filling
-pub mod Found
-pub mod Growing
 pub mod Latest
-pub mod Moving
-pub mod Names
 pub mod NetValues
-pub mod Paths
 pub mod Pins
-pub mod Places
-pub mod Settling
-pub mod Spelling
-pub mod Starting

@@ -1,10 +1,3 @@
-pub mod Chains
-pub mod Closing
 pub mod Filling
 pub mod Netlists
-pub mod Numbered
-pub mod Ordering
-pub mod Placing
 pub mod Plain
-pub mod Spelled
-pub mod Starting

@@ -1,42 +1,21 @@
-//! Netlists of library cells: their gates, the values of their nets, and when these arrive, and how
-//! they are closed from drafts by names.
+//! Netlists of library cells: their gates, the values of their nets, and when these arrive.
 //!
-//! In comes a draft, whose nets are known by names. Out comes the netlist of it, whose nets are
-//! numbers and whose gates stand by depth, or the fault of the draft. The modules in order:
+//! In come gates, each a cell with the nets of its pins, and outputs. The nets are the inputs, in
+//! order, and then what the gates drive, in order. Out come the value and the arrival of each net.
+//! The modules in order:
 //!
 //! * `gate`, `netlist`: gates and outputs, and the netlist of them (`Netlist`);
-//! * `values`, `arrivals`: the values of nets, and when they arrive;
-//! * `draft`, `fault`: what comes in, and why it is no netlist;
-//! * `spelled`, `spelled_names`, `buckets`, `signals`: names in rows of bytes, and their numbers;
-//! * `graph`, `naming`: what is kept of a draft, with numbers in place of names;
-//! * `levels`, `placing`: how deep the gates are, and the netlist with the gates in their places;
-//! * `closing`, `close`: from a draft to the netlist (`Netlist::close`).
+//! * `values`, `arrivals`: the values of nets, and when they arrive.
 //!
-//! The one definition to read is `IsClosed` in `specs/Closing.antt`. `lw_mapped` and `lw_verilog`
-//! close what they read.
+//! The definitions to read are `IsNetlist` in `specs/Netlists.antt` and `plain` in
+//! `specs/Plain.antt`. `lw_extract` and `lw_trade` make netlists, `lw_named_netlist` closes them
+//! from drafts by names, and all that writes or looks at a netlist reads them.
 #![tactic(auto)]
 
 mod arrivals;
-mod buckets;
-mod close;
-mod closing;
-mod draft;
-mod fault;
 mod gate;
-mod graph;
-mod levels;
-mod naming;
 mod netlist;
-mod placing;
-mod signals;
-mod spelled;
-mod spelled_names;
 mod values;
 
-pub use draft::{DraftGate, DraftGates, GateDraft, Wire, Wires};
-pub use fault::NetlistFault;
 pub use gate::{Gate, Gates, Port, PortList};
 pub use netlist::Netlist;
-pub use signals::Signals;
-pub use spelled::SpelledGate;
-pub use spelled_names::SpelledNames;

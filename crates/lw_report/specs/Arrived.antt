@@ -1,7 +1,7 @@
 -- A netlist with the times at which its nets arrive, and the paths in it.
 use Rattle.std.specs.Prelude.{ℕ, ◌≡◌, ◌<◌, ◌^◌, List, All, length, map}
 use Rattle.lw_genlib.specs.Tables.{millionths}
-use Rattle.lw_netlist.specs.Closing.{greatest}
+use Rattle.lw_dag.specs.Ordering.{greatest}
 use Rattle.lw_netlist.specs.Plain.{IsOver}
 use Rattle.lw_report.specs.declared.path.Link.{Link}
 use Rattle.lw_report.specs.declared.step.Step.{Step}

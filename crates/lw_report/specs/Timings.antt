@@ -11,7 +11,7 @@ use Rattle.lw_genlib.specs.Cells.{CellParts}
 use Rattle.lw_genlib.specs.Tables.{timing_of, delays_of_cells}
 use Rattle.lw_netlist.specs.declared.gate.Gate.{Gate}
 use Rattle.lw_netlist.specs.declared.gate.Port.{Port}
-use Rattle.lw_netlist.specs.Closing.{greatest}
+use Rattle.lw_dag.specs.Ordering.{greatest}
 use Rattle.lw_netlist.specs.Netlists.{NetlistParts}
 use Rattle.lw_netlist.specs.Plain.{plain}
 use Rattle.lw_report.specs.declared.step.Step.{Step}

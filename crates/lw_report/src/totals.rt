@@ -2,7 +2,7 @@
 ghost use Rattle.std.specs.Prelude.{◌≡◌, ◌<◌, ◌≤◌, Some, max, map, length, slice_get, All};
 ghost use Rattle.lw_genlib.specs.Cells.{IsListed};
 ghost use Rattle.lw_genlib.specs.Tables.{millionths};
-ghost use Rattle.lw_netlist.specs.Closing.{greatest};
+ghost use Rattle.lw_dag.specs.Ordering.{greatest};
 ghost use Rattle.lw_netlist.specs.Netlists.{IsNetlist, most_gates};
 ghost use Rattle.lw_netlist.specs.Plain.{HasCell};
 ghost use Rattle.lw_report.specs.Timings as report;

@@ -5,7 +5,7 @@ use Rattle.lw_genlib.specs.Cells.{CellParts}
 use Rattle.lw_blif.specs.declared.parsed.Parsed.{Parsed}
 use Rattle.lw_mapped.specs.declared.closing.Mapped.{Mapped as MappedParts}
 use Rattle.lw_netlist.specs.Netlists.{NetlistParts}
-use Rattle.lw_netlist.specs.declared.fault.NetlistFault.TheVariants as netlist
+use Rattle.lw_named_netlist.specs.declared.fault.NetlistFault.TheVariants as netlist
 use Rattle.lw_verilog.specs.declared.fault.VerilogFault.TheVariants as verilog_fault
 use Rattle.lw_verilog.specs.Verdicts.{IsRead}
 use Rattle.lw_report.specs.Vectors.{first_fault, vector_of}

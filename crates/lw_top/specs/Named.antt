@@ -1,8 +1,8 @@
 -- What the calls that read no file answer, what is known of what was read, and the text of an answer.
 use Rattle.std.specs.Prelude.{ℕ, ◌≡◌, Bool, List, None, Result, Ok, Err}
 use Rattle.lw_words.specs.Lines.{LogicalLine}
-use Rattle.lw_netlist.specs.declared.fault.NetlistFault.{NetlistFault}
-use Rattle.lw_netlist.specs.declared.fault.NetlistFault.TheVariants as netlist
+use Rattle.lw_named_netlist.specs.declared.fault.NetlistFault.{NetlistFault}
+use Rattle.lw_named_netlist.specs.declared.fault.NetlistFault.TheVariants as netlist
 use Rattle.lw_mapped.specs.Texts.{mapped_text}
 use Rattle.lw_report.specs.declared.vectors.Vectors.{Vectors}
 use Rattle.lw_report.specs.Blocks.{vectors_in}

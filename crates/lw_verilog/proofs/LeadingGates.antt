@@ -10,10 +10,10 @@ use Rattle.std.proofs.lemmas.Option.{slice_get-map}
 use Rattle.lw_facts.proofs.Lists.{bytes_eq_same}
 use Rattle.lw_pool.specs.declared.id.NetId.{NetId}
 use Rattle.lw_genlib.specs.Cells.{CellParts, IsLibrary, names_of}
-use Rattle.lw_netlist.specs.declared.draft.DraftGate.{DraftGate}
+use Rattle.lw_named_netlist.specs.declared.draft.DraftGate.{DraftGate}
 use Rattle.lw_netlist.specs.declared.gate.Gate.{Gate}
 use Rattle.lw_netlist.specs.declared.gate.Port.{Port}
-use Rattle.lw_netlist.specs.Closing.{is_among}
+use Rattle.lw_named_netlist.specs.Closing.{is_among}
 use Rattle.lw_mapped.specs.GateLines.{is_formal}
 use Rattle.lw_mapped.specs.Texts.{net_name}
 use Rattle.lw_mapped.proofs.CellLemmas.{found-at}

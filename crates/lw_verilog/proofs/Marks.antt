@@ -10,7 +10,7 @@ use Rattle.std.proofs.lemmas.Grind.{get_or-set_at}
 use Rattle.std.proofs.lemmas.List.{get_or-set_other, length-set, take_more}
 use Rattle.std.proofs.lemmas.List.Folds.{list_any-append}
 use Rattle.lw_facts.proofs.Lists.{bytes_differ}
-use Rattle.lw_netlist.specs.Closing.{is_among}
+use Rattle.lw_named_netlist.specs.Closing.{is_among}
 use Rattle.lw_verilog.specs.Texts.{instance_name}
 use Rattle.lw_verilog.specs.Windows.{Raises, most_flagged}
 use Rattle.lw_frame.proofs.GoodWords.{numerals}

@@ -1,7 +1,7 @@
 -- A text comes to one outcome.
 use Rattle.std.proofs.Common.{◌≢◌, List, Result, Ok, Err, refl, ap, sym, ◌∙◌}
 use Rattle.lw_genlib.specs.Cells.{CellParts}
-use Rattle.lw_netlist.specs.declared.draft.GateDraft.{GateDraft}
+use Rattle.lw_named_netlist.specs.declared.draft.GateDraft.{GateDraft}
 use Rattle.lw_netlist.specs.Netlists.{NetlistParts}
 use Rattle.lw_mapped.proofs.ClosedOnce.{closed-once}
 use Rattle.lw_verilog.specs.declared.fault.VerilogFault.{VerilogFault}

@@ -11,9 +11,9 @@ use Rattle.std.proofs.lemmas.Grind.{get_or-set_at}
 use Rattle.std.proofs.lemmas.Bool.{and_right, cases_eq}
 use Rattle.lw_facts.proofs.Lists.{bytes_eq_is, bytes_eq_same}
 use Rattle.std.proofs.lemmas.List.Folds.{list_any-append}
-use Rattle.lw_netlist.specs.Chains.{name_at}
-use Rattle.lw_netlist.specs.Closing.{is_among, twice_after}
-use Rattle.lw_netlist.proofs.Found.{found-number}
+use Rattle.lw_named_netlist.specs.Chains.{name_at}
+use Rattle.lw_named_netlist.specs.Closing.{is_among, twice_after}
+use Rattle.lw_named_netlist.proofs.Found.{found-number}
 
 module _ (header : List (List ℕ)) (place : ℕ) (name : List ℕ) (from : 1 ≤ place) (here : slice_get header place ≡ Some name) where
   abbrev seen : List (List ℕ)

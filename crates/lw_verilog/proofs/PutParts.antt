@@ -11,7 +11,7 @@ use Rattle.lw_io.proofs.Putting.{Writes-both}
 use Rattle.lw_pool.specs.declared.id.NetId.{NetId}
 use Rattle.lw_genlib.specs.Cells.{CellParts}
 use Rattle.lw_netlist.specs.declared.gate.Gate.{Gate}
-use Rattle.lw_netlist.specs.Closing.{is_among}
+use Rattle.lw_named_netlist.specs.Closing.{is_among}
 use Rattle.lw_mapped.specs.Texts.{net_name}
 use Rattle.lw_verilog.specs.Texts.{begins_u, escaped, further, joined, gate_text, gates_text, instance_name, passed, pins_text, tie_text}
 

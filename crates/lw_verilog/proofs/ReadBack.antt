@@ -5,10 +5,10 @@ use Rattle.std.specs.List.{flat_map}
 use Rattle.std.proofs.lemmas.Grind.{flat_map-append}
 use Rattle.std.proofs.lemmas.List.{length-map}
 use Rattle.lw_genlib.specs.Cells.{CellParts}
-use Rattle.lw_netlist.specs.declared.draft.DraftGate.{DraftGate}
-use Rattle.lw_netlist.specs.declared.draft.GateDraft.{GateDraft}
-use Rattle.lw_netlist.specs.declared.draft.Wire.{Wire}
-use Rattle.lw_netlist.specs.Closing.{IsClosed}
+use Rattle.lw_named_netlist.specs.declared.draft.DraftGate.{DraftGate}
+use Rattle.lw_named_netlist.specs.declared.draft.GateDraft.{GateDraft}
+use Rattle.lw_named_netlist.specs.declared.draft.Wire.{Wire}
+use Rattle.lw_named_netlist.specs.Closing.{IsClosed}
 use Rattle.lw_netlist.specs.Netlists.{NetlistParts}
 use Rattle.lw_mapped.specs.Texts.{names_of_inputs, names_of_outputs}
 use Rattle.lw_mapped.proofs.ClosingBack.{closed-back}

@@ -2,7 +2,7 @@
 use Rattle.std.proofs.Common.{ℕ, ◌≡◌, Bool, true, false, cond, List, Option, Some, None, refl}
 use Rattle.std.specs.Option.{option_or}
 use Rattle.lw_genlib.specs.Cells.{CellParts}
-use Rattle.lw_netlist.specs.Closing.{is_among}
+use Rattle.lw_named_netlist.specs.Closing.{is_among}
 use Rattle.lw_verilog.specs.declared.fault.VerilogKind.{VerilogKind}
 use Rattle.lw_verilog.specs.declared.fault.VerilogKind.TheVariants as kind
 use Rattle.lw_verilog.specs.declared.place.Task.TheVariants as task

@@ -14,7 +14,7 @@ use Rattle.lw_pool.specs.declared.id.NetId.{NetId}
 use Rattle.lw_genlib.specs.Cells.{CellParts, IsListed, IsPinName}
 use Rattle.lw_netlist.specs.declared.gate.Gate.{Gate}
 use Rattle.lw_netlist.specs.declared.gate.Port.{Port}
-use Rattle.lw_netlist.specs.Closing.{is_among, out_of, twice_after}
+use Rattle.lw_named_netlist.specs.Closing.{is_among, out_of, twice_after}
 use Rattle.lw_netlist.specs.Netlists.{NetlistParts}
 use Rattle.lw_netlist.specs.Plain.{HasCell, port_name}
 use Rattle.lw_mapped.specs.Texts.{net_name, names_of_inputs, names_of_outputs}

@@ -1,7 +1,7 @@
 -- Chains of the places of names, by which an output's name is found among those of nets.
 use Rattle.std.specs.Prelude.{ℕ, ◌≡◌, ◌<◌, ◌≤◌, ◌+◌, ◌*◌, ◌%◌, Bool, false, List, [], ◌∷◌, length, slice_index_or}
-pub use Rattle.lw_netlist.specs.Chains.{AreChains, name_at}
-use Rattle.lw_netlist.specs.Closing.{is_among}
+pub use Rattle.lw_named_netlist.specs.Chains.{AreChains, name_at}
+use Rattle.lw_named_netlist.specs.Closing.{is_among}
 
 -- how many nets have flags at a time, and how many buckets there are
 abbrev pub known_width : ℕ

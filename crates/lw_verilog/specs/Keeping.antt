@@ -1,7 +1,7 @@
 -- What is kept of the tokens that were read.
 use Rattle.std.specs.Prelude.{ℕ, ◌+◌, ◌≡◌, ◌≤◌, ◌++◌, false, List, drop, length, Option, Some, None, Result, Ok, Err, ⊤}
 use Rattle.lw_genlib.specs.Cells.{CellParts}
-use Rattle.lw_netlist.specs.declared.draft.GateDraft.{GateDraft}
+use Rattle.lw_named_netlist.specs.declared.draft.GateDraft.{GateDraft}
 use Rattle.lw_verilog.specs.declared.contents.Contents.{Contents}
 use Rattle.lw_verilog.specs.declared.fault.Refusal.{Refusal}
 use Rattle.lw_verilog.specs.declared.fault.Refusal.TheVariants as refusal

@@ -1,7 +1,7 @@
 -- Flags of the declared ports that a header lists.
 use Rattle.std.specs.Prelude.{ℕ, ◌≡◌, ◌&&◌, Bool, true, List, [], drop, is_none}
 use Rattle.std.specs.List.{list_all}
-use Rattle.lw_netlist.specs.Closing.{is_among, twice_after}
+use Rattle.lw_named_netlist.specs.Closing.{is_among, twice_after}
 
 -- It is told whether the names behind the first of the header differ and are all declared. If so, the flags are raised
 -- of those that are declared and stand there.

@@ -4,7 +4,7 @@ use Rattle.std.specs.Prelude.{Some, None, Result, Ok, Err, if◌then◌else◌}
 use Rattle.std.specs.List.{list_all, list_any}
 use Rattle.std.specs.Option.{option_or}
 use Rattle.lw_genlib.specs.Cells.{CellParts, names_of}
-use Rattle.lw_netlist.specs.Closing.{is_among, twice_after}
+use Rattle.lw_named_netlist.specs.Closing.{is_among, twice_after}
 use Rattle.lw_mapped.specs.GateLines.{is_formal}
 use Rattle.lw_verilog.specs.declared.fault.VerilogKind.{VerilogKind}
 use Rattle.lw_verilog.specs.declared.fault.VerilogKind.TheVariants as kind

@@ -7,7 +7,7 @@ use Rattle.lw_pool.specs.declared.id.NetId.{NetId}
 use Rattle.lw_genlib.specs.Cells.{CellParts}
 use Rattle.lw_netlist.specs.declared.gate.Gate.{Gate}
 use Rattle.lw_netlist.specs.declared.gate.Port.{Port}
-use Rattle.lw_netlist.specs.Closing.{is_among}
+use Rattle.lw_named_netlist.specs.Closing.{is_among}
 use Rattle.lw_netlist.specs.Netlists.{NetlistParts}
 use Rattle.lw_verilog.specs.Pieces.{stroke}
 use Rattle.lw_mapped.specs.Texts.{net_name, names_of_inputs, names_of_outputs}

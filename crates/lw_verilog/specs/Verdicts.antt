@@ -1,11 +1,11 @@
 -- What a text comes to: one netlist, or one fault.
 use Rattle.std.specs.Prelude.{ℕ, ◌≡◌, List, Result, Ok, Err, ⊤}
 use Rattle.lw_genlib.specs.Cells.{CellParts}
-use Rattle.lw_netlist.specs.declared.draft.GateDraft.{GateDraft}
-use Rattle.lw_netlist.specs.declared.fault.NetlistFault.{NetlistFault}
-use Rattle.lw_netlist.specs.declared.fault.NetlistFault.TheVariants as whole
+use Rattle.lw_named_netlist.specs.declared.draft.GateDraft.{GateDraft}
+use Rattle.lw_named_netlist.specs.declared.fault.NetlistFault.{NetlistFault}
+use Rattle.lw_named_netlist.specs.declared.fault.NetlistFault.TheVariants as whole
 use Rattle.lw_netlist.specs.Netlists.{NetlistParts}
-use Rattle.lw_netlist.specs.Closing.{IsClosed}
+use Rattle.lw_named_netlist.specs.Closing.{IsClosed}
 use Rattle.lw_verilog.specs.declared.fault.VerilogFault.{VerilogFault}
 use Rattle.lw_verilog.specs.declared.fault.VerilogFault.TheVariants as fault
 use Rattle.lw_verilog.specs.Readings.{FaultAt, Reading, nothing_read, read}

@@ -1,7 +1,7 @@
 -- Flags for a run of numbers.
 use Rattle.std.specs.Prelude.{ℕ, Option, MatchOption, ◌≡◌, ◌≢◌, ◌<◌, ◌≤◌, ◌+◌, ◌||◌, ◌^◌, Bool, false, List, length}
 use Rattle.std.specs.Prelude.{slice_index_or}
-use Rattle.lw_netlist.specs.Closing.{is_among}
+use Rattle.lw_named_netlist.specs.Closing.{is_among}
 use Rattle.lw_verilog.specs.Texts.{instance_name}
 
 -- how many numbers have flags at a time

@@ -1,6 +1,6 @@
 // What the tokens that were read say together.
 ghost use Rattle.std.specs.Prelude.{◌≡◌, ◌<◌, ◌++◌, [], ◌∷◌, false, None, length, IfOk, OnOk};
-ghost use Rattle.lw_netlist.specs.Closing.{is_among};
+ghost use Rattle.lw_named_netlist.specs.Closing.{is_among};
 ghost use Rattle.lw_verilog.specs.Readings.{cell_in, missing_fault};
 ghost use Rattle.lw_verilog.specs.Statements.{gate_by, model_of, ties_in, wire_by};
 ghost use Rattle.lw_verilog.specs.Tokens.{name_of};
@@ -13,7 +13,7 @@ use crate::rules::{
 };
 use crate::{Kind, Place, Refusal, Task, VerilogKind};
 use lw_genlib::Library;
-use lw_netlist::{DraftGates, GateDraft, Signals, SpelledNames, Wire, Wires};
+use lw_named_netlist::{DraftGates, GateDraft, Signals, SpelledNames, Wire, Wires};
 use lw_pool::{CellId, Name, Names};
 use std::alloc::{AllocError, Global};
 use std::mem;

@@ -1,5 +1,5 @@
 // The rules that a token may break, and why a text is no netlist.
-use lw_netlist::NetlistFault;
+use lw_named_netlist::NetlistFault;
 use std::alloc::AllocError;
 use thiserror::Error;
 

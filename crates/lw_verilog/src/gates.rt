@@ -7,7 +7,7 @@ ghost use Rattle.lw_verilog.specs.Statements.{gate_by, is_for, net_for, number_o
 
 use crate::rules::net_place;
 use lw_genlib::Library;
-use lw_netlist::{SpelledGate, SpelledNames};
+use lw_named_netlist::{SpelledGate, SpelledNames};
 use lw_pool::{CellId, Name};
 use std::alloc::{AllocError, Global};
 

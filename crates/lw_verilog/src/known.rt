@@ -1,7 +1,7 @@
 // Which nets have the name of an output.
 ghost use Rattle.std.specs.Prelude.{◌≡◌, ◌<◌, ◌≤◌, ◌+◌, ℕ, false, length, map, slice_index_or};
 ghost use Rattle.std.specs.Str.{bytes_eq};
-ghost use Rattle.lw_netlist.specs.Closing.{is_among};
+ghost use Rattle.lw_named_netlist.specs.Closing.{is_among};
 ghost use Rattle.lw_verilog.specs.Chains.{AreChained, HasRoom, bucket_of, known_width, name_at};
 ghost use Rattle.lw_verilog.specs.Named.{Knows};
 ghost use Rattle.lw_verilog.specs.Windows.{HasFlag, Raises};

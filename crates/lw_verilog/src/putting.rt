@@ -3,7 +3,7 @@ ghost use Rattle.std.specs.Prelude.{◌≡◌, ◌<◌, ◌∷◌, ◌++◌, [],
 ghost use Rattle.std.specs.Prelude.{MatchOption};
 ghost use Rattle.std.specs.List.{flat_map, list_any};
 ghost use Rattle.std.specs.Str.{bytes_eq};
-ghost use Rattle.lw_netlist.specs.Closing.{is_among};
+ghost use Rattle.lw_named_netlist.specs.Closing.{is_among};
 ghost use Rattle.lw_io.specs.Writers.{Writes};
 ghost use Rattle.lw_verilog.specs.Texts.{escaped, further, joined, next_name, declaration};
 ghost use Rattle.lw_verilog.specs.Texts.{wire_text, assignment, assignment_text};

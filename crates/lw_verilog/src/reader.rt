@@ -12,6 +12,7 @@ use crate::contents::Contents;
 use crate::pieces::first_piece;
 use crate::{Kind, Refusal, VerilogFault};
 use lw_genlib::Library;
+use lw_named_netlist::close;
 use lw_netlist::Netlist;
 use lw_pool::Bytes;
 use std::alloc::Global;
@@ -119,5 +120,5 @@ pub fn read_verilog(alloc: Global, bytes: &Bytes, lib: &Library) -> Result<Netli
         return Err(VerilogFault::Memory);
     };
     drop(contents);
-    Ok(Netlist::close(alloc, draft, lib)?)
+    Ok(close(alloc, draft, lib)?)
 }

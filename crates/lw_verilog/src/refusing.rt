@@ -3,7 +3,7 @@ ghost use Rattle.std.specs.Prelude.{◌≡◌, ◌<◌, ◌∷◌, [], None, Som
 ghost use Rattle.std.specs.Prelude.{IfOk, option_map};
 ghost use Rattle.std.specs.List.{flat_map, list_all, list_any};
 ghost use Rattle.std.specs.Option.{option_or};
-ghost use Rattle.lw_netlist.specs.Closing.{is_among};
+ghost use Rattle.lw_named_netlist.specs.Closing.{is_among};
 ghost use Rattle.lw_netlist.specs.Plain.{HasCell, IsOver, port_name};
 ghost use Rattle.lw_mapped.specs.Texts.{HasNames, names_of_inputs};
 ghost use Rattle.lw_verilog.specs.Pieces.{is_visible};

@@ -6,7 +6,7 @@ ghost use Rattle.std.specs.List.{list_all, list_any};
 ghost use Rattle.std.specs.Option.{option_or};
 ghost use Rattle.std.specs.Str.{bytes_eq};
 ghost use Rattle.lw_genlib.specs.Cells.{names_of};
-ghost use Rattle.lw_netlist.specs.Closing.{is_among};
+ghost use Rattle.lw_named_netlist.specs.Closing.{is_among};
 ghost use Rattle.lw_verilog.specs.Raising.{RaisesPorts};
 ghost use Rattle.lw_verilog.specs.Readings.{has_hash, name_fault, declared_fault, cell_fault};
 ghost use Rattle.lw_verilog.specs.Readings.{formal_fault, cell_in, gives_all, missing_fault};
@@ -15,7 +15,7 @@ ghost use Rattle.lw_verilog.specs.Statements.{IsNetPlace, first_name, is_for, nu
 
 use crate::VerilogKind;
 use lw_genlib::{Cell, Library};
-use lw_netlist::{Signals, SpelledNames};
+use lw_named_netlist::{Signals, SpelledNames};
 use lw_pool::{CellId, Name};
 use lw_words::is_name;
 use std::alloc::{AllocError, Global};

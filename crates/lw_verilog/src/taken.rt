@@ -4,7 +4,7 @@ ghost use Rattle.std.specs.Char.{is_ascii_digit};
 ghost use Rattle.std.specs.List.{list_all, list_any};
 ghost use Rattle.std.specs.Str.{bytes_eq};
 ghost use Rattle.std.specs.Str.Parse.{digits_value};
-ghost use Rattle.lw_netlist.specs.Closing.{is_among};
+ghost use Rattle.lw_named_netlist.specs.Closing.{is_among};
 ghost use Rattle.lw_verilog.specs.Texts.{begins_u, instance_name, passed};
 ghost use Rattle.lw_verilog.specs.Named.{names_in, Fits};
 ghost use Rattle.lw_verilog.specs.Windows.{AreTaken, HasFlag, IsNumberBy, Raises, most_flagged};

@@ -2,11 +2,11 @@ use Rattle.std.proofs.Common.{ℕ, List, map, refl, ap₂, ◌∙◌}
 use Rattle.std.specs.Str.{bytes_eq}
 use Rattle.indexmap.specs.IndexMap.{get}
 use Rattle.std.proofs.lemmas.Result.{err_from_is_err_and}
-use Rattle.lw_netlist.specs.declared.draft.GateDraft.{GateDraft}
-use Rattle.lw_netlist.specs.declared.fault.NetlistFault.{NetlistFault}
-use Rattle.lw_netlist.specs.declared.fault.NetlistFault.TheVariants as whole
+use Rattle.lw_named_netlist.specs.declared.draft.GateDraft.{GateDraft}
+use Rattle.lw_named_netlist.specs.declared.fault.NetlistFault.{NetlistFault}
+use Rattle.lw_named_netlist.specs.declared.fault.NetlistFault.TheVariants as whole
 use Rattle.lw_netlist.specs.declared.gate.Gate.{Gate}
-use Rattle.lw_netlist.specs.Closing.{HasFault}
+use Rattle.lw_named_netlist.specs.Closing.{HasFault}
 use Rattle.lw_mapped.specs.Made.{TellsWhole}
 use Rattle.lw_mapped.specs.Texts.{net_name}
 use Rattle.lw_mapped.specs.Unmapped.{whole_fault}

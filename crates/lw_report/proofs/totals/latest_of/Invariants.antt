@@ -1,6 +1,6 @@
 use Rattle.std.proofs.Common.{◌≡◌, max, map, drop}
 use Rattle.lw_genlib.specs.Tables.{millionths}
-use Rattle.lw_netlist.specs.Closing.{greatest}
+use Rattle.lw_dag.specs.Ordering.{greatest}
 use Rattle.lw_report.specs.Timings.{port_arrival}
 use Rattle.lw_report.proofs.totals.latest_of.Given as goal
 

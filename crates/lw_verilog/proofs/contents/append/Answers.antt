@@ -1,5 +1,5 @@
 use Rattle.std.proofs.Common.{Some, ap, sym, ◌∙◌}
-use Rattle.lw_netlist.proofs.Spelling.{copied-more}
+use Rattle.lw_named_netlist.proofs.Spelling.{copied-more}
 use Rattle.lw_verilog.proofs.contents.append.Goals as goal
 
 pub loop-place-preserved : goal.loop-place-preserved

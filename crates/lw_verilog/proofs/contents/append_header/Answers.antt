@@ -1,4 +1,4 @@
-use Rattle.lw_netlist.proofs.Spelling.{copied-more}
+use Rattle.lw_named_netlist.proofs.Spelling.{copied-more}
 use Rattle.lw_verilog.proofs.contents.append_header.Goals as goal
 
 pub loop-place-preserved : goal.loop-place-preserved

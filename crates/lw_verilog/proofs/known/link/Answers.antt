@@ -2,7 +2,7 @@ use Rattle.std.proofs.Common.{◌≡◌, ◌<◌, [], length, refl, ap, sym, ◌
 use Rattle.std.proofs.lemmas.List.{length-set, get_or_default}
 use Rattle.lw_verilog.specs.Chains.{AreChains, bucket_of, known_width}
 use Rattle.lw_verilog.proofs.Chains.{bucket_low}
-use Rattle.lw_netlist.proofs.Chains.{chains-more, chains-none}
+use Rattle.lw_named_netlist.proofs.Chains.{chains-more, chains-none}
 use Rattle.lw_verilog.proofs.known.link.Goals as goal
 
 pub loop-place-init : goal.loop-place-init

@@ -2,7 +2,7 @@ use Rattle.std.proofs.Common.{[], map, cond, codes, ap, ap₂, sym, ◌∙◌, a
 use Rattle.std.specs.List.{flat_map}
 use Rattle.std.proofs.lemmas.List.{get_or_default, take_all}
 use Rattle.lw_io.proofs.Putting.{Writes-more}
-use Rattle.lw_netlist.specs.Closing.{is_among}
+use Rattle.lw_named_netlist.specs.Closing.{is_among}
 use Rattle.lw_verilog.specs.Texts.{declaration, wire_text}
 use Rattle.lw_verilog.proofs.PutParts.{Writes-is}
 use Rattle.lw_verilog.proofs.putting.put_wires.Goals as goal

@@ -3,8 +3,8 @@ use Rattle.std.specs.Prelude.{is_none}
 use Rattle.std.specs.List.{list_all}
 use Rattle.std.proofs.lemmas.List.{drop_all, length-replicate, length-set}
 use Rattle.lw_facts.proofs.Lists.{falses_at}
-use Rattle.lw_netlist.specs.Chains.{name_at}
-use Rattle.lw_netlist.specs.Closing.{is_among, twice_after}
+use Rattle.lw_named_netlist.specs.Chains.{name_at}
+use Rattle.lw_named_netlist.specs.Closing.{is_among, twice_after}
 use Rattle.lw_verilog.proofs.Ports.{all-more, all-raised, flags-more, none-declared, none-once, none-seen, once-first, seen-all, seen-more, once-more}
 use Rattle.lw_verilog.proofs.rules.raise_ports.Goals as goal
 

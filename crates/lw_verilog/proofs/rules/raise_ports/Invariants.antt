@@ -1,7 +1,7 @@
 use Rattle.std.proofs.Common.{ℕ, ◌≡◌, ◌≤◌, ◌<◌, true, false, [], length, drop, get_or, take}
 use Rattle.std.specs.List.{list_all}
-use Rattle.lw_netlist.specs.Chains.{name_at}
-use Rattle.lw_netlist.specs.Closing.{is_among, twice_after}
+use Rattle.lw_named_netlist.specs.Chains.{name_at}
+use Rattle.lw_named_netlist.specs.Closing.{is_among, twice_after}
 use Rattle.lw_verilog.proofs.rules.raise_ports.Given as goal
 
 abbrev pub invariant-loop-place : goal.invariant-loop-place

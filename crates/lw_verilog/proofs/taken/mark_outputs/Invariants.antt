@@ -1,5 +1,5 @@
 use Rattle.std.proofs.Common.{◌+◌, map, take}
-use Rattle.lw_netlist.specs.Closing.{is_among}
+use Rattle.lw_named_netlist.specs.Closing.{is_among}
 use Rattle.lw_verilog.specs.Texts.{instance_name}
 use Rattle.lw_verilog.specs.Windows.{Raises}
 use Rattle.lw_verilog.proofs.taken.mark_outputs.Given as goal

@@ -1,0 +1,12 @@
+pub mod Assembled
+pub mod Chains
+pub mod Closed
+pub mod Found
+pub mod Growing
+pub mod Moving
+pub mod Names
+pub mod Paths
+pub mod Places
+pub mod Settling
+pub mod Spelling
+pub mod Starting
