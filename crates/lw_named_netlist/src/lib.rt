@@ -7,28 +7,28 @@
 //! * `spelled`, `spelled_names`, `buckets`, `signals`: names in rows of bytes, and their numbers;
 //! * `graph`, `naming`: what is kept of a draft, with numbers in place of names;
 //! * `levels`, `placing`: how deep the gates are, and the netlist with the gates in their places;
-//! * `closing`, `closed`: from a draft to the netlist (`close`).
+//! * `closing`, `making`: from a draft to the netlist (`close`).
 //!
 //! The one definition to read is `IsClosed` in `specs/Closing.antt`. `lw_mapped` and `lw_verilog`
 //! close what they read.
 #![tactic(auto)]
 
 mod buckets;
-mod closed;
 mod closing;
 mod draft;
 mod fault;
 mod graph;
 mod levels;
+mod making;
 mod naming;
 mod placing;
 mod signals;
 mod spelled;
 mod spelled_names;
 
-pub use closed::close;
 pub use draft::{DraftGate, DraftGates, GateDraft, Wire, Wires};
 pub use fault::NetlistFault;
+pub use making::close;
 pub use signals::Signals;
 pub use spelled::SpelledGate;
 pub use spelled_names::SpelledNames;

@@ -2,7 +2,7 @@ use Rattle.std.proofs.Common.{◌≡◌, ◌+◌, ◌-◌, length, take, drop, s
 use Rattle.std.specs.List.{range_with_len}
 use Rattle.lw_named_netlist.proofs.Moving.{cells_many}
 use Rattle.lw_named_netlist.proofs.Closed.{slice_is, slice_length, slice_least, is_placed, is_closed, is_over}
-use Rattle.lw_named_netlist.proofs.closed.close.Goals as goal
+use Rattle.lw_named_netlist.proofs.making.close.Goals as goal
 
 pub places_by-requires : goal.places_by-requires
 places_by-requires c =
