@@ -40,4 +40,5 @@ mod words;
 
 pub use laws::answers_are_tables;
 pub use lw_map::generate;
+pub use reasons::put_reason;
 pub use top::run;

@@ -64,7 +64,7 @@ fn put_value_reason<S: Sink>(out: &mut Writer<'_, S>, name: &Name, arrival: Micr
 }
 
 /// Writes why a check says no.
-pub(crate) fn put_reason<S: Sink>(out: &mut Writer<'_, S>, reason: &Reason)
+pub fn put_reason<S: Sink>(out: &mut Writer<'_, S>, reason: &Reason)
     ensures { Writes S.taken S.faults out.old out.new (reason_text reason.now) }
 {
     match reason {
