@@ -10,7 +10,6 @@ failing() { # CASE
     names_that_collide) echo '12 s' ;;
     names_of_networks_that_collide) echo '1.1 s' ;;
     cells_with_one_beginning) echo '4.8 s' ;;
-    functions_on_a_small_stack) echo 'a signal at 256 KB; they need 1 MB' ;;
     *) return 1 ;;
     esac
 }
@@ -266,10 +265,6 @@ cells_with_one_beginning() {
     answered 1 200 map LIB IN && sed -i 's/x*1000/inv/' out && holds_inverter out
 }
 
-functions_on_a_small_stack() {
-    deep_functions 256 && deep_functions_that_are_none 256
-}
-
 # Much of one kind
 
 files_of_empty_lines() {
@@ -380,6 +375,6 @@ most_nodes_with_each_library() {
 }
 
 costs='pins_that_repeat pins_that_repeat_with_latches pins_that_tie wide_nodes many_wide_nodes many_wide_nodes_of_two_cells
-    trade_of_wide_nodes trade_of_one_wide_node trade_in_little_memory names_that_collide names_of_networks_that_collide cells_with_one_beginning functions_on_a_small_stack
+    trade_of_wide_nodes trade_of_one_wide_node trade_in_little_memory names_that_collide names_of_networks_that_collide cells_with_one_beginning
     files_of_empty_lines nodes_of_many_rows many_inputs many_vectors cells_of_many_literals equal_nodes latches_of_one_input
     long_certificates long_chain_last_gate_first one_wire_often many_lines_of_one_kind most_nodes_with_each_library'

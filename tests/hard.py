@@ -7,7 +7,7 @@ import collide
 import compare
 
 # What fails today, and how. A kind of these is drawn only where it is named; the change that mends it takes it from here.
-FAILING = {"brackets": "over some 300 brackets end by a signal at 256 KB of stack"}
+FAILING = {}
 
 TWO = "GATE inv 1 O=!a;\nPIN * INV 1 999 1 0 1 0\nGATE nand2 2 O=!(a*b);\nPIN * INV 1 999 1.5 0 1.5 0\n"
 DELAYS = ["0", "0.5", "1", "1.5", "2", "0.000001"]

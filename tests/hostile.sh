@@ -82,7 +82,6 @@ stack() {
 # Nesting
 
 deep_functions() {
-    stack "${1:-8192}"
     inverter_files
     for function in "$(repeat 2045 '!')a" "$(repeat 1022 '(')!a$(repeat 1022 ')')" "a$(repeat 2045 "'")" \
         "$(repeat 681 '!(')a$(repeat 681 ')')"; do
@@ -93,7 +92,6 @@ deep_functions() {
 }
 
 deep_functions_that_are_none() {
-    stack "${1:-8192}"
     inverter_files
     for function in "$(repeat 2046 '(')" "$(repeat 2045 '(')a" "$(repeat 2046 ')')" "$(repeat 2046 '!')" "a$(repeat 1022 '+(')" \
         "$(repeat 1000 '(')a$(repeat 999 ')')"; do

@@ -24,7 +24,7 @@ record Front (Spells : List Token → Expr → Type 0) (follows : Token → Bool
   new : List ExprOp
   reads : Reads Spells follows depth tokens rest old new
 
-by_test : {A : Type 0} (b : Bool) → (b ≡ true → A) → (b ≡ false → A) → A
+pub by_test : {A : Type 0} (b : Bool) → (b ≡ true → A) → (b ≡ false → A) → A
 by_test true if_true if_false = if_true refl
 by_test false if_true if_false = if_false refl
 

@@ -14,6 +14,7 @@ mod Lines
 mod Listed
 mod Names
 mod Onward
+mod Opening
 mod Pieces
 mod Pins
 mod Plain
@@ -27,6 +28,7 @@ mod Standings
 mod Steps
 mod Strokes
 mod Tables
+mod Taking
 mod Texts
 mod Zips
 pub mod LibraryKept

@@ -23,11 +23,11 @@ names_append [] ys = omega arith
 names_append (Name n ∷ xs) ys = let rest : names_in (xs ++ ys) ≡ names_in xs + names_in ys = names_append xs ys in omega arith
 names_append (Punct b ∷ xs) ys = names_append xs ys
 
-part_count_of : (es : List Expr) → part_count (exprs_of es) ≡ length es
+pub part_count_of : (es : List Expr) → part_count (exprs_of es) ≡ length es
 part_count_of [] = refl
 part_count_of (e ∷ es) = let rest : part_count (exprs_of es) ≡ length es = part_count_of es in omega arith
 
-postfixes_more : (es : List Expr) (e : Expr) → postfixes (exprs_of (es ++ e ∷ [])) ≡ postfixes (exprs_of es) ++ postfix e
+pub postfixes_more : (es : List Expr) (e : Expr) → postfixes (exprs_of (es ++ e ∷ [])) ≡ postfixes (exprs_of es) ++ postfix e
 postfixes_more [] e = append-nil (postfix e)
 postfixes_more (x ∷ es) e = ap (λ r. postfix x ++ r) (postfixes_more es e) ∙ sym (append_assoc (postfix x) (postfixes (exprs_of es)) (postfix e))
 

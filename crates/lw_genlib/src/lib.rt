@@ -29,6 +29,7 @@ mod lists;
 mod merge_entry;
 mod no_hash;
 mod op;
+mod open_group;
 mod parsing;
 mod pin;
 mod read_word;
@@ -38,7 +39,6 @@ mod state_parts;
 mod token;
 mod tokenize;
 mod truth;
-mod unread;
 
 pub use cell::Cell;
 pub use expr::Expr;
