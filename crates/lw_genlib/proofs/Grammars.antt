@@ -1,17 +1,16 @@
 -- What tokens spell has as many literals as names stand among them, and no operator of fewer than two operands.
-use Rattle.std.proofs.Common.{ℕ, ◌+◌, ◌≤◌, ◌≡◌, Bool, true, false, cond, List, [], ◌∷◌, ◌++◌, length, refl, sym, ap, ◌∙◌, subst, arith, length-append, append-nil}
+use Rattle.std.proofs.Common.{ℕ, ◌+◌, ◌≤◌, ◌≡◌, Bool, true, false, cond, List, [], ◌∷◌, ◌++◌, length, refl, sym, ap, ◌∙◌, subst, arith, length-append}
 use Rattle.lw_laws.specs.Expressions.{Expr}
 use Rattle.lw_laws.specs.Expressions.Expr.{expr_const, expr_pin, expr_not}
 use Rattle.lw_genlib.specs.declared.token.Token.{Token}
-use Rattle.lw_genlib.specs.declared.op.ExprOp.{ExprOp}
 use Rattle.lw_genlib.specs.Postfix.{exprs_of, postfix, literals, literals_of_all, IsWide, AreWide, IsPostfix, tree_of}
 use Rattle.lw_genlib.specs.Codes.{tree_of-postfix}
-use Rattle.lw_genlib.specs.Grammar.{literal_of, product_of, sum_of, close_token, quote_token, star_token, plus_token, IsSum, IsProduct, IsFactor, IsAtom, names_in, SpellsSum, Reads, after_sum}
+use Rattle.lw_genlib.specs.Grammar.{literal_of, product_of, sum_of, close_token, quote_token, star_token, plus_token, IsSum, IsProduct, IsFactor, IsAtom, names_in, SpellsSum}
 use Rattle.lw_genlib.specs.Grammar.IsSum.{first_product, next_product}
 use Rattle.lw_genlib.specs.Grammar.IsProduct.{first_factor, beside_factor, times_factor}
 use Rattle.lw_genlib.specs.Grammar.IsFactor.{plain_factor, bang_factor}
 use Rattle.lw_genlib.specs.Grammar.IsAtom.{name_atom, group_atom, quoted_atom}
-use Rattle.lw_genlib.proofs.Spelling.{names_append, nothing_left}
+use Rattle.lw_genlib.proofs.Spelling.{names_append}
 
 -- an expression over these names
 record IsGood (names : ℕ) (e : Expr) : Type 0 where
@@ -96,19 +95,3 @@ module _ (pins : List (List ℕ)) where
         few = subst (λ t. literals t ≤ 64) (sym back) (omega arith);
         wide = subst IsWide (sym back) whole.wide;
       }
-
--- What was read as a whole.
-pub record IsWhole (pins : List (List ℕ)) (tokens : List Token) (ops : List ExprOp) : Type 0 where
-  pub steps : IsPostfix ops
-  pub spelled : SpellsSum pins tokens (tree_of ops)
-
-pub whole_read : (pins : List (List ℕ)) (tokens rest : List Token) (old new : List ExprOp) → Reads (SpellsSum pins) after_sum 0 tokens rest old new → old ≡ [] → names_in tokens ≤ 64 → IsWhole pins tokens new
-whole_read pins tokens rest old new r none few =
-    let all : tokens ≡ r.read = r.whole ∙ (ap (λ b. r.read ++ b) (nothing_left rest r.left r.stops) ∙ append-nil r.read) in
-    let steps : new ≡ postfix r.tree = r.steps ∙ ap (λ o. o ++ postfix r.tree) none in
-    let spelled : SpellsSum pins tokens r.tree = subst (λ s. SpellsSum pins s r.tree) (sym all) r.spelled in
-    let back : tree_of new ≡ r.tree = ap tree_of steps ∙ tree_of-postfix r.tree in
-    record {
-      steps = subst IsPostfix (sym steps) (spelled_postfix pins tokens r.tree spelled few);
-      spelled = subst (SpellsSum pins tokens) (sym back) spelled;
-    }

@@ -1,5 +1,5 @@
 -- Which groups are open behind tokens that may stand, and that each of their counts is small.
-use Rattle.std.proofs.Common.{ℕ, ◌+◌, ◌-◌, ◌<◌, ◌≤◌, ◌≡◌, ◌^◌, Bool, true, false, not, ◌&&◌, ◌||◌, eqb, List, [], ◌∷◌, ◌++◌, length, get_or, take, drop, Option, Some, refl, sym, ap, ◌∙◌, subst, arith, append_assoc, append-nil, length-append}
+use Rattle.std.proofs.Common.{ℕ, ◌+◌, ◌-◌, ◌<◌, ◌≤◌, ◌≡◌, ◌^◌, Bool, true, false, not, ◌&&◌, ◌||◌, eqb, List, [], ◌∷◌, ◌++◌, length, get_or, take, drop, Option, Some, refl, sym, ap, ◌∙◌, subst, arith, length-append}
 use Rattle.std.specs.Prelude.{fold}
 use Rattle.std.proofs.lemmas.Bool.{and_parts, eqb-true, false≢true}
 use Rattle.std.proofs.lemmas.Bool.Decides.{nat_tests}
@@ -16,7 +16,7 @@ use Rattle.lw_genlib.specs.declared.open_group.OpenGroup.{OpenGroup}
 use Rattle.lw_genlib.specs.Postfix.{postfix, IsPostfix, tree_of}
 use Rattle.lw_genlib.specs.Codes.{tree_of-postfix}
 use Rattle.lw_genlib.specs.Grammar.{literal_of, product_of, close_token, awaits_behind, depth_behind, fits, go_on, names_in, SpellsSum}
-use Rattle.lw_genlib.specs.Spelled.{Group, new_group, complements, factor_ended, product_ended, with_atom, with_quote, value_of, value_of_all, with_token, expression_of}
+use Rattle.lw_genlib.specs.Spelled.{Group, new_group, complements, factor_ended, value_of, value_of_all, with_token, expression_of}
 use Rattle.lw_genlib.specs.Parsing.{IsNew, operator, operands_in, bangs_in, IsKept, AreKept, HasRead, EndsInAtom, AreOpen, MayTakeAt, MayTake, Takes}
 use Rattle.lw_genlib.proofs.Spelling.{names_append}
 use Rattle.lw_genlib.proofs.Grammars.{spelled_postfix}

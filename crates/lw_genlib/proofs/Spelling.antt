@@ -1,10 +1,7 @@
 -- Reading expressions from tokens: how what was read grows.
-use Rattle.std.proofs.Common.{ℕ, zero, suc, ◌+◌, ◌-◌, ◌<◌, ◌≤◌, ◌≡◌, ◌^◌, Bool, true, false, not, ◌&&◌, ◌||◌, cond, eqb, List, [], ◌∷◌, ◌++◌, length, drop, refl, sym, ap, ap₂, ◌∙◌, subst, arith, append_assoc, append-nil, length-append, inl, inr, add-one}
-use Rattle.std.proofs.lemmas.List.{replicate_more}
+use Rattle.std.proofs.Common.{ℕ, suc, ◌+◌, ◌-◌, ◌<◌, ◌≤◌, ◌≡◌, Bool, true, false, not, ◌&&◌, ◌||◌, eqb, List, [], ◌∷◌, ◌++◌, length, refl, sym, ap, ap₂, ◌∙◌, subst, arith, append_assoc, append-nil, length-append, inl, inr}
 use Rattle.std.proofs.lemmas.Bool.Decides.{nat_tests}
-use Rattle.std.specs.Prelude.{replicate}
-use Rattle.std.specs.List.{prefix_len}
-use Rattle.std.proofs.lemmas.Bool.{and_parts, or_from, eqb-true}
+use Rattle.std.proofs.lemmas.Bool.{and_parts, or_from}
 use Rattle.lw_laws.specs.Expressions.{Expr}
 use Rattle.lw_laws.specs.Expressions.Expr.{expr_not}
 use Rattle.lw_genlib.specs.declared.token.Token.{Token}
@@ -12,11 +9,11 @@ use Rattle.lw_genlib.specs.declared.token.Token.TheVariants.{Name, Punct}
 use Rattle.lw_genlib.specs.declared.op.ExprOp.{ExprOp}
 use Rattle.lw_genlib.specs.declared.op.ExprOp.TheVariants.{Not, And, Or}
 use Rattle.lw_genlib.specs.Postfix.{exprs_of, postfix, postfixes, part_count}
-use Rattle.lw_genlib.specs.Grammar.{literal_of, product_of, sum_of, open_token, close_token, bang_token, quote_token, star_token, plus_token, IsSum, IsProduct, IsFactor, IsAtom, is_punct, begins_operand, awaits_behind, depth_behind, fits, go_on, names_in, begins_with, Reads, SpellsProduct, SpellsSum, after_atom, after_factor, after_product, after_sum, IsNextFactor}
+use Rattle.lw_genlib.specs.Grammar.{product_of, sum_of, open_token, close_token, bang_token, quote_token, star_token, plus_token, IsSum, IsProduct, IsFactor, IsAtom, is_punct, begins_operand, awaits_behind, depth_behind, fits, go_on, names_in, begins_with, Reads, SpellsProduct, SpellsSum, after_atom, after_factor, after_product, after_sum, IsNextFactor}
 use Rattle.lw_genlib.specs.Grammar.IsSum.{first_product, next_product}
 use Rattle.lw_genlib.specs.Grammar.IsProduct.{first_factor, beside_factor, times_factor}
 use Rattle.lw_genlib.specs.Grammar.IsFactor.{plain_factor, bang_factor}
-use Rattle.lw_genlib.specs.Grammar.IsAtom.{name_atom, group_atom, quoted_atom}
+use Rattle.lw_genlib.specs.Grammar.IsAtom.{group_atom, quoted_atom}
 
 pub names_append : (xs ys : List Token) → names_in (xs ++ ys) ≡ names_in xs + names_in ys
 names_append [] ys = omega arith
@@ -248,9 +245,6 @@ atom_is_factor pins depth tokens rest old new r = record {
 
 -- What is left, and how long it is.
 
-pub rest_names : (tokens read rest : List Token) → tokens ≡ read ++ rest → names_in tokens ≡ names_in read + names_in rest
-rest_names tokens read rest whole = ap names_in whole ∙ names_append read rest
-
 pub rest_length : (tokens read rest : List Token) → tokens ≡ read ++ rest → length tokens ≡ length read + length rest
 rest_length tokens read rest whole = ap length whole ∙ length-append read rest
 
@@ -329,89 +323,6 @@ module _ (pins : List (List ℕ)) (depth : ℕ) (old new : List ExprOp) where
         left = subst (λ d. go_on false d behind ≡ true) out (and_parts (fits false (depth + 1) close_token) (go_on false (depth + 1 - 1) behind) (subst (λ s. go_on false (depth + 1) s ≡ true) next r.left)).1;
         stops = after_nothing behind;
       }
-
-  pub named : (tokens behind : List Token) (name : List ℕ) (op : ExprOp) → tokens ≡ Name name ∷ behind → go_on true depth tokens ≡ true → op ∷ [] ≡ postfix (literal_of pins name) → new ≡ old ++ op ∷ []
-      → Reads (IsAtom pins) after_atom depth tokens behind old new
-  named tokens behind name op at ok literal step = record {
-    read = Name name ∷ [];
-    tree = literal_of pins name;
-    whole = at;
-    spelled = name_atom name;
-    some = omega arith;
-    steps = step ∙ ap (λ ops. old ++ ops) literal;
-    left = behind_name (subst (λ s. go_on true depth s ≡ true) at ok);
-    stops = after_nothing behind;
-  }
-    where
-      behind_name : go_on true depth (Name name ∷ behind) ≡ true → go_on false depth behind ≡ true
-      behind_name here = here
-
--- a `!` each before a factor
-pub all_complemented : (pins : List (List ℕ)) (depth count : ℕ) (operand rest : List Token) (old mid new : List ExprOp) → Reads (IsFactor pins) after_factor depth operand rest old mid → new ≡ mid ++ replicate count Not
-    → Reads (IsFactor pins) after_factor depth (replicate count bang_token ++ operand) rest old new
-all_complemented pins depth zero operand rest old mid new r grown = subst (λ ops. Reads (IsFactor pins) after_factor depth operand rest old ops) (sym (grown ∙ append-nil mid)) r
-all_complemented pins depth (suc count) operand rest old mid new r grown =
-    let more : new ≡ (mid ++ replicate count Not) ++ Not ∷ [] =
-    grown ∙ (ap (λ ops. mid ++ ops) (sym (replicate_more count Not ∙ ap (λ n. replicate n Not) (add-one count))) ∙ sym (append_assoc mid (replicate count Not) (Not ∷ []))) in
-    complemented pins depth old (mid ++ replicate count Not) new more (replicate count bang_token ++ operand) rest (all_complemented pins depth count operand rest old mid (mid ++ replicate count Not) r refl)
-
--- behind `!` an operand still follows
-pub bangs_go_on : (depth count : ℕ) (operand : List Token) → go_on true depth (replicate count bang_token ++ operand) ≡ true → go_on true depth operand ≡ true
-bangs_go_on depth zero operand ok = ok
-bangs_go_on depth (suc count) operand ok = bangs_go_on depth count operand ok
-
--- the `!` that stand first, and what stands behind them
-
-one_more : (n : ℕ) → suc n ≡ 1 + n
-one_more n = omega arith
-
-pub bangs_whole : (tokens : List Token) → tokens ≡ replicate (prefix_len (is_punct 33) tokens) bang_token ++ drop (prefix_len (is_punct 33) tokens) tokens
-bangs_whole [] = refl
-bangs_whole (Name m ∷ tokens) = refl
-bangs_whole (Punct b ∷ tokens) = at (eqb b 33) refl (bangs_whole tokens)
-  where
-    at : (t : Bool) → eqb b 33 ≡ t → tokens ≡ replicate (prefix_len (is_punct 33) tokens) bang_token ++ drop (prefix_len (is_punct 33) tokens) tokens
-        → Punct b ∷ tokens ≡ replicate (cond t (1 + prefix_len (is_punct 33) tokens) 0) bang_token ++ drop (cond t (1 + prefix_len (is_punct 33) tokens) 0) (Punct b ∷ tokens)
-    at true e others =
-        let bang : b ≡ 33 = eqb-true b 33 e in
-        subst (λ n. Punct b ∷ tokens ≡ replicate n bang_token ++ drop n (Punct b ∷ tokens)) (one_more (prefix_len (is_punct 33) tokens)) (ap₂ (λ m ts. Punct m ∷ ts) bang others)
-    at false e others = refl
-
-pub bangs_stop : (tokens : List Token) → begins_with (is_punct 33) (drop (prefix_len (is_punct 33) tokens) tokens) ≡ false
-bangs_stop [] = refl
-bangs_stop (Name m ∷ tokens) = refl
-bangs_stop (Punct b ∷ tokens) = at (eqb b 33) refl (bangs_stop tokens)
-  where
-    at : (t : Bool) → eqb b 33 ≡ t → begins_with (is_punct 33) (drop (prefix_len (is_punct 33) tokens) tokens) ≡ false
-        → begins_with (is_punct 33) (drop (cond t (1 + prefix_len (is_punct 33) tokens) 0) (Punct b ∷ tokens)) ≡ false
-    at true e others = subst (λ n. begins_with (is_punct 33) (drop n (Punct b ∷ tokens)) ≡ false) (one_more (prefix_len (is_punct 33) tokens)) others
-    at false e others = e
-
--- What is read next is no longer than what is left.
-pub record IsWithin (depth : ℕ) (tokens next : List Token) : Type 0 where
-  pub ok : go_on true depth next ≡ true
-  pub few : names_in next ≤ 64
-  pub shorter : length next < length tokens
-  pub room : depth + length next ≤ 2 ^ 32
-
-pub within : (depth : ℕ) (tokens read rest next : List Token) → tokens ≡ read ++ rest → 1 ≤ names_in read → names_in tokens ≤ 64 → depth + length tokens ≤ 2 ^ 32
-    → go_on true depth next ≡ true → names_in next ≤ names_in rest → length next ≤ length rest → IsWithin depth tokens next
-within depth tokens read rest next whole some few room ok names long =
-    let all : names_in tokens ≡ names_in read + names_in rest = rest_names tokens read rest whole in
-    let size : length tokens ≡ length read + length rest = rest_length tokens read rest whole in
-    let short : names_in read ≤ length read = names_short read in
-    record { ok = ok; few = omega arith; shorter = omega arith; room = omega arith }
-
-pub count_fits : (tokens read rest : List Token) (count : ℕ) → tokens ≡ read ++ rest → count ≤ names_in read → names_in tokens ≤ 64 → count ≤ 64
-count_fits tokens read rest count whole few most =
-    let all : names_in tokens ≡ names_in read + names_in rest = rest_names tokens read rest whole in
-    omega arith
-
-pub bangs_within : (depth count : ℕ) (tokens operand : List Token) → tokens ≡ replicate count bang_token ++ operand → go_on true depth tokens ≡ true → (go_on true depth operand ≡ true) × (names_in operand ≤ names_in tokens) × (length operand ≤ length tokens)
-bangs_within depth count tokens operand whole ok =
-    let all : names_in tokens ≡ names_in (replicate count bang_token) + names_in operand = rest_names tokens (replicate count bang_token) operand whole in
-    let size : length tokens ≡ length (replicate count bang_token) + length operand = rest_length tokens (replicate count bang_token) operand whole in
-    (bangs_go_on depth count operand (subst (λ s. go_on true depth s ≡ true) whole ok), omega arith, omega arith)
 
 -- Where no group is open, nothing is left behind a sum.
 

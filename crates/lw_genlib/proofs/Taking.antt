@@ -1,5 +1,5 @@
 -- What a token does to the groups that are kept: their counts, and the steps of their operands.
-use Rattle.std.proofs.Common.{ℕ, zero, suc, ◌+◌, ◌<◌, ◌≤◌, ◌≡◌, Bool, true, false, cond, eqb, List, [], ◌∷◌, ◌++◌, length, Option, Some, None, refl, sym, ap, ap₂, ◌∙◌, subst, arith, append_assoc, append-nil, length-append}
+use Rattle.std.proofs.Common.{ℕ, zero, suc, ◌+◌, ◌≤◌, ◌≡◌, Bool, true, false, cond, eqb, List, [], ◌∷◌, ◌++◌, length, Option, Some, refl, sym, ap, ap₂, ◌∙◌, subst, arith, append_assoc, append-nil, length-append}
 use Rattle.std.specs.Prelude.{nat_le, replicate, Result, Ok, Err, OnOk}
 use Rattle.std.proofs.lemmas.Bool.Decides.{nat_tests}
 use Rattle.std.proofs.lemmas.List.{same_from_push}
@@ -11,7 +11,7 @@ use Rattle.lw_genlib.specs.declared.op.ExprOp.{ExprOp}
 use Rattle.lw_genlib.specs.declared.op.ExprOp.TheVariants.{Not, And, Or}
 use Rattle.lw_genlib.specs.declared.open_group.OpenGroup.{OpenGroup}
 use Rattle.lw_genlib.specs.declared.parsing.Reading.{Reading}
-use Rattle.lw_genlib.specs.Postfix.{exprs_of, postfix, postfixes, part_count}
+use Rattle.lw_genlib.specs.Postfix.{exprs_of, postfix, postfixes}
 use Rattle.lw_genlib.specs.Grammar.{literal_of, product_of, sum_of, open_token, close_token, bang_token, quote_token, plus_token, fits}
 use Rattle.lw_genlib.specs.Spelled.{Group, new_group, complements, with_factor, bangs_left, factor_ended, product_ended, with_bang, with_atom, with_quote, value_of, group_closed, with_token}
 use Rattle.lw_genlib.specs.Parsing.{no_group, operator, IsKept, AreKept, HasRead, EndsInAtom, MayTakeAt, Takes}
@@ -203,7 +203,7 @@ module _ (pins : List (List ℕ)) (old new : Reading) where
       → new.ops.items ≡ outside ++ ((own ++ sum) ++ nots)
   closed_steps first last outside own and or nots sum was cut is grown =
       let whole : old.ops.items ++ and ++ or ≡ first ++ sum =
-          ap (λ (s : List ExprOp). s ++ and ++ or) was ∙ (ap (λ (s : List ExprOp). s ++ or) (append_assoc first last and) ∙ (append_assoc first (last ++ and) or ∙ ap (λ (s : List ExprOp). first ++ s) is)) in
+      ap (λ (s : List ExprOp). s ++ and ++ or) was ∙ (ap (λ (s : List ExprOp). s ++ or) (append_assoc first last and) ∙ (append_assoc first (last ++ and) or ∙ ap (λ (s : List ExprOp). first ++ s) is)) in
       grown
       ∙ (ap (λ (s : List ExprOp). s ++ nots) (whole ∙ (ap (λ (s : List ExprOp). s ++ sum) cut ∙ append_assoc outside own sum)) ∙ append_assoc outside (own ++ sum) nots)
 

@@ -7,10 +7,10 @@ pub loop-token-init : goal.loop-token-init
 loop-token-init c = begins c.args.pins.now c.args.tokens.now _ c.new-reading.ensures c.requires.fits
 
 pub take-requires-clause-may : goal.take-requires-clause-may
-take-requires-clause-may c = ?
+take-requires-clause-may c = may_take c.args.pins.now c.args.tokens.now c.loop-token.token-index c.loop-token.reading c.loop-token.invariant c.token-item.result c.loop-token-test.true c.token-item.is c.requires.few c.requires.short
 
 pub loop-token-preserved : goal.loop-token-preserved
-loop-token-preserved c = ?
+loop-token-preserved c = taken c.args.pins.now c.args.tokens.now c.loop-token.token-index c.loop-token.reading c.loop-token.invariant c.token-item.result c.loop-token-test.true c.token-item.is c.requires.few c.requires.short _ c.in_ok-take.ensures
 
 pub end_sum-requires : goal.end_sum-requires
 end_sum-requires c =

@@ -1,6 +1,5 @@
 use Rattle.std.proofs.Common.{[], refl}
 use Rattle.lw_genlib.proofs.Taking.{open_taken}
-use Rattle.lw_genlib.proofs.Opening.{whole_read}
 use Rattle.lw_genlib.proofs.parsing.Reading.open.Goals as goal
 
 pub returns : goal.returns

@@ -1,4 +1,4 @@
-use Rattle.std.proofs.Common.{[], eqb, false, ◌≡◌, ℕ, refl, sym, subst}
+use Rattle.std.proofs.Common.{[], refl, sym, subst, arith}
 use Rattle.std.specs.Prelude.{OnOk}
 use Rattle.std.proofs.lemmas.Bool.{ne_eqb}
 use Rattle.lw_genlib.specs.declared.token.Token.TheVariants.{Punct}
@@ -40,5 +40,5 @@ returns-in_ok-end_product-in-43 c =
 
 pub returns-in_default : goal.returns-in_default
 returns-in_default c =
-    let others = c.in_default.in_default-own.rest in
-    other_taken [] c.args.self.now c.args.byte (ne_eqb c.args.byte 33 others.0.0.1) (ne_eqb c.args.byte 39 others.0.1) (ne_eqb c.args.byte 43 others.1) (ne_eqb c.args.byte 40 others.0.0.0.0.1) (ne_eqb c.args.byte 41 others.0.0.0.1)
+    other_taken [] c.args.self.now c.args.byte (ne_eqb c.args.byte 33 (λ e. absurd (omega (arith, e)))) (ne_eqb c.args.byte 39 (λ e. absurd (omega (arith, e)))) (ne_eqb c.args.byte 43 (λ e. absurd (omega (arith, e))))
+    (ne_eqb c.args.byte 40 (λ e. absurd (omega (arith, e)))) (ne_eqb c.args.byte 41 (λ e. absurd (omega (arith, e))))

@@ -1,4 +1,4 @@
-use Rattle.std.proofs.Common.{[], ◌∷◌, ◌++◌, refl, sym, ap, ◌∙◌, subst}
+use Rattle.std.proofs.Common.{◌++◌, refl, sym, ap, ◌∙◌, subst}
 use Rattle.std.specs.Prelude.{OnOk, replicate}
 use Rattle.lw_genlib.specs.declared.op.ExprOp.TheVariants.{Not}
 use Rattle.lw_genlib.specs.Parsing.{MayTake, Takes}
@@ -16,7 +16,7 @@ pub returns-in_ok-end_factor-in-Name : goal.returns-in_ok-end_factor-in-Name
 returns-in_ok-end_factor-in-Name c =
     let new = record c.args.self.now { inner = c.end_factor.new.self; ops = c.end_factor.new.ops } in
     subst (λ t. Takes c.args.pins.now t c.args.self.now new) (sym c.in-Name.is)
-    (name_taken c.args.pins.now c.args.self.now new c.in-Name.name.now c.literal_of.result c.literal_of.ensures refl c.in_ok-end_factor-in-Name.ensures.0
+    (name_taken c.args.pins.now c.args.self.now new c.in-Name.name c.literal_of.result c.literal_of.ensures refl c.in_ok-end_factor-in-Name.ensures.0
     (c.in_ok-end_factor-in-Name.ensures.1 ∙ ap (λ s. s ++ replicate c.args.self.now.inner.bangs Not) c.in_ok-push-in-Name.ensures.items))
 
 pub returns-in-Punct : goal.returns-in-Punct
