@@ -87,3 +87,12 @@ can-hang names name old new heads next b are fresh others own few = record {
   where
     stays : (k : ℕ) → k < length names → name_at (names ++ name ∷ []) k ≡ name_at names k
     stays k lt = get_or_append_left names (name ∷ []) [] k lt
+
+-- names stay numbered where a name was set apart that is none of them
+pub numbered-spared : (names : List (List ℕ)) (name : List ℕ) (old new : List (Vec ℕ × ℕ)) (heads next : List ℕ) → AreNumbered names old heads next → is_among names name ≡ false → KeepsOthers name old new → AreNumbered names new heads next
+numbered-spared names name old new heads next are fresh others = record {
+  distinct = are.distinct;
+  chains = links-spared names (length names) name old new heads next (stands-nowhere names name fresh) others are.chains;
+  places = are.places;
+  some = are.some;
+}

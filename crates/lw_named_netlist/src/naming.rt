@@ -52,7 +52,8 @@ pub(crate) fn numbers(alloc: Global, names: SpelledNames) -> Result<Signals, Net
     let mut heads = vec![in alloc; 0; 2 * names.len() + 1]?;
     let mut next = vec![in alloc; 0; names.len()]?;
     let mut apart = Apart::new(alloc);
-    if let Some(place) = link(alloc, &names, &mut apart, &mut heads, &mut next)? {
+    let twice = link(alloc, &names, &mut apart, &mut heads, &mut next)?;
+    if let Some(place) = twice {
         let name = Name::from_slice(alloc, names.get(place))?;
         return Err(NetlistFault::Twice(name));
     }

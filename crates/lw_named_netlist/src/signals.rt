@@ -168,10 +168,10 @@ fn make_room(
     names: &SpelledNames,
     apart: &Apart,
     heads: &mut Vec<u32>,
-    next: &mut [u32],
+    next: &mut Vec<u32>,
 ) -> Result<(), AllocError>
-    requires { AreNumbered names.now apart.now.entries heads.old.items next.old }
-    ensures numbered { AreNumbered names.now apart.now.entries heads.new.items next.new }
+    requires { AreNumbered names.now apart.now.entries heads.old.items next.old.items }
+    ensures numbered { AreNumbered names.now apart.now.entries heads.new.items next.new.items }
     ensures room { OnOk result (length names.now < length heads.new.items) }
     ensures few { OnOk result (length names.now < 1073741824) }
 {
