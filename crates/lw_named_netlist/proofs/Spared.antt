@@ -35,7 +35,7 @@ pub keeps-others : (m n : BTreeMap (Vec ℕ) ℕ) (key : Vec ℕ) (name : List �
     → tree.UpdatesBy (λ (x y : Vec ℕ). slice_cmp nat_cmp x.items y.items) (λ (k : Vec ℕ). slice_cmp nat_cmp key.items k.items) m n (Some place) → KeepsOthers name m.entries n.entries
 keeps-others m n key name place is h = subst (λ l. KeepsOthers l m.entries n.entries) is (λ other apart.
     other-places _ _ m.entries n.entries h.3 _ (λ x y. (eq_by_cmp_equiv nat_list_cmp_total).congr other x.items y.items) (λ k e.
-        is_eq-slice_cmp other k.items ∙ differ other k.items (λ same. apart (bytes_eq_is key.items k.items (sym (is_eq-slice_cmp key.items k.items) ∙ e) ∙ sym same))))
+    is_eq-slice_cmp other k.items ∙ differ other k.items (λ same. apart (bytes_eq_is key.items k.items (sym (is_eq-slice_cmp key.items k.items) ∙ e) ∙ sym same))))
 
 pub own-place : (own k : ℕ) (at : Option ℕ) → Some own ≡ at → at ≡ Some k → own ≡ k
 own-place own k at found is = ap (λ o. unwrap_or o 0) (found ∙ is)

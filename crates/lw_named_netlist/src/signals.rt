@@ -149,7 +149,14 @@ fn push(
     let count = names.len();
     let bucket = buckets::bucket_of(name, heads.len());
     next.reserve(1)?;
-    buckets::spare(*heads.allocator(), apart, next, heads[bucket], name, count as u32)?;
+    buckets::spare(
+        *heads.allocator(),
+        apart,
+        next,
+        heads[bucket],
+        name,
+        count as u32,
+    )?;
     names.push(name)?;
     next.push_reserved(0);
     buckets::hang(names, apart, heads, next, bucket, count);
