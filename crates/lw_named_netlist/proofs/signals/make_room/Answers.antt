@@ -1,4 +1,4 @@
-use Rattle.std.proofs.Common.{◌≡◌, drop, length, sym, ap, ◌∙◌, arith}
+use Rattle.std.proofs.Common.{◌≡◌, drop, length, ap, arith}
 use Rattle.std.proofs.lemmas.List.{take_at}
 use Rattle.lw_named_netlist.proofs.signals.make_room.Goals as goal
 

@@ -1,6 +1,6 @@
-use Rattle.std.proofs.Common.{◌≡◌, ◌<◌, ◌+◌, [], ◌∷◌, ◌++◌, length, drop, sym, ap, subst, ◌∙◌, arith, length-append}
+use Rattle.std.proofs.Common.{◌≡◌, ◌+◌, [], ◌∷◌, ◌++◌, length, drop, ap, subst, ◌∙◌, arith, length-append}
 use Rattle.std.proofs.lemmas.List.{take_at}
-use Rattle.lw_named_netlist.specs.Chains.{AreLinks, AreNumbered, IsBucket, bucket_in}
+use Rattle.lw_named_netlist.specs.Chains.{AreLinks, IsBucket, bucket_in}
 use Rattle.lw_named_netlist.proofs.Growing.{numbered-more}
 use Rattle.lw_named_netlist.proofs.Spared.{can-hang, numbered-spared}
 use Rattle.lw_named_netlist.proofs.signals.push.Goals as goal
