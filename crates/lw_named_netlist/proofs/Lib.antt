@@ -8,5 +8,6 @@ pub mod Names
 pub mod Paths
 pub mod Places
 pub mod Settling
+pub mod Spared
 pub mod Spelling
 pub mod Starting

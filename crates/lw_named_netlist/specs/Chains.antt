@@ -1,7 +1,12 @@
--- Chains of the places of names, by which a name is found among them.
+-- Chains of the places of names, by which a name is found among them, and names that are set apart from the chains.
 use Rattle.std.specs.Prelude.{ℕ, suc, ◌≡◌, ◌≢◌, ◌<◌, ◌≤◌, ◌+◌, ◌*◌, ◌%◌, Option, Some, None, IfSome, IfNone, List, []}
 use Rattle.std.specs.Prelude.{◌∷◌, length, slice_index_or}
+use Rattle.std.specs.BTreeMap.{is_at}
+use Rattle.std.specs.Cmp.Lexicographic.{slice_cmp}
+use Rattle.std.specs.Global.{Vec}
 use Rattle.std.specs.List.{IsDistinct}
+use Rattle.std.specs.Map.{lookup}
+use Rattle.std.specs.Ordering.{nat_cmp}
 use Rattle.std.specs.Str.{bytes_eq}
 use Rattle.lw_named_netlist.specs.Closing.{twice_after}
 
@@ -16,12 +21,12 @@ bucket_in size name = hash_from 0 name % size
 abbrev pub name_at : List (List ℕ) → ℕ → List ℕ
 name_at names place = slice_index_or names place []
 
--- A chain for each bucket below a size, of the first so many names: it begins at the last of the
--- bucket's places and falls to the first. A place is told by one more, and the end of a chain by 0.
-pub record AreChains (bucket : List ℕ → ℕ) (size : ℕ) (names : List (List ℕ)) (count : ℕ)
+-- A chain for each bucket below a size, of those of the first so many names that are kept: it begins at the last of
+-- the bucket's places and falls to the first. A place is told by one more, and the end of a chain by 0.
+pub record AreChains (bucket : List ℕ → ℕ) (size : ℕ) (kept : ℕ → Type 0) (names : List (List ℕ)) (count : ℕ)
     (heads next : List ℕ) : Type 0 where
-  pub first : (k : ℕ) → k < count → k < slice_index_or heads (bucket (name_at names k)) 0
-  pub later : (j k : ℕ) → k < j → j < count → bucket (name_at names k) ≡ bucket (name_at names j)
+  pub first : (k : ℕ) → k < count → kept k → k < slice_index_or heads (bucket (name_at names k)) 0
+  pub later : (j k : ℕ) → k < j → j < count → kept k → bucket (name_at names k) ≡ bucket (name_at names j)
       → k < slice_index_or next j 0
   pub low : (b : ℕ) → b < size → slice_index_or heads b 0 ≤ count
   pub falling : (j : ℕ) → j < count → slice_index_or next j 0 ≤ j
@@ -29,16 +34,30 @@ pub record AreChains (bucket : List ℕ → ℕ) (size : ℕ) (names : List (Lis
   pub chained : (j k : ℕ) → j < count → slice_index_or next j 0 ≡ suc k
       → bucket (name_at names k) ≡ bucket (name_at names j)
 
--- Names that differ, with chains for all of them.
-pub record AreNumbered (names : List (List ℕ)) (heads next : List ℕ) : Type 0 where
+-- the place at which a name is set apart
+abbrev pub apart_at : List (Vec ℕ × ℕ) → List ℕ → Option ℕ
+apart_at apart name = lookup (is_at (λ (key : Vec ℕ). slice_cmp nat_cmp name key.items)) apart
+
+-- The name at a place is not set apart there.
+abbrev pub IsKept : List (List ℕ) → List (Vec ℕ × ℕ) → ℕ → Type 0
+IsKept names apart k = apart_at apart (name_at names k) ≢ Some k
+
+-- Chains of those of the first so many names that are not set apart, in as many buckets as there are heads.
+abbrev pub AreLinks : List (List ℕ) → ℕ → List (Vec ℕ × ℕ) → List ℕ → List ℕ → Type 0
+AreLinks names count apart heads next =
+    AreChains (bucket_in (length heads)) (length heads) (IsKept names apart) names count heads next
+
+-- Names that differ, each in a chain or set apart.
+pub record AreNumbered (names : List (List ℕ)) (apart : List (Vec ℕ × ℕ)) (heads next : List ℕ) : Type 0 where
   pub distinct : IsDistinct bytes_eq names
-  pub chains : AreChains (bucket_in (length heads)) (length heads) names (length names) heads next
+  pub chains : AreLinks names (length names) apart heads next
   pub places : length next ≡ length names
   pub some : 0 < length heads
 
 -- chains of the first so many names, for which there are places
-pub record AreLinked (names : List (List ℕ)) (count : ℕ) (heads next : List ℕ) : Type 0 where
-  pub chains : AreChains (bucket_in (length heads)) (length heads) names count heads next
+pub record AreLinked (names : List (List ℕ)) (count : ℕ) (apart : List (Vec ℕ × ℕ))
+    (heads next : List ℕ) : Type 0 where
+  pub chains : AreLinks names count apart heads next
   pub few : count ≤ length names
   pub places : count ≤ length next
 
@@ -53,6 +72,26 @@ pub record FindsPlace (names : List (List ℕ)) (count : ℕ) (name : List ℕ) 
   pub some : IfSome result (λ k. name_at names k ≡ name)
   pub none : IfNone result ((k : ℕ) → k < count → name_at names k ≢ name)
 
+-- The place of a name among those of the first so many of which this holds.
+pub record FindsSome (names : List (List ℕ)) (count : ℕ) (kept : ℕ → Type 0) (name : List ℕ)
+    (result : Option ℕ) : Type 0 where
+  pub within : IfSome result (λ k. k < count)
+  pub some : IfSome result (λ k. name_at names k ≡ name)
+  pub none : IfNone result ((k : ℕ) → k < count → kept k → name_at names k ≢ name)
+
+-- All names but one are set apart as before.
+abbrev pub KeepsOthers : List ℕ → List (Vec ℕ × ℕ) → List (Vec ℕ × ℕ) → Type 0
+KeepsOthers name old new = (other : List ℕ) → name ≢ other → apart_at new other ≡ apart_at old other
+
+-- One more name comes into its chain, unless it is set apart.
+pub record CanHang (names : List (List ℕ)) (place : ℕ) (apart : List (Vec ℕ × ℕ)) (heads next : List ℕ)
+    (bucket : ℕ) : Type 0 where
+  pub chains : AreLinks names place apart heads next
+  pub own : IsBucket heads (name_at names place) bucket
+  pub named : place < length names
+  pub placed : place < length next
+  pub few : place < 4294967295
+
 -- there are buckets and places for names, and no chain
 pub record CanLink (names : List (List ℕ)) (heads next : List ℕ) : Type 0 where
   pub few : length names < 4294967295
@@ -60,12 +99,10 @@ pub record CanLink (names : List (List ℕ)) (heads next : List ℕ) : Type 0 wh
   pub places : length next ≡ length names
   pub none : (b : ℕ) → b < length heads → slice_index_or heads b 0 ≡ 0
 
--- names that differ have chains, or else this is the place of the first that stands before it
-pub record LinksNames (names : List (List ℕ)) (old_heads old_next heads next : List ℕ)
+-- names that differ are in chains or set apart, or else this is the place of the first that stands before it
+pub record LinksNames (names : List (List ℕ)) (apart : List (Vec ℕ × ℕ)) (heads next : List ℕ)
     (result : Option ℕ) : Type 0 where
-  pub heads_each : length heads ≡ length old_heads
-  pub next_each : length next ≡ length old_next
-  pub chains : IfNone result (AreChains (bucket_in (length heads)) (length heads) names (length names) heads next)
+  pub chains : IfNone result (AreLinks names (length names) apart heads next)
   pub once : IfNone result (twice_after [] names ≡ None)
   pub within : IfSome result (λ k. k < length names)
   pub twice : IfSome result (λ k. twice_after [] names ≡ Some (name_at names k))

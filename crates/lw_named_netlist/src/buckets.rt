@@ -1,11 +1,17 @@
-// Names that are found by chains of the places of those in one bucket.
-ghost use Rattle.std.specs.Prelude.{◌≡◌, ◌≢◌, ◌<◌, ◌≤◌, ℕ, length, IfSome, IfNone, slice_index_or};
-ghost use Rattle.lw_named_netlist.specs.Chains.{AreChains, AreLinked, CanLink, FindsPlace};
-ghost use Rattle.lw_named_netlist.specs.Chains.{IsBucket};
+// Names that are found by chains of the places of those in one bucket or, where a chain would be
+// long, by their order. So no choice of names makes the search for one of them long.
+ghost use Rattle.std.specs.Prelude.{◌≡◌, ◌<◌, ◌≤◌, ◌+◌, ℕ, length, IfOk};
+ghost use Rattle.std.specs.Prelude.{slice_index_or};
+ghost use Rattle.lw_named_netlist.specs.Chains.{AreLinked, AreLinks, CanHang, CanLink, FindsPlace};
+ghost use Rattle.lw_named_netlist.specs.Chains.{FindsSome, IsBucket, IsKept, KeepsOthers};
 ghost use Rattle.lw_named_netlist.specs.Chains.{LinksNames, bucket_in, hash_from, name_at};
 
 use crate::SpelledNames;
+use crate::apart::{Apart, is_apart, place_apart, set_apart};
 use std::alloc::{AllocError, Global};
+
+// A chain of so many names is long.
+const LONG: usize = 16;
 
 // A number for the bytes of a name.
 fn hash_of(name: &[u8]) -> u64
@@ -27,18 +33,19 @@ pub(crate) fn bucket_of(name: &[u8], size: usize) -> usize
     (hash_of(name) % size as u64) as usize
 }
 
-/// The place of a name among the first so many.
-pub(crate) fn place_in(
+// The place of a name among those of the first so many that are in chains.
+fn place_chained(
     names: &SpelledNames,
     count: usize,
+    apart: &Apart,
     heads: &[u32],
     next: &[u32],
     bucket: usize,
     name: &[u8],
 ) -> Option<usize>
-    requires linked { AreLinked names.now count heads.now next.now }
+    requires linked { AreLinked names.now count apart.now.entries heads.now next.now }
     requires bucket { IsBucket heads.now name.now bucket }
-    ensures { FindsPlace names.now count name.now result }
+    ensures { FindsSome names.now count (IsKept names.now apart.now.entries) name.now result }
 {
     let mut left = heads[bucket];
     'places: while left > 0 {
@@ -51,53 +58,135 @@ pub(crate) fn place_in(
     None
 }
 
+/// The place of a name among the first so many.
+pub(crate) fn place_in(
+    names: &SpelledNames,
+    count: usize,
+    apart: &Apart,
+    heads: &[u32],
+    next: &[u32],
+    bucket: usize,
+    name: &[u8],
+) -> Option<usize>
+    requires linked { AreLinked names.now count apart.now.entries heads.now next.now }
+    requires bucket { IsBucket heads.now name.now bucket }
+    ensures { FindsPlace names.now count name.now result }
+{
+    if let Some(place) = place_chained(names, count, apart, heads, next, bucket, name) {
+        return Some(place);
+    }
+    place_apart(names, count, apart, name)
+}
+
 /// The place of a name.
-pub(crate) fn find(names: &SpelledNames, heads: &[u32], next: &[u32], name: &[u8]) -> Option<usize>
-    requires chains { AreChains (bucket_in (length heads.now)) (length heads.now) names.now
-        (length names.now) heads.now next.now }
+pub(crate) fn find(
+    names: &SpelledNames,
+    apart: &Apart,
+    heads: &[u32],
+    next: &[u32],
+    name: &[u8],
+) -> Option<usize>
+    requires chains { AreLinks names.now (length names.now) apart.now.entries heads.now next.now }
     requires places { length names.now ≤ length next.now }
     requires some { 0 < length heads.now }
-    ensures within { IfSome result (λ k. k < length names.now) }
-    ensures some { IfSome result (λ k. name_at names.now k ≡ name.now) }
-    ensures none { IfNone result ((k : ℕ) → k < length names.now → name_at names.now k ≢ name.now) }
+    ensures { FindsPlace names.now (length names.now) name.now result }
 {
     let bucket = bucket_of(name, heads.len());
-    place_in(names, names.len(), heads, next, bucket, name)
+    place_in(names, names.len(), apart, heads, next, bucket, name)
+}
+
+// Whether a chain is long. Nothing that is found hangs on it.
+fn is_long(next: &[u32], head: u32) -> bool {
+    let mut left = head;
+    for _ in 0..LONG {
+        let Some(place) = left.checked_sub(1) else {
+            return false;
+        };
+        left = match next.get(place as usize) {
+            Some(after) => *after,
+            None => 0,
+        };
+    }
+    left > 0
+}
+
+/// Sets a name apart if the chain is long that it would come into.
+pub(crate) fn spare(
+    alloc: Global,
+    apart: &mut Apart,
+    next: &[u32],
+    head: u32,
+    name: &[u8],
+    place: u32,
+) -> Result<(), AllocError>
+    ensures { KeepsOthers name.now apart.old.entries apart.new.entries }
+{
+    if is_long(next, head) {
+        return set_apart(alloc, apart, name, place);
+    }
+    Ok(())
+}
+
+/// Puts one more name into its chain, unless it is set apart.
+pub(crate) fn hang(
+    names: &SpelledNames,
+    apart: &Apart,
+    heads: &mut [u32],
+    next: &mut [u32],
+    bucket: usize,
+    place: usize,
+)
+    requires { CanHang names.now place apart.now.entries heads.old next.old bucket }
+    ensures heads { length heads.new ≡ length heads.old }
+    ensures next { length next.new ≡ length next.old }
+    ensures chains { AreLinks names.now (place + 1) apart.now.entries heads.new next.new }
+{
+    next[place] = heads[bucket];
+    if is_apart(apart, names.get(place), place) {
+        return;
+    }
+    heads[bucket] = place as u32 + 1;
 }
 
 /// Makes chains for names. No chain was made before.
-pub(crate) fn relink(names: &SpelledNames, heads: &mut [u32], next: &mut [u32])
+pub(crate) fn relink(names: &SpelledNames, apart: &Apart, heads: &mut [u32], next: &mut [u32])
     requires few { length names.now < 4294967295 }
     requires some { 0 < length heads.old }
     requires places { length names.now ≤ length next.old }
     requires none { (b : ℕ) → b < length heads.old → slice_index_or heads.old b 0 ≡ 0 }
     ensures heads { length heads.new ≡ length heads.old }
     ensures next { length next.new ≡ length next.old }
-    ensures chains { AreChains (bucket_in (length heads.new)) (length heads.new) names.now
-        (length names.now) heads.new next.new }
+    ensures chains { AreLinks names.now (length names.now) apart.now.entries heads.new next.new }
 {
     for place in 0..names.len() {
         let bucket = bucket_of(names.get(place), heads.len());
-        next[place] = heads[bucket];
-        heads[bucket] = place as u32 + 1;
+        hang(names, apart, heads, next, bucket, place);
     }
 }
 
 /// Makes chains for names that differ, or tells the place of the first that stands before it. No
 /// chain was made before.
-pub(crate) fn link(names: &SpelledNames, heads: &mut [u32], next: &mut [u32]) -> Option<usize>
+pub(crate) fn link(
+    alloc: Global,
+    names: &SpelledNames,
+    apart: &mut Apart,
+    heads: &mut [u32],
+    next: &mut [u32],
+) -> Result<Option<usize>, AllocError>
     requires { CanLink names.now heads.old next.old }
-    ensures { LinksNames names.now heads.old next.old heads.new next.new result }
+    ensures heads { length heads.new ≡ length heads.old }
+    ensures next { length next.new ≡ length next.old }
+    ensures linked { IfOk result (LinksNames names.now apart.new.entries heads.new next.new) }
 {
     for place in 0..names.len() {
         let name = names.get(place);
         let bucket = bucket_of(name, heads.len());
         // Where the name stands before is not asked.
-        if let Some(_first) = place_in(names, place, heads, next, bucket, name) {
-            return Some(place);
+        if let Some(_first) = place_in(names, place, apart, heads, next, bucket, name) {
+            return Ok(Some(place));
         }
-        next[place] = heads[bucket];
-        heads[bucket] = place as u32 + 1;
+        spare(alloc, apart, next, heads[bucket], name, place as u32)?;
+        hang(names, apart, heads, next, bucket, place);
     }
-    None
+    Ok(None)
 }

@@ -4,7 +4,8 @@
 //! numbers and whose gates stand by depth, or the fault of the draft. The modules in order:
 //!
 //! * `draft`, `fault`: what comes in, and why it is no netlist;
-//! * `spelled`, `spelled_names`, `buckets`, `signals`: names in rows of bytes, and their numbers;
+//! * `spelled`, `spelled_names`: names in rows of bytes;
+//! * `apart`, `buckets`, `signals`: the numbers of names, which are found by chains or by order;
 //! * `graph`, `naming`: what is kept of a draft, with numbers in place of names;
 //! * `levels`, `placing`: how deep the gates are, and the netlist with the gates in their places;
 //! * `closing`, `making`: from a draft to the netlist (`close`).
@@ -13,6 +14,7 @@
 //! close what they read.
 #![tactic(auto)]
 
+mod apart;
 mod buckets;
 mod closing;
 mod draft;

@@ -5,6 +5,7 @@ ghost use Rattle.lw_named_netlist.specs.Closing.{drivers, gate_link, needs_of, o
 ghost use Rattle.lw_dag.specs.Names.{number_in};
 ghost use Rattle.lw_named_netlist.specs.Numbered.{FindsDriven, HaveNumbers, TellsTwice, numbered};
 
+use crate::apart::Apart;
 use crate::buckets::link;
 use crate::signals::Signals;
 use crate::{GateDraft, NetlistFault, SpelledGate, SpelledNames, Wire};
@@ -50,11 +51,13 @@ pub(crate) fn numbers(alloc: Global, names: SpelledNames) -> Result<Signals, Net
     }
     let mut heads = vec![in alloc; 0; 2 * names.len() + 1]?;
     let mut next = vec![in alloc; 0; names.len()]?;
-    if let Some(place) = link(&names, &mut heads, &mut next) {
+    let mut apart = Apart::new(alloc);
+    let twice = link(alloc, &names, &mut apart, &mut heads, &mut next)?;
+    if let Some(place) = twice {
         let name = Name::from_slice(alloc, names.get(place))?;
         return Err(NetlistFault::Twice(name));
     }
-    Ok(Signals::new(names, heads, next))
+    Ok(Signals::new(names, apart, heads, next))
 }
 
 // The number of a name, or the fault that it has none.

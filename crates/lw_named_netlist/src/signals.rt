@@ -1,7 +1,10 @@
 // Names with numbers.
-ghost use Rattle.std.specs.Prelude.{◌≡◌, ◌<◌, true, length, OnOk, Some, slice_get};
+ghost use Rattle.std.specs.Prelude.{◌≡◌, ◌<◌, ◌++◌, ◌∷◌, [], true, false, length, OnOk, OnErr};
+ghost use Rattle.std.specs.Prelude.{Some, slice_get};
+ghost use Rattle.lw_dag.specs.Names.{is_among};
 ghost use Rattle.lw_named_netlist.specs.Chains.{AreNumbered};
 
+use crate::apart::Apart;
 use crate::{SpelledNames, buckets};
 use std::alloc::{AllocError, Global};
 use std::marker::Model;
@@ -16,6 +19,7 @@ const NAMES: usize = 1 << 30;
 #[derive(Drop)]
 pub struct Signals {
     names: SpelledNames,
+    apart: Apart,
     heads: Vec<u32>,
     next: Vec<u32>,
 }
@@ -28,7 +32,8 @@ impl Model for Signals {
 
     ghost view = { λ s. s.names };
 
-    ghost invariant = { λ s. AreNumbered s.names s.heads.items s.next.items };
+    ghost invariant = { λ s. AreNumbered s.names s.apart.entries s.heads.items
+        s.next.items };
 }
 
 impl Signals {
@@ -44,14 +49,20 @@ impl Signals {
         ensures { IfOk result (λ names. names ≡ []) }
     {
         let heads = vec![in alloc; 0; BUCKETS]?;
-        Ok(Signals::new(SpelledNames::new(alloc), heads, Vec::new(alloc)))
+        let names = SpelledNames::new(alloc);
+        Ok(Signals::new(names, Apart::new(alloc), heads, Vec::new(alloc)))
     }
 
-    pub(crate) fn new(names: SpelledNames, heads: Vec<u32>, next: Vec<u32>) -> Self
-        requires { AreNumbered names heads.items next.items }
+    pub(crate) fn new(names: SpelledNames, apart: Apart, heads: Vec<u32>, next: Vec<u32>) -> Self
+        requires { AreNumbered names apart.entries heads.items next.items }
         ensures { result ≡ names }
     {
-        Signals { names, heads, next }
+        Signals {
+            names,
+            apart,
+            heads,
+            next,
+        }
     }
 
     /// How many signals there are.
@@ -76,7 +87,7 @@ impl Signals {
         ensures within { IfSome result (λ n. n < length self.now) }
         ensures named { IfSome result (λ n. name_at self.now n ≡ name.now) }
     {
-        match buckets::find(&self.names, &self.heads, &self.next, name) {
+        match buckets::find(&self.names, &self.apart, &self.heads, &self.next, name) {
             Some(place) => Some(place),
             None => None,
         }
@@ -105,21 +116,51 @@ impl Signals {
             ≡ (if fresh then self.old ++ name.now ∷ [] else self.old)) }
         ensures err { OnErr result (self.new ≡ self.old) }
     {
-        make_room(&self.names, &mut self.heads, &mut self.next)?;
-        let bucket = buckets::bucket_of(name, self.heads.len());
-        let count = self.names.len();
-        let place = buckets::place_in(&self.names, count, &self.heads, &self.next, bucket, name);
-        // Where the name stands is not asked.
-        if let Some(_there) = place {
+        if self.find(name).is_some() {
             return Ok(false);
         }
-        self.next.reserve(1)?;
-        self.names.push(name)?;
-        self.next.push_reserved(0);
-        self.next[count] = self.heads[bucket];
-        self.heads[bucket] = count as u32 + 1;
+        push(
+            &mut self.names,
+            &mut self.apart,
+            &mut self.heads,
+            &mut self.next,
+            name,
+        )?;
         Ok(true)
     }
+}
+
+// Appends a name that is not there. Where there is no memory no name is added.
+fn push(
+    names: &mut SpelledNames,
+    apart: &mut Apart,
+    heads: &mut Vec<u32>,
+    next: &mut Vec<u32>,
+    name: &[u8],
+) -> Result<(), AllocError>
+    requires some { 0 < length name.now }
+    requires fresh { is_among names.old name.now ≡ false }
+    requires numbered { AreNumbered names.old apart.old.entries heads.old.items next.old.items }
+    ensures numbered { AreNumbered names.new apart.new.entries heads.new.items next.new.items }
+    ensures ok { OnOk result (names.new ≡ names.old ++ name.now ∷ []) }
+    ensures err { OnErr result (names.new ≡ names.old) }
+{
+    make_room(names, apart, heads, next)?;
+    let count = names.len();
+    let bucket = buckets::bucket_of(name, heads.len());
+    next.reserve(1)?;
+    buckets::spare(
+        *heads.allocator(),
+        apart,
+        next,
+        heads[bucket],
+        name,
+        count as u32,
+    )?;
+    names.push(name)?;
+    next.push_reserved(0);
+    buckets::hang(names, apart, heads, next, bucket, count);
+    Ok(())
 }
 
 // Whether the name at a place is this one.
@@ -130,9 +171,14 @@ fn has_at(names: &SpelledNames, place: usize, name: &[u8]) -> bool
 }
 
 // Makes the buckets more than the names, of which there are not too many for one more.
-fn make_room(names: &SpelledNames, heads: &mut Vec<u32>, next: &mut [u32]) -> Result<(), AllocError>
-    requires { AreNumbered names.now heads.old.items next.old }
-    ensures numbered { AreNumbered names.now heads.new.items next.new }
+fn make_room(
+    names: &SpelledNames,
+    apart: &Apart,
+    heads: &mut Vec<u32>,
+    next: &mut Vec<u32>,
+) -> Result<(), AllocError>
+    requires { AreNumbered names.now apart.now.entries heads.old.items next.old.items }
+    ensures numbered { AreNumbered names.now apart.now.entries heads.new.items next.new.items }
     ensures room { OnOk result (length names.now < length heads.new.items) }
     ensures few { OnOk result (length names.now < 1073741824) }
 {
@@ -144,7 +190,7 @@ fn make_room(names: &SpelledNames, heads: &mut Vec<u32>, next: &mut [u32]) -> Re
         return Ok(());
     }
     let mut longer = vec![in *heads.allocator(); 0; 4 * count]?;
-    buckets::relink(names, &mut longer, next);
+    buckets::relink(names, apart, &mut longer, next);
     *heads = longer;
     Ok(())
 }

@@ -1,5 +1,6 @@
 -- Chains of the places of names.
 use Rattle.std.proofs.Common.{ℕ, suc, ◌≡◌, ◌≢◌, ◌<◌, ◌≤◌, ◌+◌, ◌*◌, ◌%◌, ◌⊎◌, inl, inr, Bool, true, false, ◌||◌, List, [], ◌∷◌, length, set, get_or, refl, ap, sym, ◌∙◌, arith}
+use Rattle.std.specs.Prelude.{⊤}
 use Rattle.std.specs.Str.{bytes_eq}
 use Rattle.std.proofs.lemmas.Bool.{cases_lt, cases_eq}
 use Rattle.std.proofs.lemmas.Grind.{get_or-set_at}
@@ -33,7 +34,7 @@ other-bucket x name apart = by_test (bytes_eq x name) refl
     by_test true e = absurd (apart (ap bucket_of (bytes_eq_is x name e)))
     by_test false e = refl
 
-pub walked-first : (names : List (List ℕ)) (heads next : List ℕ) (name : List ℕ) (b : ℕ) (flags : List Bool) → AreChains bucket_of known_width names (length names) heads next → b ≡ bucket_of name → b < known_width → length flags ≡ length names → IsWalked names name (get_or heads b 0) flags flags
+pub walked-first : (names : List (List ℕ)) (heads next : List ℕ) (name : List ℕ) (b : ℕ) (flags : List Bool) → AreChains bucket_of known_width (λ k. ⊤) names (length names) heads next → b ≡ bucket_of name → b < known_width → length flags ≡ length names → IsWalked names name (get_or heads b 0) flags flags
 walked-first names heads next name b flags c own in_heads many = record {
   many = refl;
   low = c.low b in_heads;
@@ -45,9 +46,9 @@ walked-first names heads next name b flags c own in_heads many = record {
     apart : (i : ℕ) → i < length flags → get_or heads b 0 ≤ i → bucket_at names i ≡ bucket_of name → ⊥
     apart i lt past same =
         let head : get_or heads (bucket_at names i) 0 ≡ get_or heads b 0 = ap (λ x. get_or heads x 0) (same ∙ sym own) in
-        omega (arith, c.first i (omega (arith, lt, many)), head, past)
+        omega (arith, c.first i (omega (arith, lt, many)) tt, head, past)
 
-module _ (names : List (List ℕ)) (heads next : List ℕ) (name : List ℕ) (left j : ℕ) (old new : List Bool) (c : AreChains bucket_of known_width names (length names) heads next) (is : left ≡ suc j) (many : length old ≡ length names) (w : IsWalked names name left old new) where
+module _ (names : List (List ℕ)) (heads next : List ℕ) (name : List ℕ) (left j : ℕ) (old new : List Bool) (c : AreChains bucket_of known_width (λ k. ⊤) names (length names) heads next) (is : left ≡ suc j) (many : length old ≡ length names) (w : IsWalked names name left old new) where
   hit : Bool
   hit = bytes_eq (name_at names j) name
 
@@ -79,7 +80,7 @@ module _ (names : List (List ℕ)) (heads next : List ℕ) (name : List ℕ) (le
       ∙ or-no (get_or old i false) (bytes_eq (name_at names i) name) (other-bucket (name_at names i) name (λ same. never same)))
     where
       never : bucket_at names i ≡ bucket_of name → ⊥
-      never same = omega (arith, c.later j i before in_names (same ∙ sym bucket), past)
+      never same = omega (arith, c.later j i before in_names tt (same ∙ sym bucket), past)
   above-next i lt past (inr behind) (inr apart) = off-place i apart ∙ w.above i lt (omega (arith, behind, apart, is))
 
   pub walked-more : IsWalked names name (get_or next j 0) old (set new j (get_or new j false || bytes_eq (name_at names j) name))

@@ -1,5 +1,5 @@
 -- Chains of the places of names, by which an output's name is found among those of nets.
-use Rattle.std.specs.Prelude.{ℕ, ◌≡◌, ◌<◌, ◌≤◌, ◌+◌, ◌*◌, ◌%◌, Bool, false, List, [], ◌∷◌, length, slice_index_or}
+use Rattle.std.specs.Prelude.{ℕ, ◌≡◌, ◌<◌, ◌≤◌, ◌+◌, ◌*◌, ◌%◌, Bool, false, ⊤, List, [], ◌∷◌, length, slice_index_or}
 pub use Rattle.lw_named_netlist.specs.Chains.{AreChains, name_at}
 use Rattle.lw_named_netlist.specs.Closing.{is_among}
 
@@ -27,7 +27,7 @@ pub record HasRoom (names : List (List ℕ)) (heads next : List ℕ) : Type 0 wh
 
 -- Chains for all of these names.
 pub record AreChained (names : List (List ℕ)) (heads next : List ℕ) : Type 0 where
-  pub chains : AreChains bucket_of known_width names (length names) heads next
+  pub chains : AreChains bucket_of known_width (λ k. ⊤) names (length names) heads next
   pub room : HasRoom names heads next
 
 -- Each flag tells whether an output has the name of its net, counted from the base.

@@ -1,5 +1,5 @@
 use Rattle.std.proofs.Common.{◌≡◌, [], length, take, drop}
-use Rattle.lw_named_netlist.specs.Chains.{AreChains, bucket_in}
+use Rattle.lw_named_netlist.specs.Chains.{AreLinks}
 use Rattle.lw_named_netlist.specs.Closing.{twice_after}
 use Rattle.lw_named_netlist.proofs.buckets.link.Given as goal
 
@@ -7,6 +7,6 @@ abbrev pub invariant-loop-place : goal.invariant-loop-place
 invariant-loop-place l = record {
   heads : length l.heads ≡ length l.initial.heads;
   next : length l.next ≡ length l.initial.next;
-  chains : AreChains (bucket_in (length l.initial.heads)) (length l.initial.heads) l.names l.place l.heads l.next;
+  chains : AreLinks l.names l.place l.apart.entries l.heads l.next;
   rest : twice_after (take l.place l.names) (drop l.place l.names) ≡ twice_after [] l.names;
 }

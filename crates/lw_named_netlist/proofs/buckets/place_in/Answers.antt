@@ -1,28 +1,8 @@
-use Rattle.std.proofs.Common.{◌≡◌, suc, [], rules, ◌-◌, length, sym, ◌∙◌, arith}
-use Rattle.std.proofs.lemmas.Bool.{false≢true}
-use Rattle.std.proofs.lemmas.Option.{get_or_from_slice_get}
-use Rattle.lw_named_netlist.specs.Chains.{bucket_in, name_at}
-use Rattle.lw_named_netlist.proofs.Chains.{sought-next}
+use Rattle.lw_named_netlist.proofs.Spared.{found-apart}
 use Rattle.lw_named_netlist.proofs.buckets.place_in.Goals as goal
-use Rattle.lw_facts.proofs.Lists.{bytes_eq_same, bytes_eq_is}
 
-pub places-preserved : goal.places-preserved
-places-preserved c =
-    let names = c.args.names.now in
-    let name = c.args.name.now in
-    let heads = c.args.heads.now in
-    let left = c.places.left in
-    let is : left ≡ suc (left - 1) = omega (arith, c.places-test.true) in
-    let named : name_at names (left - 1) ≡ c.get.result.now = get_or_from_slice_get names (left - 1) c.get.result.now [] c.get.ensures.name in
-    sought-next (bucket_in (length heads)) (length heads) names c.args.count heads c.args.next.now name left (left - 1) c.requires.linked.chains is
-    (λ e. false≢true (sym c.if-eq.false ∙ (c.eq.ensures ∙ bytes_eq_same c.get.result.now name (sym named ∙ e)))) c.places.invariant
+pub returns-in-Some : goal.returns-in-Some
+returns-in-Some c = record { within = c.in-Some.ensures.within; some = c.in-Some.ensures.some; none = tt }
 
-pub returns-then-eq : goal.returns-then-eq
-returns-then-eq c = record {
-  within = search rules;
-  some =
-      let name = c.args.name.now in
-      get_or_from_slice_get c.args.names.now (c.places.left - 1) c.get.result.now [] c.get.ensures.name
-      ∙ bytes_eq_is c.get.result.now name (sym c.eq.ensures ∙ c.if-eq.true);
-  none = tt;
-}
+pub returns : goal.returns
+returns c = found-apart c.args.names.now c.args.count c.args.apart.now.entries c.args.name.now c.place_apart.result c.in_default.ensures.none c.place_apart.ensures

@@ -1,5 +1,5 @@
 use Rattle.std.proofs.Common.{◌≡◌, ◌≤◌, length}
-use Rattle.lw_named_netlist.specs.Chains.{AreChains, bucket_in}
+use Rattle.lw_named_netlist.specs.Chains.{AreLinks}
 use Rattle.lw_named_netlist.proofs.buckets.relink.Given as goal
 
 abbrev pub invariant-loop-place : goal.invariant-loop-place
@@ -7,5 +7,5 @@ invariant-loop-place l = record {
   within : l.place ≤ length l.names;
   heads : length l.heads ≡ length l.initial.heads;
   next : length l.next ≡ length l.initial.next;
-  chains : AreChains (bucket_in (length l.initial.heads)) (length l.initial.heads) l.names l.place l.heads l.next;
+  chains : AreLinks l.names l.place l.apart.entries l.heads l.next;
 }
