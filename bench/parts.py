@@ -120,7 +120,7 @@ def luts(room, kept, circuits):
     for one, other in PAIRS:
         depth, number, order = ratio(figures, one, other, 2)
         row(f"{one} to {other}", number, depth, order, ratio(figures, one + " tables", other + " tables", 2)[0])
-    print(f"\nCompared with the circuits by `cec`: {counted([one for f in figures.values() for one in f['verdicts']])}.\n")
+    print(f"\nCompared with the circuits: {counted([one for f in figures.values() for one in f['verdicts']])}.\n")
 
 
 # Options and certificates
