@@ -41,7 +41,7 @@ answered() { # SECONDS MB WORD..
 refused_within() { # SECONDS MB STATUS LINE WORD..
     most=$1 && room_of=$2 && wanted_status=$3 && wanted_line=$4 && shift 4
     within "$most" "$room_of" "$@"
-    status $? "$wanted_status" && holds out && holds err "lwmap: $wanted_line"
+    status $? "$wanted_status" && holds out && holds err "$tried: $wanted_line"
 }
 
 # Whether 'out' has the values of IN for 64 drawn vectors of so many inputs, by LIB.
