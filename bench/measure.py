@@ -83,6 +83,13 @@ class Room:
             run.status = "none"
         return run
 
+    def generated(self, script):
+        """A circuit of ABC's 'gen' as an AIG, in a file of the room, with the number of its nodes."""
+        raw, made = self.path("raw.blif"), self.path("generated.blif")
+        self.abc(f"{script} {raw}; read_blif {raw}; strash; write_blif {made}", "generated.blif")
+        with open(made, encoding="latin-1") as text:
+            return made, sum(line.startswith(".names") for line in text)
+
     def mapped_by_abc(self, library, network, script, then=""):
         """The run, and delay and area of what ABC wrote before it did the rest."""
         made = self.path("abc.blif")

@@ -4,12 +4,9 @@
 # An adder whose carry goes from bit to bit, and one whose first bits are written otherwise.
 adder() { # BITS WAY
     awk -v n="$1" -v way="$2" 'BEGIN {
-        line = ""
-        for (i = 0; i < n; i++) line = line " a" i " b" i
-        print ".model m\n.inputs" line
-        line = ""
-        for (i = 0; i < n; i++) line = line " s" i
-        print ".outputs" line " c" n "\n.names c0"
+        printf ".model m\n.inputs"; for (i = 0; i < n; i++) printf " a%d b%d", i, i
+        printf "\n.outputs"; for (i = 0; i < n; i++) printf " s%d", i
+        print " c" n "\n.names c0"
         for (i = 0; i < n; i++) {
             print ".names a" i " b" i " p" i "\n10 1\n01 1"
             print ".names p" i " c" i " s" i "\n10 1\n01 1"

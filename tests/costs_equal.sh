@@ -73,8 +73,8 @@ equal_of_ands_in_two_orders() {
     of_lwequal
     for order in 1 -1; do
         awk -v n="${1:-65536}" -v order=$order 'BEGIN {
-            line = ".inputs"; for (i = 0; i < n; i++) line = line " x" i
-            print ".model m\n" line "\n.outputs f"
+            printf ".model m\n.inputs"; for (i = 0; i < n; i++) printf " x%d", i
+            print "\n.outputs f"
             from = order > 0 ? 0 : n - 1
             for (i = 1; i < n; i++)
                 print ".names " (i > 1 ? "s" i - 1 : "x" from) " x" from + order * i " " (i < n - 1 ? "s" i : "f") "\n11 1"
@@ -108,8 +108,9 @@ equal_of_many_outputs() {
     of_lwequal
     for order in 1 -1; do
         awk -v order=$order 'BEGIN {
-            n = 131071; line = ""; for (i = 1; i <= n; i++) line = line " f" (order > 0 ? i : n + 1 - i)
-            print ".model m\n.inputs a b\n.outputs" line
+            n = 131071; printf ".model m\n.inputs a b\n.outputs"
+            for (i = 1; i <= n; i++) printf " f%d", order > 0 ? i : n + 1 - i
+            print ""
             for (i = 1; i <= n; i++) print ".names a b f" i (order > 0 ? "\n11 1" : "\n0- 0\n-0 0")
             print ".end"
         }' >"MANY$order"
@@ -169,12 +170,13 @@ equal_of_wrong_ports() {
     of_lwequal
     for last in 1 2; do
         awk -v last=$last -v tail="$(long 1990)" 'BEGIN {
-            for (i = 0; i < 10000; i++) line = line " x" (i < 9999 ? i : i + last) tail
-            print ".model m\n.inputs" line "\n.outputs f\n.names f\n.end"
+            printf ".model m\n.inputs"
+            for (i = 0; i < 10000; i++) printf " x%d%s", i < 9999 ? i : i + last, tail
+            print "\n.outputs f\n.names f\n.end"
         }' >"PORTS$last"
     done
     refused_within 2 250 9 "PORTS2 has no input x10000$(long 1990), which PORTS1 has" PORTS1 PORTS2 || return
-    awk 'BEGIN { for (i = 0; i < 262143; i++) line = line " x" i; print ".model m\n.inputs" line "\n.outputs x0\n.end" }' >ONE
+    awk 'BEGIN { printf ".model m\n.inputs"; for (i = 0; i < 262143; i++) printf " x%d", i; print "\n.outputs x0\n.end" }' >ONE
     sed 's/ x262142$/ y/' ONE >OTHER && sed 's/^\.outputs x0$/.outputs x1/' ONE >THIRD
     refused_within 2 250 9 'OTHER has no input x262142, which ONE has' ONE OTHER || return
     refused_within 2 250 9 'THIRD has no output x0, which ONE has' ONE THIRD || return
