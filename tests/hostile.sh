@@ -81,12 +81,17 @@ stack() {
 
 # Nesting
 
+# A library of one cell with this function.
+deep_cell() { # FUNCTION
+    printf '%s\n' "GATE deep 1 O=$1;" 'PIN * INV 1 999 1 0 1 0' >LIB
+}
+
 deep_functions() {
     stack "${1:-8192}"
     inverter_files
     for function in "$(repeat 2045 '!')a" "$(repeat 1022 '(')!a$(repeat 1022 ')')" "a$(repeat 2045 "'")" \
         "$(repeat 681 '!(')a$(repeat 681 ')')"; do
-        printf '%s\n' "GATE deep 1 O=$function;" 'PIN * INV 1 999 1 0 1 0' >LIB
+        deep_cell "$function"
         run map LIB IN
         status $? 0 && holds out '.model m' '.inputs a' '.outputs f' '.gate deep a=a O=f' '.end' && holds err || return
     done
@@ -97,11 +102,11 @@ deep_functions_that_are_none() {
     inverter_files
     for function in "$(repeat 2046 '(')" "$(repeat 2045 '(')a" "$(repeat 2046 ')')" "$(repeat 2046 '!')" "a$(repeat 1022 '+(')" \
         "$(repeat 1000 '(')a$(repeat 999 ')')"; do
-        printf '%s\n' "GATE deep 1 O=$function;" 'PIN * INV 1 999 1 0 1 0' >LIB
+        deep_cell "$function"
         refused 4 'LIB line 1: something else expected' map LIB IN || return
     done
     for function in "$(repeat 2046 '!')a" "$(repeat 1022 '(')!!!a$(repeat 1022 ')')" "a$(repeat 2046 "'")" "$(repeat 4000 '(')"; do
-        printf '%s\n' "GATE deep 1 O=$function;" 'PIN * INV 1 999 1 0 1 0' >LIB
+        deep_cell "$function"
         refused 4 'LIB line 1: function longer than 2048 bytes' map LIB IN || return
     done
 }
