@@ -47,13 +47,17 @@ equal_of_most_signals() {
     differ_within s47_4094 5 512 ONE WRONG
 }
 
-equal_of_deep_chains() {
+equal_of_long_carries() {
     of_lwequal
     adder 50000 majority >ONE && adder 50000 choice >OTHER
     equal_within 5 512 ONE OTHER || return
     awk '/^\.names p777 c777 s777$/ { print; getline; print "1- 1"; next } 1' OTHER >WRONG && ! cmp -s OTHER WRONG || return
-    differ_within s777 5 512 ONE WRONG || return
-    # (an even and an odd number of complements)
+    differ_within s777 5 512 ONE WRONG
+}
+
+# An even and an odd number of complements.
+equal_of_deep_chains() {
+    of_lwequal
     for nodes in 262142 262141; do
         awk -v n=$nodes 'BEGIN {
             print ".model m\n.inputs s0\n.outputs f"
@@ -109,7 +113,7 @@ equal_of_many_outputs() {
     for order in 1 -1; do
         awk -v order=$order 'BEGIN {
             n = 131071; printf ".model m\n.inputs a b\n.outputs"
-            for (i = 1; i <= n; i++) printf " f%d", order > 0 ? i : n + 1 - i
+            for (i = 1; i <= n; i++) printf " f%d", (order > 0 ? i : n + 1 - i)
             print ""
             for (i = 1; i <= n; i++) print ".names a b f" i (order > 0 ? "\n11 1" : "\n0- 0\n-0 0")
             print ".end"
@@ -171,7 +175,7 @@ equal_of_wrong_ports() {
     for last in 1 2; do
         awk -v last=$last -v tail="$(long 1990)" 'BEGIN {
             printf ".model m\n.inputs"
-            for (i = 0; i < 10000; i++) printf " x%d%s", i < 9999 ? i : i + last, tail
+            for (i = 0; i < 10000; i++) printf " x%d%s", (i < 9999 ? i : i + last), tail
             print "\n.outputs f\n.names f\n.end"
         }' >"PORTS$last"
     done
@@ -201,6 +205,7 @@ equal_of_many_conflicts() {
     case $? in 0 | 2) ;; *) return 1 ;; esac
 }
 
-costs_of_equal='equal_of_a_million_gates equal_of_100000_gates equal_of_most_signals equal_of_deep_chains equal_of_ands_in_two_orders
+costs_of_equal='equal_of_a_million_gates equal_of_100000_gates equal_of_most_signals equal_of_long_carries equal_of_deep_chains
+    equal_of_ands_in_two_orders
     equal_of_wide_nodes equal_of_many_outputs equal_of_names_that_collide equal_of_nets_that_collide equal_of_files_that_are_cut
     equal_of_wrong_ports equal_of_many_conflicts'
