@@ -60,7 +60,7 @@ def machine(room):
     row("Yosys", first_line("yosys", "-V").split("(")[0])
     row("start of `lwmap`", f"{1000 * room.start([room.program]):.1f} ms")
     row("start of ABC", f"{1000 * room.start([ABC, '-s', '-q', 'quit']):.1f} ms" if ABC else "-")
-    row("runs for a time; limit of a run, of `cec`", f"{RUNS}; {LIMIT} and {max(1, LIMIT // 5)} processor seconds")
+    row("runs for a time; limit of a run, of a comparison", f"{RUNS}; {LIMIT} and {max(1, LIMIT // 5)} processor seconds")
     return rows
 
 

@@ -9,12 +9,9 @@ nand2 of delay 1.5 and nand3 of delay 2. The chosen cover is drawn thick, and wh
 Example: python3 bench/and3.py
 """
 import itertools
-import os
-import sys
 
-from lib import script, svg
+from lib import svg
 
-ROOT = os.path.join(os.path.dirname(os.path.abspath(__file__)), "..")
 INV, NANDS = 1, {2: 1.5, 3: 2}
 INPUTS = "abc"
 # The operands of each class by its number; class n + 1 is the complement of class n.
@@ -115,13 +112,5 @@ class Drawing:
                            [svg.text(16, 616, note, "small")])
 
 
-def main(words):
-    if len(words) > 1:
-        sys.exit("and3: usage: python3 bench/and3.py [OUT]")
-    out = words[0] if words else os.path.join(ROOT, "docs", "pictures", "and3.svg")
-    with open(out, "w", encoding="utf-8") as file:
-        file.write(Drawing().draw())
-
-
 if __name__ == "__main__":
-    script.run("and3", main, written="the picture")
+    svg.run("and3", lambda: Drawing().draw())

@@ -9,9 +9,8 @@ Example: python3 bench/choices.py
 """
 import itertools
 import os
-import sys
 
-from lib import genlib, script, svg
+from lib import genlib, svg
 
 ROOT = os.path.join(os.path.dirname(os.path.abspath(__file__)), "..")
 STARTS = {"a": 3, "b": 0, "c": 0, "d": 0}
@@ -98,13 +97,5 @@ def draw():
     return svg.picture(1200, 350, title, parts + [svg.text(16, 336, f"Delays of examples/small/small.genlib: {delays}", "small")])
 
 
-def main(words):
-    if len(words) > 1:
-        sys.exit("choices: usage: python3 bench/choices.py [OUT]")
-    out = words[0] if words else os.path.join(ROOT, "docs", "pictures", "choices.svg")
-    with open(out, "w", encoding="utf-8") as file:
-        file.write(draw())
-
-
 if __name__ == "__main__":
-    script.run("choices", main, written="the picture")
+    svg.run("choices", draw)

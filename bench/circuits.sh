@@ -2,7 +2,8 @@
 # Maps the circuits of bench/circuits with the libraries of bench/libs, and prints a table: the processor time of the
 # whole program, the most memory that it held, the delay and the gates of what it wrote, and the same time and delay of
 # ABC's command 'map', where ABC is installed (Debian's package berkeley-abc), with the ratio of the times. With -e each
-# netlist is shown equivalent to its circuit by ABC's command 'cec'. With words it takes those circuits alone:
+# netlist is shown equal to its circuit by lwequal, or by ABC's 'cec' where that is undecided, and the last line of a table says how
+# many by which. With words it takes those circuits alone:
 #
 #   sh bench/circuits.sh [-e] [CIRCUIT..]
 #
@@ -15,7 +16,6 @@ program=$(sh "$root/release/program.sh") || exit 1
 abc=$(command -v berkeley-abc || true)
 equivalence=
 if [ "${1:-}" = -e ]; then equivalence=yes && shift; fi
-[ -n "$abc" ] || [ -z "$equivalence" ] || { echo "circuits: there is no berkeley-abc; it is Debian's package of that name" >&2 && exit 1; }
 bench=$root/bench
 limit=${LIMIT:-60}
 runs=${RUNS:-3}
@@ -24,6 +24,8 @@ trap 'rm -rf "$room"' EXIT
 
 # shellcheck source=bench/least.sh
 . "$bench/least.sh"
+# shellcheck source=bench/same.sh
+. "$bench/same.sh"
 
 # The same; what a run that failed said is shown.
 heard() { # COMMAND..
@@ -59,9 +61,10 @@ for library in ${LIBS:-tiny mcnc rich}; do
         echo "| $circuit | $ours | $held | $delay | $gates | $theirs | $their_delay | $ratio |"
         if [ -n "$equivalence" ]; then
             python3 "$bench/timing.py" -u "$lib" "$room/mapped" >"$room/plain.blif"
-            "$abc" -q "cec $network $room/plain.blif" >"$room/verdict" 2>&1
-            grep -q 'are equivalent' "$room/verdict" || { echo "circuits: $circuit with $library is not equivalent:" >&2 && cat "$room/verdict" >&2 && exit 1; }
+            same "$network" "$room/plain.blif" || { echo "circuits: $circuit with $library: $verdict" >&2 && exit 1; }
         fi
     done
-    awk -v library="$library" '{ sum += log($1); n++; if ($1 > 1) slower++ } END { if (n) printf "geometric mean of the ratios with %s: %.3f over %d circuits, %d of them slower\n\n", library, exp(sum / n), n, slower }' "$room/ratios"
+    awk -v library="$library" '{ sum += log($1); n++; if ($1 > 1) slower++ } END { if (n) printf "geometric mean of the ratios with %s: %.3f over %d circuits, %d of them slower\n", library, exp(sum / n), n, slower }' "$room/ratios"
+    spoken
+    echo
 done

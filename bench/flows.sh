@@ -5,14 +5,14 @@
 #   sh bench/flows.sh [CIRCUIT..]
 #
 # A front end is a script of ABC that restructures the circuit before it is mapped; in the last two ABC maps it, and
-# the functions of the cells become the nodes. A delay of this program stands in the table only where ABC's 'cec' shows
-# the netlist equivalent to the circuit as given; 'undecided' stands where it does not come to an end. All delays are
+# the functions of the cells become the nodes. A delay of this program stands in the table only where lwequal, or
+# ABC's 'cec' where that is undecided, shows the netlist equal to the circuit as given; else 'undecided' stands. All delays are
 # computed by bench/timing.py from the larger of rise and fall block delay, and ABC gets each library with both delays
 # set to the larger one, and with constants and a buffer of no delay where it has none. The least delay of a row is bold.
 #
 # LIBS names the libraries (tiny, mcnc, rich by default), LIMIT the processor seconds that one step may take (20), JOBS
-# how many circuits are taken at once (1). Each circuit that is done is named on standard error. The program is
-# the one that release/program.sh finds. ABC is Debian's package berkeley-abc.
+# how many circuits are taken at once (1). Each circuit that is done is named on standard error, with who showed how
+# much. The program is the one that release/program.sh finds. ABC is Debian's package berkeley-abc.
 set -eu
 root=$(dirname -- "$(dirname -- "$(readlink -f -- "$0")")")
 program=$(sh "$root/release/program.sh") || exit 1
@@ -27,6 +27,8 @@ trap 'rm -rf "$room"' EXIT
 
 # shellcheck source=bench/fronts.sh
 . "$bench/fronts.sh"
+# shellcheck source=bench/same.sh
+. "$bench/same.sh"
 ours=$all_fronts
 theirs=$all_mappers
 
@@ -50,11 +52,6 @@ front() { # CIRCUIT FRONT
     [ -e "$made" ] || abc "read_blif $given; $script; write_blif $made" || : >"$made"
 }
 
-# Whether ABC shows two networks equivalent.
-equivalent() { # NETWORK NETWORK
-    abc "cec $1 $2" && grep -q 'are equivalent' "$room/said"
-}
-
 # One entry of the table: the delay of this program's netlist after a front end, or why there is none.
 our_delay() { # LIB CIRCUIT FRONT
     front "$2" "$3"
@@ -67,13 +64,10 @@ our_delay() { # LIB CIRCUIT FRONT
         echo "status $answer"
     else
         python3 "$bench/timing.py" -u "$1" "$room/mapped" >"$room/plain.blif"
-        if equivalent "$given" "$room/plain.blif" ||
-            { equivalent "$made" "$room/plain.blif" && equivalent "$given" "$made"; }; then
+        if same "$given" "$room/plain.blif" || { same "$made" "$room/plain.blif" && same "$given" "$made"; }; then
             python3 "$bench/timing.py" -s "$1" "$room/mapped" | cut -d ' ' -f 1
-        elif grep -q 'NOT EQUIVALENT' "$room/said"; then
-            echo "NOT EQUIVALENT"
         else
-            echo "undecided"
+            echo "$verdict"
         fi
     fi
 }
@@ -133,7 +127,7 @@ rows_of() { # CIRCUIT
         for name in $theirs; do row="$row|$(their_delay "$1" "$name")"; done
         echo "$row"
     done
-    echo "flows: $1" >&2
+    echo "flows: $1: $(spoken)" >&2
 }
 
 # The script calls itself with -r for the rows of one circuit.

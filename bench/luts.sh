@@ -1,9 +1,9 @@
 #!/bin/sh
 # Covers the circuits of bench/circuits by lookup tables of at most 4 and at most 6 fan-ins, and prints a table: depth and number
 # of tables, and the processor time of the whole program in milliseconds, of 'lut 4' and 'lut 6', and the same of ABC's 'if -K 4',
-# 'if -K 6' and 'dch; if -K 6', where ABC is installed (Debian's package berkeley-abc). There each result is shown equivalent to
-# its circuit by ABC's 'cec'; 'undecided' comes after it if that does not come to an end. With words it takes those circuits
-# alone:
+# 'if -K 6' and 'dch; if -K 6', where ABC is installed (Debian's package berkeley-abc). Each result is shown equal to its circuit by
+# lwequal, or by ABC's 'cec' where that is undecided, and the last line says how many by which; 'undecided' comes after a result
+# where neither decides. With words it takes those circuits alone:
 #
 #   sh bench/luts.sh [-f] [CIRCUIT..]
 #
@@ -33,6 +33,8 @@ trap 'rm -rf "$room"' EXIT
 . "$bench/least.sh"
 # shellcheck source=bench/fronts.sh
 . "$bench/fronts.sh"
+# shellcheck source=bench/same.sh
+. "$bench/same.sh"
 
 # ABC's reader refuses a node that has fan-ins and no rows, which is a table that is false everywhere. This gives it a row.
 mended() { # TEXT
@@ -44,20 +46,15 @@ size_of() { # TEXT
     python3 "$bench/tables.py" "$1" | awk '{ print $1 ", " $2 }'
 }
 
-# Leaves in 'size' depth and tables of 'lut' with so many fan-ins, in 'best' its time, and adds why it is not shown equivalent.
+# Leaves in 'size' depth and tables of 'lut' with so many fan-ins, in 'best' its time, and adds why it is not shown equal.
 ours() { # FANINS CIRCUIT NETWORK
     best= && size=
     # shellcheck disable=SC2086
     least "$program" lut "$1" $options "$3" || { size="over $limit s, or refused" && return; }
     size=$(size_of "$room/out")
-    [ -n "$abc" ] || return 0
     mended "$room/out" >"$room/mended.blif"
-    timeout "$limit" "$abc" -s -q "cec $bench/circuits/$2.blif $room/mended.blif" >"$room/verdict" 2>&1 || true
-    if grep -q 'NOT EQUIVALENT' "$room/verdict"; then
-        echo "luts: lut $1 of $2 is not equivalent" >&2 && exit 1
-    elif ! grep -q 'are equivalent' "$room/verdict"; then
-        size="$size, undecided"
-    fi
+    same "$bench/circuits/$2.blif" "$room/mended.blif" || size="$size, undecided"
+    case $verdict in different*) echo "luts: lut $1 of $2 is $verdict" >&2 && exit 1 ;; esac
 }
 
 # The same for a script of ABC, after 'strash'; what it writes is left in the room.
@@ -113,6 +110,7 @@ if [ -n "$behind" ]; then
     head="$head ABC: if -K 6 | dch; if -K 6 | if -g; if -K 6 |" && under="$under---|---|---|"
     echo "$head" && echo "$under"
     for circuit; do behind_row "$circuit"; done
+    echo && spoken
     exit
 fi
 echo "| circuit | lut 4 | ms | if -K 4 | ms | lut 6 | ms | if -K 6 | ms | dch; if -K 6 | ms |"
@@ -127,3 +125,4 @@ awk '
         for (k = 4; k <= 6; k += 2) if (n[k])
             printf "geometric mean of the ratios of lut %d to if -K %d: depth %.2f, time %.2f, over %d circuits\n", k, k, exp(depths[k] / m[k]), exp(times[k] / n[k]), n[k]
     }' "$room/ratios"
+spoken

@@ -27,7 +27,7 @@ class Circuit:
             self.figures[key + " MB"] = run.memory
             if key.removeprefix("after ") in ("given", *MAPPED) and program.has("lwarea"):
                 self.recovered(key, path)
-            if ABC and os.environ.get("CEC") and key in ("given", "after three rounds"):
+            if os.environ.get("COMPARE") and key in ("given", "after three rounds"):
                 self.figures["verdicts"].append(self.room.equivalent(self.network, self.library.plain(self.room, run.out)))
 
     def recovered(self, key, path):
@@ -71,7 +71,7 @@ class Circuit:
 
 
 def measure(room, kept, libraries, sets):
-    """For each set and library the figures of each circuit, and what cec said of netlists."""
+    """For each set and library the figures of each circuit, and what was said of netlists compared with them."""
     found, verdicts = {}, []
     for library in libraries:
         for folder, circuits in sets.items():
@@ -96,7 +96,7 @@ def summary(found, verdicts):
         row(*cells)
     after(found)
     if verdicts:
-        print(f"Netlists of `lwmap` compared with their circuits by `cec`: {counted(verdicts)}.\n")
+        print(f"Netlists of `lwmap` compared with their circuits: {counted(verdicts)}.\n")
 
 
 def after(found):

@@ -12,7 +12,7 @@ import sys
 import time
 
 import tables
-from lib import genlib, script
+from lib import equality, genlib, script
 from lib.timing import Timing, unmap
 
 LIMIT = int(os.environ.get("LIMIT", "10"))
@@ -83,6 +83,13 @@ class Room:
             run.status = "none"
         return run
 
+    def generated(self, script):
+        """A circuit of ABC's 'gen' as an AIG, in a file of the room, with the number of its nodes."""
+        raw, made = self.path("raw.blif"), self.path("generated.blif")
+        self.abc(f"{script} {raw}; read_blif {raw}; strash; write_blif {made}", "generated.blif")
+        with open(made, encoding="latin-1") as text:
+            return made, sum(line.startswith(".names") for line in text)
+
     def mapped_by_abc(self, library, network, script, then=""):
         """The run, and delay and area of what ABC wrote before it did the rest."""
         made = self.path("abc.blif")
@@ -95,13 +102,9 @@ class Room:
         return run, library.size(run.out) if run.ok() else None
 
     def equivalent(self, one, other):
-        """What ABC's 'cec' says, in a fifth of the limit."""
-        kept, self.limit = self.limit, max(1, LIMIT // 5)
-        self.once([ABC, "-s", "-q", f"cec {one} {other}"], "verdict")
-        self.limit = kept
-        with open(self.path("verdict"), encoding="latin-1") as text:
-            said_of = text.read()
-        return "different" if "NOT EQUIVALENT" in said_of else "equivalent" if "are equivalent" in said_of else "undecided"
+        """Whether two networks of plain nodes are the same, and who says so: lwequal, or ABC's 'cec' where that is undecided. Each may
+        take a fifth of the limit."""
+        return equality.answered(one, other, max(1, LIMIT // 5))
 
 
 class Kept:

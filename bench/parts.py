@@ -120,7 +120,7 @@ def luts(room, kept, circuits):
     for one, other in PAIRS:
         depth, number, order = ratio(figures, one, other, 2)
         row(f"{one} to {other}", number, depth, order, ratio(figures, one + " tables", other + " tables", 2)[0])
-    print(f"\nCompared with the circuits by `cec`: {counted([one for f in figures.values() for one in f['verdicts']])}.\n")
+    print(f"\nCompared with the circuits: {counted([one for f in figures.values() for one in f['verdicts']])}.\n")
 
 
 # Options and certificates
@@ -189,10 +189,7 @@ SIZES = [("multiplier of 32 bits", "gen -N 32 -m"), ("multiplier of 64 bits", "g
 
 def size_circuit(room, library, script):
     """The cells of the row of a circuit."""
-    raw, network = room.path("raw.blif"), room.path("size.blif")
-    room.abc(f"{script} {raw}; read_blif {raw}; strash; write_blif {network}", "size.blif")
-    with open(network, encoding="latin-1") as text:
-        nodes = sum(line.startswith(".names") for line in text)
+    network, nodes = room.generated(script)
     theirs, a = room.mapped_by_abc(library, network, SCRIPTS["map"])
     ours, b = room.mapped(library, network, "map")
     return [f"{nodes:,}", said(theirs.seconds, 2) if a else f"over {room.limit}", f"{theirs.memory:.0f}",

@@ -7,12 +7,9 @@ OUT is docs/pictures/pipeline.svg without words. Under each step stands the theo
 
 Example: python3 bench/pipeline.py
 """
-import os
-import sys
 
-from lib import script, svg
+from lib import svg
 
-ROOT = os.path.join(os.path.dirname(os.path.abspath(__file__)), "..")
 # what is made, how, and what carries that; a row of boxes each
 ROWS = [[("IN: BLIF", "", ""), ("network", "read, close", "IsBlifNetwork"), ("forms", "list", "forms: listed"), ("graph", "reduce", "classes_have_the_trees")],
         [("LIB: genlib", "", ""), ("cells", "read", "library_of"), ("patterns", "bracket", "library_patterns_have_the_truth"), ("labels", "search", "labels_are_least_covers")],
@@ -48,13 +45,5 @@ def draw():
     return svg.picture(860, 400, title, parts)
 
 
-def main(words):
-    if len(words) > 1:
-        sys.exit("pipeline: usage: python3 bench/pipeline.py [OUT]")
-    out = words[0] if words else os.path.join(ROOT, "docs", "pictures", "pipeline.svg")
-    with open(out, "w", encoding="utf-8") as file:
-        file.write(draw())
-
-
 if __name__ == "__main__":
-    script.run("pipeline", main, written="the picture")
+    svg.run("pipeline", draw)

@@ -80,6 +80,9 @@ Description: map logic to library cells with the smallest delay, proved
  each netlist computes its network and that no cover in the search space is
  faster.
  .
+ lwequal compares two networks, and its yes is proved. lwarea gives area back
+ where no output needs the speed.
+ .
  lwflow reads Verilog, BLIF or AIGER, tries several commands of ABC with lwmap
  and with ABC's own mapper, keeps the best netlist, compares each step with
  the design, and writes a report.

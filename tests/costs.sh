@@ -10,6 +10,10 @@ failing() { # CASE
     names_that_collide) echo '12 s' ;;
     names_of_networks_that_collide) echo '1.1 s' ;;
     cells_with_one_beginning) echo '4.8 s' ;;
+    equal_of_a_million_gates | equal_of_100000_gates | equal_of_most_signals) echo '2.7 s for 30,000 gates, and by the square' ;;
+    equal_of_long_carries) echo '1.3 s for 4,000 bits, and by the square' ;;
+    equal_of_ands_in_two_orders) echo '0.8 s for 2,000 inputs, and by the square' ;;
+    equal_of_wide_nodes) echo 'over 5.7 s' ;;
     *) return 1 ;;
     esac
 }
@@ -40,7 +44,7 @@ answered() { # SECONDS MB WORD..
 refused_within() { # SECONDS MB STATUS LINE WORD..
     most=$1 && room_of=$2 && wanted_status=$3 && wanted_line=$4 && shift 4
     within "$most" "$room_of" "$@"
-    status $? "$wanted_status" && holds out && holds err "lwmap: $wanted_line"
+    status $? "$wanted_status" && holds out && holds err "$tried: $wanted_line"
 }
 
 # Whether 'out' has the values of IN for 64 drawn vectors of so many inputs, by LIB.

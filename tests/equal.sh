@@ -9,29 +9,12 @@ tests=$(dirname -- "$(readlink -f -- "$0")")
 tried=lwequal
 # shellcheck source=tests/cases.sh
 . "$tests/cases.sh"
+# shellcheck source=tests/arithmetic.sh
+. "$tests/arithmetic.sh"
 limit=${SECONDS_EACH:-60}
 
 run() {
     timeout "$limit" "$program" "$@" </dev/null >out 2>err
-}
-
-# A small adder whose carry goes from bit to bit, and one whose first bits are written otherwise.
-adder() { # BITS WAY
-    awk -v n="$1" -v way="$2" 'BEGIN {
-        line = ""
-        for (i = 0; i < n; i++) line = line " a" i " b" i
-        print ".model m\n.inputs" line
-        line = ""
-        for (i = 0; i < n; i++) line = line " s" i
-        print ".outputs" line " c" n "\n.names c0"
-        for (i = 0; i < n; i++) {
-            print ".names a" i " b" i " p" i "\n10 1\n01 1"
-            print ".names p" i " c" i " s" i "\n10 1\n01 1"
-            if (way == "majority") print ".names a" i " b" i " c" i " c" i + 1 "\n11- 1\n1-1 1\n-11 1"
-            else print ".names p" i " a" i " c" i " c" i + 1 "\n1-1 1\n01- 1"
-        }
-        print ".end"
-    }'
 }
 
 # An assignment that was told is one: the values of lwmap sim differ under it.
@@ -71,39 +54,28 @@ counts_on_standard_error() {
         grep -qxE 'lwequal: points 9, nodes [0-9]+, pairs equal [0-9]+, apart [0-9]+, left [0-9]+, conflicts [0-9]+' err || { cat err && return 1; }
 }
 
-# Two multipliers whose rows are added in opposite orders; with few conflicts they stay undecided.
-multiplier() { # BITS FIRST STEP
-    awk -v n="$1" -v first="$2" -v step="$3" 'BEGIN {
-        line = ""
-        for (i = 0; i < n; i++) line = line " a" i " b" i
-        print ".model m\n.inputs" line
-        line = ""
-        for (k = 0; k < 2 * n; k++) line = line " m" k
-        print ".outputs" line
-        for (k = 0; k < 2 * n; k++) { sum[k] = "z"; }
-        print ".names z"
-        for (t = 0; t < n; t++) {
-            i = first + step * t
-            carry = "z"
-            for (k = i; k < 2 * n; k++) {
-                j = k - i
-                term = "z"
-                if (j < n) { term = "p" i "_" j; print ".names a" i " b" j " " term "\n11 1" }
-                s = "s" t "_" k; c = "c" t "_" k
-                print ".names " sum[k] " " term " " carry " " s "\n100 1\n010 1\n001 1\n111 1"
-                print ".names " sum[k] " " term " " carry " " c "\n11- 1\n1-1 1\n-11 1"
-                sum[k] = s; carry = c
-            }
-        }
-        for (k = 0; k < 2 * n; k++) print ".names " sum[k] " m" k "\n1 1"
-        print ".end"
-    }'
-}
-
+# (with few conflicts they stay undecided)
 limit_is_reached() {
     multiplier 6 0 1 >ONE && multiplier 6 5 -1 >OTHER
     run -n 1 ONE OTHER
     status $? 2 && holds err && [ -s out ] && ! grep -qv '^undecided m[0-9]*$' out
+}
+
+# What latches read is undecided by the names of their outputs, and a difference is told before what is undecided.
+limit_is_reached_at_latches() {
+    for way in '0 1' '5 -1'; do
+        # shellcheck disable=SC2086
+        multiplier 6 $way | sed 's/^\.outputs.*/.outputs/' | awk '/^\.end/ { for (k = 0; k < 12; k++) print ".latch m" k " q" k " 2" } 1' >"BY${way#* }"
+    done
+    run -n 1 BY1 BY-1
+    status $? 2 && holds err && [ -s out ] && ! grep -qv '^undecided latch q[0-9]*$' out
+}
+
+difference_beside_what_is_undecided() {
+    multiplier 6 0 1 | sed 's/^\.outputs/& f/; s/^\.end/.names a0 f\n1 1\n&/' >ONE
+    multiplier 6 5 -1 | sed 's/^\.outputs/& f/; s/^\.end/.names a0 f\n0 1\n&/' >OTHER
+    run -n 1 ONE OTHER
+    status $? 1 && holds err && head -n 1 out >first && holds first 'differ f'
 }
 
 library_of_too_many_bytes() {
@@ -221,7 +193,8 @@ for it in "$tests"/equal/*/; do
     [ $# -eq 0 ] || case " $* " in *" ${it##*/} "*) ;; *) continue ;; esac
     attempt "${it##*/}" row "$it"
 done
-for it in adders_are_equal wrong_gate_is_found two_runs_agree counts_on_standard_error limit_is_reached library_of_too_many_bytes \
+for it in adders_are_equal wrong_gate_is_found two_runs_agree counts_on_standard_error limit_is_reached limit_is_reached_at_latches \
+    difference_beside_what_is_undecided library_of_too_many_bytes \
     network_of_too_many_bytes standard_output_is_full standard_error_is_closed file_by_a_pipe folder_is_no_file \
     word_that_is_not_utf8 out_of_memory a_million_gates most_ports netlists_of_lwmap; do
     [ $# -eq 0 ] || case " $* " in *" $it "*) ;; *) continue ;; esac

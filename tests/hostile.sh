@@ -1,7 +1,7 @@
 #!/bin/sh
 # Tries the built program on what is made to break it: nesting, chains and circles as deep as the formats let them be, files at
-# each limit and one above, one line of 64 MB, small files that ask for long searches (tests/costs.sh), and files and streams that
-# fail. Status, output and error have to be as docs/FORMATS.md says, and no run ends by a signal, all with 256 KB of stack where
+# each limit and one above, one line of 64 MB, small files that ask for long searches (tests/costs.sh, and tests/costs_equal.sh for lwequal),
+# and files and streams that fail. Status, output and error have to be as docs/FORMATS.md says, and no run ends by a signal, all with 256 KB of stack where
 # nothing else is said. It stands outside of the gate, since some cases take many seconds and 2 GB. With words it runs those cases
 # alone, as in: sh tests/hostile.sh deep_factoring
 # A case that is known to fail is told with what it takes, and tried only where it is named.
@@ -81,11 +81,16 @@ stack() {
 
 # Nesting
 
+# A library of one cell with this function.
+deep_cell() { # FUNCTION
+    printf '%s\n' "GATE deep 1 O=$1;" 'PIN * INV 1 999 1 0 1 0' >LIB
+}
+
 deep_functions() {
     inverter_files
     for function in "$(repeat 2045 '!')a" "$(repeat 1022 '(')!a$(repeat 1022 ')')" "a$(repeat 2045 "'")" \
         "$(repeat 681 '!(')a$(repeat 681 ')')"; do
-        printf '%s\n' "GATE deep 1 O=$function;" 'PIN * INV 1 999 1 0 1 0' >LIB
+        deep_cell "$function"
         run map LIB IN
         status $? 0 && holds out '.model m' '.inputs a' '.outputs f' '.gate deep a=a O=f' '.end' && holds err || return
     done
@@ -95,11 +100,11 @@ deep_functions_that_are_none() {
     inverter_files
     for function in "$(repeat 2046 '(')" "$(repeat 2045 '(')a" "$(repeat 2046 ')')" "$(repeat 2046 '!')" "a$(repeat 1022 '+(')" \
         "$(repeat 1000 '(')a$(repeat 999 ')')"; do
-        printf '%s\n' "GATE deep 1 O=$function;" 'PIN * INV 1 999 1 0 1 0' >LIB
+        deep_cell "$function"
         refused 4 'LIB line 1: something else expected' map LIB IN || return
     done
     for function in "$(repeat 2046 '!')a" "$(repeat 1022 '(')!!!a$(repeat 1022 ')')" "a$(repeat 2046 "'")" "$(repeat 4000 '(')"; do
-        printf '%s\n' "GATE deep 1 O=$function;" 'PIN * INV 1 999 1 0 1 0' >LIB
+        deep_cell "$function"
         refused 4 'LIB line 1: function longer than 2048 bytes' map LIB IN || return
     done
 }
@@ -579,6 +584,8 @@ unwritten() { # WORD..
 
 # shellcheck source=tests/costs.sh
 . "$tests/costs.sh"
+# shellcheck source=tests/costs_equal.sh
+. "$tests/costs_equal.sh"
 
 # shellcheck disable=SC2086
 for it in deep_functions deep_functions_that_are_none deep_pattern deep_factoring deep_factoring_to_one_input \
@@ -587,7 +594,7 @@ for it in deep_functions deep_functions_that_are_none deep_pattern deep_factorin
     most_bytes_of_a_library most_forms most_splits most_nodes_of_big most_rows_over_the_most_columns words_beyond_all_use \
     files_that_cannot_be_opened file_that_cannot_be_read file_without_permission file_that_is_empty \
     file_that_changes_before_it_is_read file_that_grows file_that_shrinks \
-    pipe_that_nobody_reads pipe_that_is_closed_early error_that_nobody_reads output_that_cannot_be_written $costs; do
+    pipe_that_nobody_reads pipe_that_is_closed_early error_that_nobody_reads output_that_cannot_be_written $costs $costs_of_equal; do
     if [ $# -eq 0 ]; then
         if takes=$(failing "$it"); then echo "known to fail: $it: $takes" && continue; fi
     else

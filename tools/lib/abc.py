@@ -13,6 +13,14 @@ def call(commands, room, log, limit):
     return runs.run([TOOL, "-s", "-q", commands], os.path.join(room, log), cwd=room, limit=limit)
 
 
+def heard(commands, room, log, limit):
+    """The same, and what this run alone said, as a log may hold what others said."""
+    path = os.path.join(room, log)
+    if os.path.exists(path):
+        os.remove(path)
+    return call(commands, room, log, limit), said(path)
+
+
 def whole(path):
     """Whether a file of BLIF was written to its end."""
     try:
@@ -43,19 +51,14 @@ def swept(one, other, room, log, limit):
         return False
     made = [f"{log}.{k}.aig" for k in (0, 1)]
     steps = [f"read_blif {file}; strash; write_aiger {aig}" for file, aig in zip((one, other), made)]
-    call("; ".join(steps + ["&cec " + " ".join(made)]), room, log, limit)
-    return "Networks are equivalent." in said(os.path.join(room, log))
+    return "Networks are equivalent." in heard("; ".join(steps + ["&cec " + " ".join(made)]), room, log, limit)[1]
 
 
 def cec(one, other, room, log, limit):
     """Whether two networks in a folder compute the same: 'equal', 'different' or 'undecided', and why."""
     if same(os.path.join(room, one), os.path.join(room, other)) or swept(one, other, room, log + ".swept", limit / 2):
         return "equal", ""
-    path = os.path.join(room, log)
-    if os.path.exists(path):
-        os.remove(path)
-    ended = call(f"cec {one} {other}", room, log, limit)
-    text = said(path)
+    ended, text = heard(f"cec {one} {other}", room, log, limit)
     if "NOT EQUIVALENT" in text:
         failed = re.search(r"Verification failed for (.*)", text)
         return "different", failed[1].strip() if failed else "cec found a difference"
@@ -63,18 +66,15 @@ def cec(one, other, room, log, limit):
         return "equal", ""
     if ended.late:
         return "undecided", f"cec came to no end in {limit:g} s"
-    return "undecided", "cec: " + (runs.tail(path) or f"ended with {ended.status}")
+    return "undecided", "cec: " + (runs.tail(ended.log) or f"ended with {ended.status}")
 
 
 def sized(netlist, library, result, room, log, limit, buffers=True):
     """Buffers (where the library has cells for it) and sizes a netlist of .gate lines under a library that ABC has read as
     .scl. Gives delay in picoseconds and area, or None; the netlist goes to the file result."""
-    path = os.path.join(room, log)
-    if os.path.exists(path):
-        os.remove(path)
     sizing = ("buffer; topo; " if buffers else "") + "upsize; dnsize; topo; stime"
-    call(f"read_scl {library}; read_blif {netlist}; topo; {sizing}; write_blif {result}", room, log, limit)
-    found = re.findall(r"Area =\s*([0-9.]+).*?Delay =\s*([0-9.]+) ps", re.sub(r"\x1b\[[0-9;]*m", "", said(path)))
+    _, text = heard(f"read_scl {library}; read_blif {netlist}; topo; {sizing}; write_blif {result}", room, log, limit)
+    found = re.findall(r"Area =\s*([0-9.]+).*?Delay =\s*([0-9.]+) ps", re.sub(r"\x1b\[[0-9;]*m", "", text))
     if not found or not whole(os.path.join(room, result)):
         return None
     return float(found[-1][1]), float(found[-1][0])

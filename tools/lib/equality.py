@@ -1,5 +1,6 @@
 """Whether two networks compute the same. lwequal is asked first, whose yes is proved, and ABC's cec where that comes to no end."""
 import os
+import tempfile
 from collections import namedtuple
 
 from . import abc, program, runs
@@ -26,4 +27,13 @@ def compared(one, other, room, log, limit):
     verdict, why = by_lwequal(one, other, room, log + ".lwequal", limit)
     if verdict:
         return Answer(verdict, why, "lwequal")
+    if not runs.has(abc.TOOL):
+        return Answer("undecided", f"there is no {abc.TOOL}", "lwequal")
     return Answer(*abc.cec(one, other, room, log, limit), "cec")
+
+
+def answered(one, other, limit):
+    """The same of two files that stand anywhere, in words: the verdict, and who says so where it is one."""
+    with tempfile.TemporaryDirectory() as room:
+        verdict, _, by = compared(os.path.abspath(one), os.path.abspath(other), room, "log", limit)
+    return verdict if verdict == "undecided" else f"{verdict} by {by}"

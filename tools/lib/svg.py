@@ -1,7 +1,11 @@
 """What the pictures of bench/, examples/ and lwflow's report are drawn with: shapes of SVG, in colours that read on light and on dark
 grounds."""
 import math
+import os
 from xml.sax.saxutils import escape
+
+from . import script
+from .program import ROOT
 
 STYLE = """<style>
   text { font: 13px sans-serif; fill: #24292f; }
@@ -122,3 +126,15 @@ def picture(width, height, name, parts, more=""):
 def whole(width, height, name, parts):
     """A picture of a netlist as a file of its own."""
     return picture(number(width), number(height), name, parts, MORE)
+
+
+def run(name, draw):
+    """Runs a script that draws docs/pictures/NAME.svg, or the file that it is given."""
+    def main(words):
+        if len(words) > 1:
+            raise script.Fault(f"usage: python3 bench/{name}.py [OUT]")
+        out = words[0] if words else os.path.join(ROOT, "docs", "pictures", name + ".svg")
+        with open(out, "w", encoding="utf-8") as file:
+            file.write(draw())
+
+    script.run(name, main, written="the picture")
