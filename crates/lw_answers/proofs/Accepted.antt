@@ -21,7 +21,7 @@ use Rattle.lw_top.proofs.InRange.{command_in_range}
 use Rattle.lw_files.proofs.SignalNames.{IsNamed}
 use Rattle.lw_top.proofs.Asked.{asked_text, names_read}
 use Rattle.lw_files.proofs.Kept.{AreKept, cells_kept, model_kept}
-use Rattle.lw_top.proofs.Steps.{last-ok}
+use Rattle.lw_files.proofs.Steps.{last_ok}
 use Rattle.lw_mapped.specs.Alike.{AreSameMapped}
 use Rattle.lw_answers.proofs.MappedChecks.{readable, accepted_text}
 
@@ -64,7 +64,7 @@ pub written_accepted : (words checks : List (List ℕ)) (files others : Files) (
 written_accepted words checks files others text c answer =
     let asked = mapping c.options true c.library c.network in
     let last = λ (cells : List CellParts) (model : Parsed). Maps c.options true cells model in
-    let m = last-ok (ReadsLibrary c.library) (ReadsModel c.network) last files text (asked_text words files asked text c.mapping_form answer) in
+    let m = last_ok (ReadsLibrary c.library) (ReadsModel c.network) last files text (asked_text words files asked text c.mapping_form answer) in
     let wide = command_in_range words asked c.mapping_form in
     let kept = model_kept c.network files m.b m.two in
     let named = names_read c.network files m.b m.two in

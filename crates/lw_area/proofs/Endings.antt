@@ -6,6 +6,7 @@ use Rattle.lw_files.specs.declared.fault.FileFault.{FileFault}
 use Rattle.lw_files.specs.declared.fault.FileFault.TheVariants as fault
 use Rattle.lw_files.specs.Faults.{fault_status}
 use Rattle.lw_files.specs.Steps.{Files}
+use Rattle.lw_files.proofs.Steps.{last_ok, last_err}
 use Rattle.lw_map.specs.declared.fault.MapFault.TheVariants as map_fault
 use Rattle.lw_top.specs.Outcome.{IsDone}
 use Rattle.lw_top.proofs.FaultStatuses.{fault_is_not_done, fault_names_no_output}
@@ -17,7 +18,7 @@ use Rattle.lw_area.specs.Answers.{IsTaskAnswer}
 use Rattle.lw_area.specs.Outcomes.{Meets, ending_line, ending_status}
 use Rattle.lw_area.specs.Promises.{IsRecoveryOf, LacksOutput}
 use Rattle.lw_area.specs.Refusals.{refusal_line, status_of}
-use Rattle.lw_area.proofs.Steps.{first, second, last, last_ok, last_err}
+use Rattle.lw_area.proofs.Steps.{first, second, last}
 use Rattle.lw_area.specs.Words.{Asked, Task, WrongWord, mapping}
 
 -- words ask for one thing

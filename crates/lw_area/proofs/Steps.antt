@@ -1,5 +1,5 @@
 -- One step after another, over files that may be known.
-use Rattle.std.proofs.Common.{◌≡◌, inl, inr, ℕ, ◌≤◌, List, Option, Result, Ok, Err, refl, subst, arith}
+use Rattle.std.proofs.Common.{inl, inr, ℕ, ◌≤◌, List, Option, Result, Ok, Err, refl, arith}
 use Rattle.lw_io.specs.declared.file.File.{File}
 use Rattle.lw_io.specs.Files.{bytes_of}
 use Rattle.lw_files.specs.declared.fault.FileFault.{FileFault}
@@ -39,30 +39,6 @@ module _ {A B : Type 0} (told : Option (List File)) (first : Step A) (next : A �
   refused_later before mid now x (Network Memory) le known later = tt
   refused_later before mid now x (Unmapped map_fault.Memory) le known later = tt
   refused_later before mid now x other le known later = answered told first next x (Err other) known later
-
--- Two steps and then a last one.
-module _ {A B T : Type 0} (first : Step A) (second : Step B) (last : A → B → Step T) (files : Files) where
-  -- the two steps answered, and the last comes to this
-  pub record IsLast (r : Result T Refusal) : Type 0 where
-    pub a : A
-    pub b : B
-    pub one : first files (Ok a)
-    pub two : second files (Ok b)
-    pub comes : last a b files r
-
-  abbrev Last : Result T Refusal → Type 0
-  Last r = followed_by first (λ a. followed_by second (λ b. last a b)) files r
-
-  pub last_ok : (x : T) → Last (Ok x) → IsLast (Ok x)
-  last_ok x (inl (a, one, inl (b, two, comes))) = record { a = a; b = b; one = one; two = two; comes = comes }
-  last_ok x (inl (a, one, inr (e, refused, is))) = cc
-  last_ok x (inr (e, refused, is)) = cc
-
-  -- a refusal that neither of the two gives
-  pub last_err : (c : Refusal) → (first files (Err c) → ⊥) → (second files (Err c) → ⊥) → Last (Err c) → IsLast (Err c)
-  last_err c not_one not_two (inl (a, one, inl (b, two, comes))) = record { a = a; b = b; one = one; two = two; comes = comes }
-  last_err c not_one not_two (inl (a, one, inr (e, refused, is))) = let same : e ≡ c = cc in absurd (not_two (subst (λ (f : Refusal). second files (Err f)) same refused))
-  last_err c not_one not_two (inr (e, refused, is)) = let same : e ≡ c = cc in absurd (not_one (subst (λ (f : Refusal). first files (Err f)) same refused))
 
 -- what a call that reads a file says of it
 library_reason : {A : Type 0} (told : Option (List File)) (before now : ℕ) (step : FileStep A) (fault : FileFault) → file.HasReason told before now step fault → HasReason told before now (in_library step) (Library fault)

@@ -30,21 +30,29 @@ in_network step files (Ok x) = step files (Ok x)
 in_network step files (Err (Network fault)) = step files (Err fault)
 in_network step files (Err other) = ⊥
 
--- What a library and a model come to: a text of a netlist with little area, or the reason that `map` has. Several netlists may be such.
+-- What a library and a model come to: a text of a netlist with little area, or the reason that `map` has. Several
+-- netlists may be such.
 abbrev pub Recovers : Settings → List CellParts → Parsed → Step (List ℕ)
 Recovers settings cells model files (Ok text) = IsRecoveredText settings cells model text
-Recovers settings cells model files (Err (Unmapped fault)) = IsMapFault settings.options cells model.network model.starts fault
+Recovers settings cells model files (Err (Unmapped fault)) =
+    IsMapFault settings.options cells model.network model.starts fault
 Recovers settings cells model files (Err other) = ⊥
 
 -- What a task comes to: the library is read, then the network, and the first step that refuses decides.
 abbrev pub IsTaskAnswer : Task → Step (List ℕ)
-IsTaskAnswer task = followed_by (in_library (ReadsLibrary task.library)) (λ cells. followed_by (in_network (ReadsModel task.network)) (λ model. Recovers task.settings cells model))
+IsTaskAnswer task =
+    followed_by (in_library (ReadsLibrary task.library)) (λ cells. followed_by (in_network (ReadsModel task.network))
+    (λ model. Recovers task.settings cells model))
 
--- Why a step refuses: a file was not read because the count of faults rose, or because known files lack it; running out of memory needs no
--- reason; and over known files any other refusal is the step's.
+-- Why a step refuses: a file was not read because the count of faults rose, or because known files lack it; running out
+-- of memory needs no reason; and over known files any other refusal is the step's.
 abbrev pub HasReason : {A : Type 0} → Option (List File) → ℕ → ℕ → Step A → Refusal → Type 0
-HasReason told before now step (Library file_fault.Unread) = Rose before now ⊎ ((files : List File) × (told ≡ Some files) × step (bytes_of files) (Err (Library file_fault.Unread)))
-HasReason told before now step (Network file_fault.Unread) = Rose before now ⊎ ((files : List File) × (told ≡ Some files) × step (bytes_of files) (Err (Network file_fault.Unread)))
+HasReason told before now step (Library file_fault.Unread) =
+    Rose before now ⊎ ((files : List File) × (told ≡ Some files)
+    × step (bytes_of files) (Err (Library file_fault.Unread)))
+HasReason told before now step (Network file_fault.Unread) =
+    Rose before now ⊎ ((files : List File) × (told ≡ Some files)
+    × step (bytes_of files) (Err (Network file_fault.Unread)))
 HasReason told before now step (Library file_fault.Memory) = ⊤
 HasReason told before now step (Network file_fault.Memory) = ⊤
 HasReason told before now step (Unmapped map_fault.Memory) = ⊤

@@ -37,11 +37,13 @@ pub record IsCase (k : Case) : Type 0 where
   pub model : IsModel k.model.now
   pub chosen : AreChoicesOf k.model.now.network k.choices.now
   pub options : plain_options k.choices.now.options ≡ plain_options k.settings.options
-  pub labels : AreLeastMarks k.choices.now.graph (time_cost k.library.now k.model.now.starts) (library_patterns k.library.now) k.labels.now
+  pub labels : AreLeastMarks k.choices.now.graph (time_cost k.library.now k.model.now.starts)
+      (library_patterns k.library.now) k.labels.now
 
 -- the cover of the netlist that `map` writes
 pub record IsFirst (k : Case) (cover : Cover) : Type 0 where
-  pub mapped : IsMappedNetlist (plain_options k.settings.options) k.library.now k.model.now.network k.model.now.starts cover.netlist
+  pub mapped : IsMappedNetlist (plain_options k.settings.options) k.library.now k.model.now.network k.model.now.starts
+      cover.netlist
   pub graph : mapped.is.graph ≡ k.choices.now.graph
   pub gates : mapped.is.gates ≡ numbers cover.classes
   pub over : IsOver k.library.now cover.netlist
@@ -49,11 +51,15 @@ pub record IsFirst (k : Case) (cover : Cover) : Type 0 where
 
 -- when its outputs arrive
 abbrev pub AreFirstTimes : Case → Cover → List Micro → Type 0
-AreFirstTimes k cover times = (arrivals : List ℕ) → AreArrivals (timing_of k.library.now k.model.now.starts) (plain cover.netlist) arrivals → map millionths times ≡ map (λ (port : PlainPort). slice_index_or arrivals port.net 0) (mapped_ports cover.netlist).outputs
+AreFirstTimes k cover times =
+    (arrivals : List ℕ) → AreArrivals (timing_of k.library.now k.model.now.starts) (plain cover.netlist) arrivals
+    → map millionths times
+    ≡ map (λ (port : PlainPort). slice_index_or arrivals port.net 0) (mapped_ports cover.netlist).outputs
 
 -- a cover whose netlist has little area
 pub record IsChosen (k : Case) (cover : Cover) : Type 0 where
-  pub recovered : IsRecovered (plain_settings k.settings) k.library.now k.model.now.network k.model.now.starts cover.netlist
+  pub recovered : IsRecovered (plain_settings k.settings) k.library.now k.model.now.network k.model.now.starts
+      cover.netlist
   pub graph : recovered.matches.graph ≡ k.choices.now.graph
   pub gates : recovered.matches.gates ≡ numbers cover.classes
   pub over : IsOver k.library.now cover.netlist

@@ -25,9 +25,10 @@ pub record HasAnswer (task : Task) (files : Files) (told : List ℕ → Type 0) 
   pub line : told (answer_line task result)
 
 -- Whatever failed, each status other than 2, 7 and 8 is an answer's, and so is the line. 2 is an answer's too where the
--- shelf did not fail, and 7 comes only where out failed. Where neither failed, the status is an answer's, or memory ran out,
--- which is told.
-pub record IsComplete (task : Task) (files : Files) (told : List ℕ → Type 0) (shelf_failed out_failed : Type 0) (status : ℕ) : Type 0 where
+-- shelf did not fail, and 7 comes only where out failed. Where neither failed, the status is an answer's, or memory ran
+-- out, which is told.
+pub record IsComplete (task : Task) (files : Files) (told : List ℕ → Type 0) (shelf_failed out_failed : Type 0)
+    (status : ℕ) : Type 0 where
   pub decided : status ≢ 2 → status ≢ 7 → status ≢ 8 → HasAnswer task files told status
   pub unread : status ≡ 2 → (shelf_failed → ⊥) → HasAnswer task files told status
   pub unwritten : status ≡ 7 → out_failed

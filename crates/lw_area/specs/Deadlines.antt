@@ -8,7 +8,8 @@ use Rattle.lw_area.specs.declared.words.Deadline.TheVariants.{Greatest, Each, Pe
 abbrev pub greatest_of : List Micro → ℕ
 greatest_of times = fold (λ most (time : Micro). max most time.0) 0 times
 
--- The time that all outputs may take, by the greatest of their least times: a part of it in percent, cut at the greatest time that is told.
+-- The time that all outputs may take, by the greatest of their least times: a part of it in percent, cut at the
+-- greatest time that is told.
 abbrev pub common_time : Deadline → ℕ → ℕ
 common_time Greatest greatest = greatest
 common_time Each greatest = 0

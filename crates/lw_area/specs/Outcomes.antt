@@ -25,10 +25,12 @@ use Rattle.lw_area.specs.Words.{Asked, Settings, Task, WrongWord, mapping, usage
 -- Answers.
 
 -- a netlist that fits the settings, with its certificate where it is asked for
-pub record IsMade (settings : Settings) (cells : List CellParts) (model : Parsed) (made : CertifiedNetlist) : Type 0 where
+pub record IsMade (settings : Settings) (cells : List CellParts) (model : Parsed)
+    (made : CertifiedNetlist) : Type 0 where
   pub within : IsWithinLimits settings.options model.network
   pub recovered : IsRecovered settings cells model.network model.starts made.netlist
-  pub asked : IsAskedFor cells model.starts recovered.matches.graph recovered.matches.gates settings.certified made.certificate
+  pub asked : IsAskedFor cells model.starts recovered.matches.graph recovered.matches.gates settings.certified
+      made.certificate
   pub over : IsOver cells made.netlist
   pub one_each : HasGateClasses made.netlist made.certificate
 
@@ -53,7 +55,8 @@ ComesTo told before now task (Ok a) = Known told (IsTaskAnswer task) (Ok (answer
 ComesTo told before now task (Err refusal) = HasReason told before now (IsTaskAnswer task) refusal
 
 -- A task was answered or refused, and the files stay.
-pub record Responds {F : Type 0} (told : F → Option (List File)) (faults : F → ℕ) (old new : F) (task : Task) (result : Result Answer Refusal) : Type 0 where
+pub record Responds {F : Type 0} (told : F → Option (List File)) (faults : F → ℕ) (old new : F) (task : Task)
+    (result : Result Answer Refusal) : Type 0 where
   pub files : told new ≡ told old
   pub later : faults old ≤ faults new
   pub comes : ComesTo (told old) (faults old) (faults new) task result
@@ -78,15 +81,20 @@ abbrev pub IsRefusedFor : Option (List File) → ℕ → ℕ → Asked → Refus
 IsRefusedFor told before now (mapping task) refusal = HasReason told before now (IsTaskAnswer task) refusal
 IsRefusedFor told before now page refusal = ⊥
 
--- The whole text of what was asked for went out, or the stream failed behind a prefix of one; or there is a reason to refuse, and nothing
--- went out.
-abbrev pub Meets : {O : Type 0} → Option (List File) → ℕ → ℕ → (O → Option (List ℕ)) → (O → Bool) → (O → ℕ) → O → O → Asked → Ending → Type 0
-Meets told before now taken is_finished faults old new asked Done = (text : List ℕ) × IsTextFor told asked text × IsDone taken is_finished old new text
-Meets told before now taken is_finished faults old new asked WriteFault = (text : List ℕ) × IsTextFor told asked text × IsCutShort taken faults old new text
-Meets told before now taken is_finished faults old new asked (Refused refusal) = IsRefusedFor told before now asked refusal × (new ≡ old)
+-- The whole text of what was asked for went out, or the stream failed behind a prefix of one; or there is a reason to
+-- refuse, and nothing went out.
+abbrev pub Meets : {O : Type 0} → Option (List File) → ℕ → ℕ → (O → Option (List ℕ)) → (O → Bool) → (O → ℕ) → O → O
+    → Asked → Ending → Type 0
+Meets told before now taken is_finished faults old new asked Done =
+    (text : List ℕ) × IsTextFor told asked text × IsDone taken is_finished old new text
+Meets told before now taken is_finished faults old new asked WriteFault =
+    (text : List ℕ) × IsTextFor told asked text × IsCutShort taken faults old new text
+Meets told before now taken is_finished faults old new asked (Refused refusal) =
+    IsRefusedFor told before now asked refusal × (new ≡ old)
 
 -- What was asked for was served; the files stay, and no count of faults falls.
-pub record Serves {O : Type 0} (told told' : Option (List File)) (before now : ℕ) (taken : O → Option (List ℕ)) (is_finished : O → Bool) (faults : O → ℕ) (old new : O) (asked : Asked) (ending : Ending) : Type 0 where
+pub record Serves {O : Type 0} (told told' : Option (List File)) (before now : ℕ) (taken : O → Option (List ℕ))
+    (is_finished : O → Bool) (faults : O → ℕ) (old new : O) (asked : Asked) (ending : Ending) : Type 0 where
   pub meets : Meets told before now taken is_finished faults old new asked ending
   pub files : told' ≡ told
   pub read : before ≤ now
@@ -105,18 +113,24 @@ ending_line (mapping task) (Refused refusal) = refusal_line task refusal
 ending_line page (Refused refusal) = []
 
 -- Some ending has this status: it is what happened, and its line went to err, or a prefix where err failed.
-pub record EndsAs {O E : Type 0} (told : Option (List File)) (before now : ℕ) (taken : O → Option (List ℕ)) (is_finished : O → Bool) (faults : O → ℕ) (old new : O) (err_taken : E → Option (List ℕ)) (err_faults : E → ℕ) (err_old err_new : E) (asked : Asked) (status : ℕ) : Type 0 where
+pub record EndsAs {O E : Type 0} (told : Option (List File)) (before now : ℕ) (taken : O → Option (List ℕ))
+    (is_finished : O → Bool) (faults : O → ℕ) (old new : O) (err_taken : E → Option (List ℕ)) (err_faults : E
+    → ℕ) (err_old err_new : E) (asked : Asked) (status : ℕ) : Type 0 where
   pub ending : Ending
   pub is : status ≡ ending_status ending
   pub meets : Meets told before now taken is_finished faults old new asked ending
   pub line : Told err_taken err_faults err_old err_new (ending_line asked ending)
 
 -- Words that are wrong are told, and nothing else happens.
-pub record AreRefused {O E : Type 0} (old new : O) (err_taken : E → Option (List ℕ)) (err_faults : E → ℕ) (err_old err_new : E) (wrong : WrongWord) (status : ℕ) : Type 0 where
+pub record AreRefused {O E : Type 0} (old new : O) (err_taken : E → Option (List ℕ)) (err_faults : E → ℕ)
+    (err_old err_new : E) (wrong : WrongWord) (status : ℕ) : Type 0 where
   pub is : status ≡ 1
   pub untouched : new ≡ old
   pub line : Told err_taken err_faults err_old err_new (wrong_line wrong)
 
-abbrev pub IsTold : {O E : Type 0} → Option (List File) → ℕ → ℕ → (O → Option (List ℕ)) → (O → Bool) → (O → ℕ) → O → O → (E → Option (List ℕ)) → (E → ℕ) → E → E → Result Asked WrongWord → ℕ → Type 0
-IsTold told before now taken is_finished faults old new err_taken err_faults err_old err_new (Ok asked) status = EndsAs told before now taken is_finished faults old new err_taken err_faults err_old err_new asked status
-IsTold told before now taken is_finished faults old new err_taken err_faults err_old err_new (Err wrong) status = AreRefused old new err_taken err_faults err_old err_new wrong status
+abbrev pub IsTold : {O E : Type 0} → Option (List File) → ℕ → ℕ → (O → Option (List ℕ)) → (O → Bool) → (O → ℕ) → O → O
+    → (E → Option (List ℕ)) → (E → ℕ) → E → E → Result Asked WrongWord → ℕ → Type 0
+IsTold told before now taken is_finished faults old new err_taken err_faults err_old err_new (Ok asked) status =
+    EndsAs told before now taken is_finished faults old new err_taken err_faults err_old err_new asked status
+IsTold told before now taken is_finished faults old new err_taken err_faults err_old err_new (Err wrong) status =
+    AreRefused old new err_taken err_faults err_old err_new wrong status

@@ -27,11 +27,14 @@ pub record IsRecoveryOf (task : Task) (files : Files) (text : List ℕ) : Type 0
   pub network : ReadsModel task.network files (Ok model)
   pub is : IsRecoveredText task.settings cells model text
 
--- The same, and the netlist is a mapping of the network: each output arrives at the least time of any cover of any tree that the rules
--- derive for it.
+-- The same, and the netlist is a mapping of the network: each output arrives at the least time of any cover of any tree
+-- that the rules derive for it.
 pub record IsFastestOf (task : Task) (files : Files) (text : List ℕ) : Type 0 where
   pub recovery : IsRecoveryOf task files text
-  pub mapping_is : IsMapping task.settings.options.mode task.settings.options.width (network.plain recovery.model.network) (ports_of recovery.model.network) (library_patterns recovery.cells) (timing_of recovery.cells recovery.model.starts) (truth_of_cells recovery.cells) (netlist.plain recovery.is.netlist) (mapped_ports recovery.is.netlist)
+  pub mapping_is : IsMapping task.settings.options.mode task.settings.options.width
+      (network.plain recovery.model.network) (ports_of recovery.model.network) (library_patterns recovery.cells)
+      (timing_of recovery.cells recovery.model.starts) (truth_of_cells recovery.cells)
+      (netlist.plain recovery.is.netlist) (mapped_ports recovery.is.netlist)
 
 -- The first output of the network that no cover of any tree that the rules derive for it has.
 pub record LacksOutput (task : Task) (files : Files) (name : List ℕ) : Type 0 where

@@ -8,7 +8,8 @@ use Rattle.lw_shown.specs.Faults.{named, shown_fault}
 use Rattle.lw_area.specs.declared.refusal.Refusal.{Refusal}
 use Rattle.lw_area.specs.declared.refusal.Refusal.TheVariants.{Library, Network, Unmapped}
 use Rattle.lw_area.specs.declared.words.Wrong.{Wrong}
-use Rattle.lw_area.specs.declared.words.Wrong.TheVariants.{Missing, Unknown, Width, Trial, Time, Certified, Late, TooMany}
+use Rattle.lw_area.specs.declared.words.Wrong.TheVariants.{Missing, Unknown, Width, Trial, Time, Certified, Late}
+use Rattle.lw_area.specs.declared.words.Wrong.TheVariants.{TooMany}
 use Rattle.lw_area.specs.Words.{Task, WrongWord}
 
 abbrev pub map_status : MapFault → ℕ

@@ -1,5 +1,6 @@
 -- The words of the command line.
-use Rattle.std.specs.Prelude.{ℕ, ◌+◌, ◌*◌, ◌-◌, Bool, true, false, ◌&&◌, ◌==◌, nat_le, List, [], ◌∷◌, length, zero, suc, Option, Some, None, Result, Ok, Err, if◌then◌else◌, codes}
+use Rattle.std.specs.Prelude.{ℕ, ◌+◌, ◌*◌, ◌-◌, Bool, true, false, ◌&&◌, ◌==◌, nat_le, List, [], ◌∷◌, length, zero, suc}
+use Rattle.std.specs.Prelude.{Option, Some, None, Result, Ok, Err, if◌then◌else◌, codes}
 use Rattle.std.specs.Str.{bytes_eq}
 use Rattle.lw_fixed.specs.Decimals.{given_units, decimal_of}
 use Rattle.lw_fixed.specs.declared.fault.DecimalFault.{DecimalFault}
@@ -12,7 +13,8 @@ use Rattle.lw_top.specs.Words.{is_file_word, width_of}
 use Rattle.lw_area.specs.declared.words.Deadline.{Deadline}
 use Rattle.lw_area.specs.declared.words.Deadline.TheVariants.{Greatest, Each, Percent, At}
 use Rattle.lw_area.specs.declared.words.Wrong.{Wrong}
-use Rattle.lw_area.specs.declared.words.Wrong.TheVariants.{Missing, Unknown, Width, Trial, Time, Certified, Late, TooMany}
+use Rattle.lw_area.specs.declared.words.Wrong.TheVariants.{Missing, Unknown, Width, Trial, Time, Certified, Late}
+use Rattle.lw_area.specs.declared.words.Wrong.TheVariants.{TooMany}
 
 -- what the options say
 pub record Settings : Type 0 where
@@ -55,7 +57,9 @@ is_digit byte = nat_le 48 byte && nat_le byte 57
 -- `N%`, for N of three digits, of which the first is not 0
 abbrev pub percent_of : List ℕ → Option ℕ
 percent_of (a ∷ b ∷ c ∷ sign ∷ []) =
-    if is_digit a && (is_digit b && (is_digit c && (nat_le 49 a && sign == 37))) then Some ((a - 48) * 100 + ((b - 48) * 10 + (c - 48))) else None
+    if is_digit a && (is_digit b && (is_digit c && (nat_le 49 a && sign == 37)))
+    then Some ((a - 48) * 100 + ((b - 48) * 10 + (c - 48)))
+    else None
 percent_of word = None
 
 abbrev pub time_read : Result Micro DecimalFault → Option Deadline
@@ -76,21 +80,35 @@ deadline_of word =
 
 -- width 6, the six laws, no certificate, curves, all by the greatest least time
 abbrev pub no_option : Settings
-no_option = record { options = record { width = 6; mode = plain }; certified = false; effort = Some Curves; deadline = Greatest }
+no_option =
+    record {
+      options = record { width = 6; mode = plain };
+      certified = false;
+      effort = Some Curves;
+      deadline = Greatest;
+    }
 
 abbrev pub refused : {A : Type 0} → List ℕ → Wrong → Result A WrongWord
 refused word why = Err (record { word = word; why = why })
 
 abbrev pub with_width : Settings → List ℕ → Option ℕ → Result Settings WrongWord
-with_width s word (Some width) = Ok (record { options = record { width = width; mode = s.options.mode }; certified = s.certified; effort = s.effort; deadline = s.deadline })
+with_width s word (Some width) =
+    Ok (record {
+      options = record { width = width; mode = s.options.mode };
+      certified = s.certified;
+      effort = s.effort;
+      deadline = s.deadline;
+    })
 with_width s word None = refused word Width
 
 abbrev pub with_effort : Settings → List ℕ → Option (Option Effort) → Result Settings WrongWord
-with_effort s word (Some effort) = Ok (record { options = s.options; certified = s.certified; effort = effort; deadline = s.deadline })
+with_effort s word (Some effort) =
+    Ok (record { options = s.options; certified = s.certified; effort = effort; deadline = s.deadline })
 with_effort s word None = refused word Trial
 
 abbrev pub with_deadline : Settings → List ℕ → Option Deadline → Result Settings WrongWord
-with_deadline s word (Some deadline) = Ok (record { options = s.options; certified = s.certified; effort = s.effort; deadline = deadline })
+with_deadline s word (Some deadline) =
+    Ok (record { options = s.options; certified = s.certified; effort = s.effort; deadline = deadline })
 with_deadline s word None = refused word Time
 
 -- an option with its value
@@ -102,10 +120,18 @@ set_by s option value =
 
 -- an option that wants a value
 abbrev pub has_value : List ℕ → Bool
-has_value option = if bytes_eq option (codes "-w") then true else (if bytes_eq option (codes "-e") then true else bytes_eq option (codes "-t"))
+has_value option =
+    if bytes_eq option (codes "-w") then true
+    else (if bytes_eq option (codes "-e") then true else bytes_eq option (codes "-t"))
 
 abbrev pub with_idempotence : Settings → Settings
-with_idempotence s = record { options = record { width = s.options.width; mode = idempotent }; certified = s.certified; effort = s.effort; deadline = s.deadline }
+with_idempotence s =
+    record {
+      options = record { width = s.options.width; mode = idempotent };
+      certified = s.certified;
+      effort = s.effort;
+      deadline = s.deadline;
+    }
 
 abbrev pub with_certificate : Settings → Settings
 with_certificate s = record { options = s.options; certified = true; effort = s.effort; deadline = s.deadline }
@@ -130,7 +156,8 @@ set_or_missing s option (value ∷ rest) = begun rest (set_by s option value)
 abbrev pub option_of : Settings → List ℕ → List (List ℕ) → Result Begun WrongWord
 option_of s option words =
     if bytes_eq option (codes "-i") then Ok (before words (with_idempotence s))
-    else (if bytes_eq option (codes "-c") then Ok (before words (with_certificate s)) else set_or_missing s option words)
+    else (if bytes_eq option (codes "-c") then Ok (before words (with_certificate s))
+    else set_or_missing s option words)
 
 abbrev pub is_each : Deadline → Bool
 is_each Each = true
@@ -139,14 +166,19 @@ is_each other = false
 abbrev pub files_of : Settings → List (List ℕ) → Result Task WrongWord
 files_of s [] = refused [] Missing
 files_of s (library ∷ []) = refused [] Missing
-files_of s (library ∷ network ∷ []) = if is_file_word network then Ok (record { settings = s; library = library; network = network }) else refused network Late
+files_of s (library ∷ network ∷ []) =
+    if is_file_word network then Ok (record { settings = s; library = library; network = network })
+    else refused network Late
 files_of s (library ∷ network ∷ word ∷ rest) = refused word TooMany
 
 -- The files, behind all options. A certificate says that each output arrives at its own least time.
 abbrev pub task_of : Settings → List (List ℕ) → Result Task WrongWord
-task_of s words = if s.certified then (if is_each s.deadline then files_of s words else refused (codes "-c") Certified) else files_of s words
+task_of s words =
+    if s.certified then (if is_each s.deadline then files_of s words else refused (codes "-c") Certified)
+    else files_of s words
 
-abbrev pub then_options : (Settings → List (List ℕ) → Result Task WrongWord) → Result Begun WrongWord → Result Task WrongWord
+abbrev pub then_options : (Settings → List (List ℕ) → Result Task WrongWord) → Result Begun WrongWord
+    → Result Task WrongWord
 then_options next (Ok begun) = next begun.settings begun.rest
 then_options next (Err wrong) = Err wrong
 
@@ -154,7 +186,8 @@ then_options next (Err wrong) = Err wrong
 abbrev pub options_of : ℕ → Settings → List (List ℕ) → Result Task WrongWord
 options_of n s [] = task_of s []
 options_of zero s (word ∷ words) = task_of s (word ∷ words)
-options_of (suc n) s (word ∷ words) = if is_file_word word then task_of s (word ∷ words) else then_options (options_of n) (option_of s word words)
+options_of (suc n) s (word ∷ words) =
+    if is_file_word word then task_of s (word ∷ words) else then_options (options_of n) (option_of s word words)
 
 abbrev pub mapping_of : Result Task WrongWord → Result Asked WrongWord
 mapping_of (Ok task) = Ok (mapping task)

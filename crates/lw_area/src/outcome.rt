@@ -2,7 +2,8 @@
 ghost use Rattle.std.specs.Prelude.{◌≡◌, ◌≤◌, IfOk};
 ghost use Rattle.lw_blif.specs.BlifNetworks.{IsModel};
 ghost use Rattle.lw_io.specs.Waitings.{IsTaken};
-ghost use Rattle.lw_area.specs.Outcomes.{CanBeWritten, Gives, Responds, Serves, WritesOut, answer_text, ending_status};
+ghost use Rattle.lw_area.specs.Outcomes.{CanBeWritten, Gives, Responds, Serves, WritesOut};
+ghost use Rattle.lw_area.specs.Outcomes.{answer_text, ending_status};
 ghost use Rattle.lw_area.specs.Plain.{plain_asked, plain_settings, plain_task};
 
 use crate::mapping::map_smaller;

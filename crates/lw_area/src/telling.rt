@@ -4,7 +4,8 @@ ghost use Rattle.lw_io.specs.Waitings.{IsTaken};
 ghost use Rattle.lw_io.specs.Writers.{Writes};
 ghost use Rattle.lw_area.specs.Outcomes.{ending_line};
 ghost use Rattle.lw_area.specs.Plain.{plain_asked, plain_task, plain_wrong};
-ghost use Rattle.lw_area.specs.Refusals.{map_text, refusal_line, refusal_text, why_text, word_part, wrong_line};
+ghost use Rattle.lw_area.specs.Refusals.{map_text, refusal_line, refusal_text, why_text, word_part};
+ghost use Rattle.lw_area.specs.Refusals.{wrong_line};
 
 use crate::outcome::Ending;
 use crate::refusal::Refusal;

@@ -38,8 +38,9 @@ pub fn run<F: Shelf, O: Sink, E: Sink>(
     // assignment. Each root arrives by its deadline. The area is at most that of the netlist that
     // `map` writes for these files, and the certificate, where one was asked for, is right.
     ensures mapping { (files : List File) (task : Task) → F.files shelf.old ≡ Some files →
-        AsksFor (map string_bytes words.now) task → result ≡ 0 → ((text : List ℕ) ×
-        IsRecoveryOf task (bytes_of files) text × IsDone O.taken O.is_finished out.old out.new text) }
+        AsksFor (map string_bytes words.now) task → result ≡ 0 → ((text : List ℕ)
+        × IsRecoveryOf task (bytes_of files) text
+        × IsDone O.taken O.is_finished out.old out.new text) }
 
     // With the deadline `each` that netlist is a mapping: each root arrives at the least time of
     // all covers of all trees that the rules derive for it.
@@ -55,8 +56,8 @@ pub fn run<F: Shelf, O: Sink, E: Sink>(
         LacksOutput task (bytes_of files) name × Told E.taken E.faults err.old err.new
         (refusal_line task (Refusal.Unmapped (MapFault.NoCover name)))) }
 
-    // Over known files, whatever failed, a status other than 2, 7 and 8 is that of an answer, and so
-    // is the line on `err`. Where nothing failed each status is, unless memory runs out.
+    // Over known files, whatever failed, a status other than 2, 7 and 8 is that of an answer, and
+    // so is the line on `err`. Where nothing failed each status is, unless memory runs out.
     ensures complete { (files : List File) (task : Task) → F.files shelf.old ≡ Some files →
         AsksFor (map string_bytes words.now) task → IsComplete task (bytes_of files)
         (Told E.taken E.faults err.old err.new) (Rose (F.faults shelf.old) (F.faults shelf.new))

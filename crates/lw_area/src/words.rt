@@ -1,8 +1,12 @@
 // The words of the command line.
 ghost use Rattle.std.specs.Prelude.{◌≡◌, ◌<◌, ◌≤◌, ◌+◌, map, string_bytes, option_map, length};
 ghost use Rattle.lw_top.specs.Words.{width_of, is_file_word};
-ghost use Rattle.lw_area.specs.Words.{effort_of, is_digit, percent_of, deadline_of, no_option, set_by, has_value, set_or_missing, with_idempotence, with_certificate, option_of, is_each, files_of, task_of, options_of, only_word, asked_of};
-ghost use Rattle.lw_area.specs.Plain.{plain_settings, plain_task, plain_wrong, set_result, begun_result, task_result, asked_result};
+ghost use Rattle.lw_area.specs.Words.{effort_of, is_digit, percent_of, deadline_of, no_option};
+ghost use Rattle.lw_area.specs.Words.{set_by, has_value, set_or_missing, with_idempotence};
+ghost use Rattle.lw_area.specs.Words.{with_certificate, option_of, is_each, files_of, task_of};
+ghost use Rattle.lw_area.specs.Words.{options_of, only_word, asked_of};
+ghost use Rattle.lw_area.specs.Plain.{plain_settings, plain_task, plain_wrong, set_result};
+ghost use Rattle.lw_area.specs.Plain.{begun_result, task_result, asked_result};
 
 use lw_assoc::Mode;
 use lw_fixed::{Micro, read};

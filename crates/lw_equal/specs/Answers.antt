@@ -1,5 +1,6 @@
 -- What an answer claims of two sides.
-use Rattle.std.specs.Prelude.{ℕ, ◌<◌, ◌≡◌, ◌≢◌, Bool, false, ⊤, Option, Some, None, List, length, slice_index_or, All, Contains}
+use Rattle.std.specs.Prelude.{ℕ, ◌<◌, ◌≡◌, ◌≢◌, Bool, false, ⊤, Option, Some, None, List, length, slice_index_or, All}
+use Rattle.std.specs.Prelude.{Contains}
 use Rattle.std.specs.List.{position_or_len}
 use Rattle.std.specs.Str.{bytes_eq}
 use Rattle.lw_equal.specs.declared.answer.Answer.{Answer}
@@ -14,9 +15,11 @@ use Rattle.lw_equal.specs.Sides.{AreValuesUnder, IsNetAt, inputs_of}
 
 -- Whatever values the names have, net k of the one side and net m of the other have one value.
 pub record HaveOneValue (one other : Side) (k m : ℕ) : Type 0 where
-  pub always : (x : List ℕ → Bool) (vs ws : List Bool) → AreValuesUnder one x vs → AreValuesUnder other x ws → slice_index_or vs k false ≡ slice_index_or ws m false
+  pub always : (x : List ℕ → Bool) (vs ws : List Bool) → AreValuesUnder one x vs → AreValuesUnder other x ws
+      → slice_index_or vs k false ≡ slice_index_or ws m false
 
--- At a point at which both sides have a net, both nets have one value. Nothing is said of a point at which only one has a net.
+-- At a point at which both sides have a net, both nets have one value. Nothing is said of a point at which only one has
+-- a net.
 abbrev pub AgreeAt : Side → Side → Point → Type 0
 AgreeAt one other point = (k m : ℕ) → IsNetAt one point k → IsNetAt other point m → HaveOneValue one other k m
 
@@ -24,7 +27,8 @@ AgreeAt one other point = (k m : ℕ) → IsNetAt one point k → IsNetAt other 
 abbrev pub named_value : List (List ℕ) → List Bool → List ℕ → Bool
 named_value names values name = slice_index_or values (position_or_len (bytes_eq name) names) false
 
--- With these values of the inputs of the one side, and those of the same names of the other, the sides have different values at the point.
+-- With these values of the inputs of the one side, and those of the same names of the other, the sides have different
+-- values at the point.
 pub record IsDifference (one other : Side) (point : Point) (inputs : List Bool) : Type 0 where
   pub one_each : length inputs ≡ length (inputs_of one.logic)
   pub left : ℕ
@@ -57,7 +61,8 @@ Claims one other (Differ d) = IsDifference one other d.point d.inputs.items
 Claims one other (Undecided points) = LeavesUndecided one other points
 
 -- Both sides have the same inputs, outputs and latches, and what the answer claims of them holds.
--- So each output, and what each latch stores, is compared. A control is where both sides' latches have one. Kinds and initial values of latches are not compared.
+-- So each output, and what each latch stores, is compared. A control is where both sides' latches have one. Kinds and
+-- initial values of latches are not compared.
 pub record IsAnswer (one other : Side) (answer : Answer) : Type 0 where
   pub ports : both_faults one other ≡ None
   pub claims : Claims one other answer

@@ -44,7 +44,9 @@ point_of pair = pair.point
 
 -- each pair has one value, or its point is undecided
 abbrev pub AreJudged : Side → Side → List Pair → List Point → Type 0
-AreJudged one other pairs undecided = (pair : Pair) → Contains pairs pair → (Contains undecided pair.point → ⊥) → HaveOneValue one other pair.left.0 pair.right.0
+AreJudged one other pairs undecided =
+    (pair : Pair) → Contains pairs pair → (Contains undecided pair.point → ⊥)
+    → HaveOneValue one other pair.left.0 pair.right.0
 
 -- There is a point that is undecided, both sides have a net at each that is, and each other pair has one value.
 pub record LeavesOpen (one other : Side) (pairs : List Pair) (undecided : List Point) : Type 0 where

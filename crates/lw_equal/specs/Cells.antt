@@ -34,9 +34,11 @@ pub record Makes (gates : List Gate) (lits : List Literal) (f : List Bool → Bo
   pub always : (v : ℕ → Bool) → AreNodeValues gates v → literal_value v l ≡ f (values_of v lits)
 
 -- The literal of a step.
-pub record IsMade (gates : List Gate) (pins : List Literal) (op : ExprOp) (parts : List Literal) (l : Literal) : Type 0 where
+pub record IsMade (gates : List Gate) (pins : List Literal) (op : ExprOp) (parts : List Literal)
+    (l : Literal) : Type 0 where
   pub within : IsBelow (length gates) l
-  pub always : (v : ℕ → Bool) → AreNodeValues gates v → literal_value v l ≡ truth_by (values_of v pins) op (values_of v parts)
+  pub always : (v : ℕ → Bool) → AreNodeValues gates v
+      → literal_value v l ≡ truth_by (values_of v pins) op (values_of v parts)
 
 -- the literals of some nets
 abbrev pub literals_at : List Literal → List NetId → List Literal
@@ -46,9 +48,13 @@ literals_at lits nets = map (λ net. slice_index_or lits net (record { 0 = 0 }))
 pub record IsStep (gates : List Gate) (pins : List Literal) (op : ExprOp) (old new : List Literal) : Type 0 where
   pub within : All (IsBelow (length gates)) new
   pub long : length new ≡ length old - arity op + 1
-  pub always : (v : ℕ → Bool) → AreNodeValues gates v → values_of v new ≡ stepped (truth_by (values_of v pins)) op (values_of v old)
+  pub always : (v : ℕ → Bool) → AreNodeValues gates v
+      → values_of v new ≡ stepped (truth_by (values_of v pins)) op (values_of v old)
 
--- The literals have the values of the nets of a netlist, from the first net on, wherever those of its inputs have the values of the inputs.
-pub record HaveNetlistValues (gates : List Gate) (truth : CellTruth) (n : Netlist) (inputs lits : List Literal) : Type 0 where
+-- The literals have the values of the nets of a netlist, from the first net on, wherever those of its inputs have the
+-- values of the inputs.
+pub record HaveNetlistValues (gates : List Gate) (truth : CellTruth) (n : Netlist)
+    (inputs lits : List Literal) : Type 0 where
   pub within : All (IsBelow (length gates)) lits
-  pub always : (v x : ℕ → Bool) (values : List Bool) → AreNodeValues gates v → AreInputs v inputs x → AreNetlistValues truth n x values → Carry v lits values
+  pub always : (v x : ℕ → Bool) (values : List Bool) → AreNodeValues gates v → AreInputs v inputs x
+      → AreNetlistValues truth n x values → Carry v lits values

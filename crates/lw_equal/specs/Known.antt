@@ -21,7 +21,8 @@ pub record IsLatchOf (side : Side) (name : List ℕ) (latch : Latch) : Type 0 wh
   pub only : (other : ℕ) (d : Latch) → slice_get side.frame.now.latches other ≡ Some d → d.output ≡ name → d ≡ latch
 
 abbrev pub HasNoLatch : Side → List ℕ → Type 0
-HasNoLatch side name = (place : ℕ) (latch : Latch) → slice_get side.frame.now.latches place ≡ Some latch → latch.output ≡ name → ⊥
+HasNoLatch side name =
+    (place : ℕ) (latch : Latch) → slice_get side.frame.now.latches place ≡ Some latch → latch.output ≡ name → ⊥
 
 -- The only root of the name.
 pub record IsOnlyRoot (side : Side) (name : List ℕ) (net : ℕ) : Type 0 where
@@ -30,7 +31,8 @@ pub record IsOnlyRoot (side : Side) (name : List ℕ) (net : ℕ) : Type 0 where
   pub only : (other m : ℕ) → slice_get (roots_of side.logic) other ≡ Some (record { name = name; net = m }) → m ≡ net
 
 abbrev pub HasNoRoot : Side → List ℕ → Type 0
-HasNoRoot side name = (place net : ℕ) → slice_get (roots_of side.logic) place ≡ Some (record { name = name; net = net }) → ⊥
+HasNoRoot side name =
+    (place net : ℕ) → slice_get (roots_of side.logic) place ≡ Some (record { name = name; net = net }) → ⊥
 
 -- The only net at a point.
 pub record IsOnlyNet (kind : Kind) (side : Side) (name : List ℕ) (net : ℕ) : Type 0 where

@@ -18,7 +18,8 @@ pub record ArePlaces (all names : List (List ℕ)) (places : List ℕ) : Type 0 
 -- The literals have the values of a side's nets, wherever those of its inputs have the values of the inputs.
 pub record HaveValuesOf (gates : List Gate) (logic : Logic) (inputs lits : List Literal) : Type 0 where
   pub within : All (IsBelow (length gates)) lits
-  pub always : (v x : ℕ → Bool) (values : List Bool) → AreNodeValues gates v → AreInputs v inputs x → AreValuesOf logic x values → Carry v lits values
+  pub always : (v x : ℕ → Bool) (values : List Bool) → AreNodeValues gates v → AreInputs v inputs x
+      → AreValuesOf logic x values → Carry v lits values
 
 -- the graph begins with so many inputs
 abbrev pub BeginsWith : List Gate → ℕ → Type 0
@@ -32,4 +33,5 @@ GivesNames v all x = (i : ℕ) → i < length all → v (i + 1) ≡ x (slice_ind
 pub record IsLaid (gates : List Gate) (all : List (List ℕ)) (side : Side) (laid : Laid) : Type 0 where
   pub places : ArePlaces all (inputs_of side.logic) laid.places.items
   pub within : All (IsBelow (length gates)) laid.literals.items
-  pub always : (v : ℕ → Bool) (x : List ℕ → Bool) (values : List Bool) → AreNodeValues gates v → GivesNames v all x → AreValuesUnder side x values → Carry v laid.literals.items values
+  pub always : (v : ℕ → Bool) (x : List ℕ → Bool) (values : List Bool) → AreNodeValues gates v → GivesNames v all x
+      → AreValuesUnder side x values → Carry v laid.literals.items values

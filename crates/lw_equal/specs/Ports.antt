@@ -36,12 +36,16 @@ fault_between kind one other =
 -- the first input of a network that may help, the latches' outputs among them, that is none of the first side
 abbrev pub fault_from : Side → ℕ → List Side → Option PortFault
 fault_from one number [] = None
-fault_from one number (side ∷ more) = first_of (fault_of Input number 1 (first_lacking (inputs_of one.logic) (inputs_of side.logic))) (fault_from one (number + 1) more)
+fault_from one number (side ∷ more) =
+    first_of (fault_of Input number 1 (first_lacking (inputs_of one.logic) (inputs_of side.logic)))
+    (fault_from one (number + 1) more)
 
 -- the first of the inputs, the outputs and the latches that only one of both sides has
 abbrev pub both_faults : Side → Side → Option PortFault
-both_faults one other = first_of (fault_between Input one other) (first_of (fault_between Output one other) (fault_between Latch one other))
+both_faults one other =
+    first_of (fault_between Input one other) (first_of (fault_between Output one other) (fault_between Latch one other))
 
--- The first port that only one of both sides has, or else the first input of the networks that may help, which count from 3 on, that is none of the first side.
+-- The first port that only one of both sides has, or else the first input of the networks that may help, which count
+-- from 3 on, that is none of the first side.
 abbrev pub first_port_fault : Side → Side → List Side → Option PortFault
 first_port_fault one other more = first_of (both_faults one other) (fault_from one 3 more)

@@ -1,5 +1,6 @@
 -- The sides of a comparison: their ports, the values of their nets, and where they are compared.
-use Rattle.std.specs.Prelude.{ℕ, ◌<◌, ◌≤◌, ◌≡◌, Bool, false, ⊤, Some, List, [], ◌∷◌, length, map, slice_get, slice_index_or}
+use Rattle.std.specs.Prelude.{ℕ, ◌<◌, ◌≤◌, ◌≡◌, Bool, false, ⊤, Some, List, [], ◌∷◌, length, map, slice_get}
+use Rattle.std.specs.Prelude.{slice_index_or}
 use Rattle.std.specs.List.{IsDistinct}
 use Rattle.std.specs.Str.{bytes_eq}
 use Rattle.lw_frame.specs.Frames.{Fits, control_among}

@@ -12,8 +12,8 @@ pub struct Difference {
 }
 
 /// What a comparison came to. Both sides have the same inputs, outputs and latches. A control of a
-/// latch is compared where both sides' latches have one. Kinds and initial values of latches are not
-/// compared.
+/// latch is compared where both sides' latches have one. Kinds and initial values of latches are
+/// not compared.
 #[derive(Debug, Drop)]
 pub enum Answer {
     /// Both sides have the same value at each point under every assignment.

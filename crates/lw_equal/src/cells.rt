@@ -11,7 +11,8 @@ ghost use Rattle.lw_netlist.specs.Netlists.{plain};
 ghost use Rattle.lw_netlist.specs.Plain.{HasCell, IsOver};
 ghost use Rattle.lw_netlist.specs.Filling.{gate_value};
 ghost use Rattle.lw_sweep.specs.Sweeps.{IsExtended};
-ghost use Rattle.lw_equal.specs.Cells.{HaveNetlistValues, IsMade, IsStep, Makes, itself, literals_at};
+ghost use Rattle.lw_equal.specs.Cells.{HaveNetlistValues, IsMade, IsStep, Makes, itself};
+ghost use Rattle.lw_equal.specs.Cells.{literals_at};
 
 use lw_aig::Literal;
 use lw_genlib::{Cell, ExprOp, Library};

@@ -2,7 +2,8 @@
 // differ.
 ghost use Rattle.std.specs.Prelude.{◌≡◌, Some, All, IfOk, IfSome, length, map, slice_get};
 ghost use Rattle.lw_equal.specs.Answers.{IsDifference};
-ghost use Rattle.lw_equal.specs.Cases.{IsCase, IsLooked, Judges, Settles, one_of, other_of, point_of};
+ghost use Rattle.lw_equal.specs.Cases.{IsCase, IsLooked, Judges, Settles, one_of, other_of};
+ghost use Rattle.lw_equal.specs.Cases.{point_of};
 ghost use Rattle.lw_equal.specs.Pairs.{IsPair};
 ghost use Rattle.lw_equal.specs.Sides.{inputs_of};
 

@@ -75,7 +75,8 @@ impl<'a> Known<'a> {
     ghost use Rattle.std.specs.Prelude.{◌≡◌, IfOk, MatchOption};
     ghost use Rattle.std.specs.List.{list_any};
     ghost use Rattle.std.specs.Str.{bytes_eq};
-    ghost use Rattle.lw_equal.specs.Known.{HasNoLatch, HasNoNet, IsKnown, IsLatchOf, IsOnlyNet, IsOnlyRoot, HasNoRoot};
+    ghost use Rattle.lw_equal.specs.Known.{HasNoLatch, HasNoNet, IsKnown, IsLatchOf, IsOnlyNet};
+    ghost use Rattle.lw_equal.specs.Known.{IsOnlyRoot, HasNoRoot};
     ghost use Rattle.lw_equal.specs.Ports.{names_of};
     ghost use Rattle.lw_equal.specs.Sides.{IsSide};
     ghost use Rattle.lw_equal.specs.declared.point.Kind.TheVariants as kinds;

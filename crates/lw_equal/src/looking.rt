@@ -1,5 +1,6 @@
 // Looks at assignments: whether both sides differ under one, as they were read.
-ghost use Rattle.std.specs.Prelude.{◌≡◌, ◌<◌, List, IfOk, IsTrue, length, map, slice_index_or, false, All};
+ghost use Rattle.std.specs.Prelude.{◌≡◌, ◌<◌, List, IfOk, IsTrue, length, map, slice_index_or};
+ghost use Rattle.std.specs.Prelude.{false, All};
 ghost use Rattle.lw_laws.specs.Networks.{given};
 ghost use Rattle.lw_equal.specs.Answers.{IsDifference};
 ghost use Rattle.lw_equal.specs.Known.{IsKnown};

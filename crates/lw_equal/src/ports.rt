@@ -2,7 +2,8 @@
 ghost use Rattle.std.specs.Prelude.{◌≡◌, None, IfErr, OnOk, option_copied};
 ghost use Rattle.lw_equal.specs.Answers.{Refuses};
 ghost use Rattle.lw_equal.specs.Known.{IsKnown};
-ghost use Rattle.lw_equal.specs.Ports.{both_faults, fault_between, fault_from, fault_of, first_lacking, first_port_fault, names_of};
+ghost use Rattle.lw_equal.specs.Ports.{both_faults, fault_between, fault_from, fault_of};
+ghost use Rattle.lw_equal.specs.Ports.{first_lacking, first_port_fault, names_of};
 ghost use Rattle.lw_equal.specs.Sides.{inputs_of};
 ghost use Rattle.lw_equal.specs.declared.answer.PortKind.TheVariants as kinds;
 

@@ -1,9 +1,9 @@
 -- One step after another, over files that may be known.
-use Rattle.std.proofs.Common.{inl, inr, ℕ, ◌≤◌, List, Option, Result, Ok, Err, refl, arith}
+use Rattle.std.proofs.Common.{◌≡◌, inl, inr, ℕ, ◌≤◌, List, Option, Result, Ok, Err, refl, subst, arith}
 use Rattle.lw_io.specs.declared.file.File.{File}
 use Rattle.lw_files.specs.declared.fault.FileFault.{FileFault}
 use Rattle.lw_files.specs.declared.fault.FileFault.TheVariants.{Unread, Memory}
-use Rattle.lw_files.specs.Steps.{StepTo, followed_by}
+use Rattle.lw_files.specs.Steps.{Files, StepTo, followed_by}
 use Rattle.lw_files.specs.Sources.{FileStep}
 use Rattle.lw_files.specs.Reading.{Known, HasReason, Reads}
 
@@ -15,6 +15,30 @@ module _ {E A B : Type 0} (told : Option (List File)) (first : StepTo E A) (next
   -- a step after the first answers
   pub answered : (x : A) (r : Result B E) → Known told first (Ok x) → Known told (next x) r → Known told (followed_by first next) r
   answered x r before after files is = inl (x, before files is, after files is)
+
+-- Two steps and then a last one.
+module _ {E A B T : Type 0} (first : StepTo E A) (second : StepTo E B) (last : A → B → StepTo E T) (files : Files) where
+  abbrev pub Last : Result T E → Type 0
+  Last r = followed_by first (λ a. followed_by second (λ b. last a b)) files r
+
+  -- the two steps answered, and the last comes to this
+  pub record IsLast (r : Result T E) : Type 0 where
+    pub a : A
+    pub b : B
+    pub one : first files (Ok a)
+    pub two : second files (Ok b)
+    pub comes : last a b files r
+
+  pub last_ok : (x : T) → Last (Ok x) → IsLast (Ok x)
+  last_ok x (inl (a, one, inl (b, two, comes))) = record { a = a; b = b; one = one; two = two; comes = comes }
+  last_ok x (inl (a, one, inr (e, refused, is))) = cc
+  last_ok x (inr (e, refused, is)) = cc
+
+  -- a refusal that neither of the two gives
+  pub last_err : (c : E) → (first files (Err c) → ⊥) → (second files (Err c) → ⊥) → Last (Err c) → IsLast (Err c)
+  last_err c not_one not_two (inl (a, one, inl (b, two, comes))) = record { a = a; b = b; one = one; two = two; comes = comes }
+  last_err c not_one not_two (inl (a, one, inr (e, refused, is))) = let same : e ≡ c = cc in absurd (not_two (subst (λ (f : E). second files (Err f)) same refused))
+  last_err c not_one not_two (inr (e, refused, is)) = let same : e ≡ c = cc in absurd (not_one (subst (λ (f : E). first files (Err f)) same refused))
 
 module _ {A B : Type 0} (told : Option (List File)) (first : FileStep A) (next : A → FileStep B) where
   pub refused : (before now : ℕ) (e : FileFault) → HasReason told before now first e → HasReason told before now (followed_by first next) e

@@ -1,5 +1,7 @@
 -- A list of forms with one more pair of forms that have one value.
 use Rattle.std.proofs.Common.{ℕ, zero, suc, ◌+◌, ◌*◌, ◌/◌, ◌<◌, ◌≤◌, ◌≡◌, ◌⊎◌, inl, inr, Bool, false, List, [], ◌∷◌, ◌++◌, length, Some, slice_get, refl, ap, ap₂, sym, ◌∙◌, subst, arith}
+use Rattle.std.proofs.lemmas.List.{length_push}
+use Rattle.lw_facts.proofs.Lists.{get_left}
 use Rattle.lw_laws.specs.NumberedForms.{NumberedForms, NumberOccurs, IsListedAnd, AreNumberedForms, IsSignal}
 use Rattle.lw_laws.specs.NumberedForms.Base.{base_and}
 use Rattle.lw_laws.specs.NumberedValues.{AreNumberedValues}
@@ -16,15 +18,6 @@ pair_cases (x ∷ xs) [] f h s a b same e d = cc
 pair_cases (x ∷ xs) (y ∷ ys) f h zero a b same e d = inl (e, d)
 pair_cases (x ∷ xs) (y ∷ ys) f h (suc s) a b same e d = pair_cases xs ys f h s a b (let q : length ys ≡ length xs = omega (arith, same) in q) e d
 
-get_before : (xs ys : List ℕ) (s a : ℕ) → slice_get xs s ≡ Some a → slice_get (xs ++ ys) s ≡ Some a
-get_before [] ys s a e = cc
-get_before (x ∷ xs) ys zero a e = e
-get_before (x ∷ xs) ys (suc s) a e = get_before xs ys s a e
-
-length_more : (xs : List ℕ) (f : ℕ) → length (xs ++ f ∷ []) ≡ length xs + 1
-length_more [] f = refl
-length_more (x ∷ xs) f = let e = length_more xs f in omega (arith, e)
-
 module _ (forms : NumberedForms) (f h : ℕ) where
   abbrev more : NumberedForms
   more = with_pair forms f h
@@ -34,7 +27,7 @@ module _ (forms : NumberedForms) (f h : ℕ) where
   values_before x value are = record {
     flips = are.flips;
     bases = are.bases;
-    signals = λ a b (s, e, d). are.signals a b (s, get_before forms.sops (f ∷ []) s a e, get_before forms.facs (h ∷ []) s b d);
+    signals = λ a b (s, e, d). are.signals a b (s, get_left forms.sops (f ∷ []) s a e, get_left forms.facs (h ∷ []) s b d);
   }
 
   pub samples_stay : (samples : List Bool) → AreSamples forms samples → AreSamples more samples
@@ -73,16 +66,16 @@ module _ (forms : NumberedForms) (f h : ℕ) where
     nets_stay : length forms.sops < most_signals → AreNets more
     nets_stay room =
         let n = kept.nets in
-        let p = length_more forms.sops f in
-        let q = length_more forms.facs h in
+        let p = length_push forms.sops f in
+        let q = length_push forms.facs h in
         let same = n.one_each in
         let some = n.some in
         record {
           one_each = q ∙ (ap (λ k. k + 1) same ∙ sym p);
           few = let low : length forms.sops < most_signals = room in omega (arith, p, low);
           some = omega (arith, p, some);
-          input_sops = λ i lt. get_before forms.sops (f ∷ []) i (2 * (i + 1)) (n.input_sops i lt);
-          input_facs = λ i lt. get_before forms.facs (h ∷ []) i (2 * (i + 1)) (n.input_facs i lt);
+          input_sops = λ i lt. get_left forms.sops (f ∷ []) i (2 * (i + 1)) (n.input_sops i lt);
+          input_facs = λ i lt. get_left forms.facs (h ∷ []) i (2 * (i + 1)) (n.input_facs i lt);
         }
 
     values_stay : (x : ℕ → Bool) → (value : ℕ → Bool) × AreNumberedValues more x value

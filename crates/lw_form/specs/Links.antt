@@ -11,4 +11,5 @@ pub record HaveOneValue (forms : NumberedForms) (f h : ℕ) : Type 0 where
 
 -- the listing with one more pair
 abbrev pub with_pair : NumberedForms → ℕ → ℕ → NumberedForms
-with_pair forms f h = record { inputs = forms.inputs; bases = forms.bases; sops = forms.sops ++ f ∷ []; facs = forms.facs ++ h ∷ [] }
+with_pair forms f h =
+    record { inputs = forms.inputs; bases = forms.bases; sops = forms.sops ++ f ∷ []; facs = forms.facs ++ h ∷ [] }

@@ -1,4 +1,5 @@
-ghost use Rattle.std.specs.Prelude.{◌≡◌, ◌<◌, ◌≤◌, ◌↔◌, ℕ, List, Bool, false, Some, slice_get, map, length, IsTrue, MatchResult};
+ghost use Rattle.std.specs.Prelude.{◌≡◌, ◌<◌, ◌≤◌, ◌↔◌, ℕ, List, Bool, false, Some, slice_get, map};
+ghost use Rattle.std.specs.Prelude.{length, IsTrue, MatchResult};
 ghost use Rattle.lw_laws.specs.NumberedForms.{IsPart, NumberOccurs};
 ghost use Rattle.lw_laws.specs.NumberedForms.Base.{base_and};
 ghost use Rattle.lw_laws.specs.NumberedValues.{AreNumberedValues};

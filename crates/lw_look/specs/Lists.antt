@@ -1,5 +1,6 @@
 -- Lists of matches that are a cover of the outputs, and the classes that the first of them have seen.
-use Rattle.std.specs.Prelude.{ℕ, ◌+◌, ◌<◌, ◌≡◌, Bool, true, false, All, List, length, map, Some, slice_get, slice_index_or}
+use Rattle.std.specs.Prelude.{ℕ, ◌+◌, ◌<◌, ◌≡◌, Bool, true, false, All, List, length, map, Some, slice_get}
+use Rattle.std.specs.Prelude.{slice_index_or}
 use Rattle.std.specs.List.{AllByRecursion}
 use Rattle.lw_pool.specs.Numbers.{numbers}
 use Rattle.lw_laws.specs.Graphs.{Graph}
@@ -17,8 +18,8 @@ use Rattle.lw_look.specs.declared.look.Look.{Look}
 abbrev pub pin_counts : Look → List ℕ
 pin_counts l = map length (delays_of_cells l.lib.now)
 
--- Each match is one at its class, no class stands twice or is an input's, and each pin's class is an input's or stands earlier. Each output's
--- class is an input's or stands in the list.
+-- Each match is one at its class, no class stands twice or is an input's, and each pin's class is an input's or stands
+-- earlier. Each output's class is an input's or stands in the list.
 pub record IsRightList (l : Look) (list : List Chosen) : Type 0 where
   pub matches : AreMatchesInOrder l.graph.now (pin_counts l) l.pats.now (plain_matches list)
   pub within : All (λ (x : Chosen). x.class.0 < length l.graph.now.pairs) list

@@ -1,5 +1,6 @@
 -- What a look is asked, what it lets pass, and what it gives.
-use Rattle.std.specs.Prelude.{ℕ, ◌≤◌, ◌≡◌, ◌⊎◌, All, Bool, true, false, Option, Some, None, List, length, map, slice_index_or}
+use Rattle.std.specs.Prelude.{ℕ, ◌≤◌, ◌≡◌, ◌⊎◌, All, Bool, true, false, Option, Some, None, List, length, map}
+use Rattle.std.specs.Prelude.{slice_index_or}
 use Rattle.std.specs.List.{AllZip}
 use Rattle.lw_fixed.specs.declared.micro.Micro.{Micro}
 use Rattle.lw_pool.specs.Numbers.{numbers}
@@ -37,17 +38,20 @@ pub record IsLook (l : Look) : Type 0 where
   pub one_start : length l.starts.now ≡ length l.graph.now.leaves
   pub early : All IsSmall l.starts.now
 
--- The netlist is one of matches over the graph, of the library's cells. Its gates stand by depth, its nets have the names of the inputs, of the
--- first output of their class, or n1, n2 and so on, and the outputs are at their roots' nets.
+-- The netlist is one of matches over the graph, of the library's cells. Its gates stand by depth, its nets have the
+-- names of the inputs, of the first output of their class, or n1, n2 and so on, and the outputs are at their roots'
+-- nets.
 pub record IsMatchCover (l : Look) (cover : Cover) : Type 0 where
   pub matches : IsMatchNetlist l.graph.now (pin_counts l) l.pats.now (numbers cover.classes) (plain cover.netlist)
   pub by_depth : AreByDepth (plain cover.netlist)
   pub over : IsOver l.lib.now cover.netlist
   pub few : length cover.netlist.gates ≤ most_gates
   pub model : cover.netlist.model ≡ l.ports.now.model
-  pub names : cover.netlist.names ≡ net_names l.ports.now.inputs l.ports.now.outputs (numbers l.ports.now.roots) (numbers cover.classes)
+  pub names : cover.netlist.names ≡ net_names l.ports.now.inputs l.ports.now.outputs (numbers l.ports.now.roots)
+      (numbers cover.classes)
   pub output_names : map (λ (port : Port). port.name) cover.netlist.outputs ≡ l.ports.now.outputs
-  pub outputs : AllZip (λ (root : ClassId) (port : Port). IsNetOf l.graph.now (numbers cover.classes) root.0 port.net.0) l.ports.now.roots cover.netlist.outputs
+  pub outputs : AllZip (λ (root : ClassId) (port : Port). IsNetOf l.graph.now (numbers cover.classes) root.0 port.net.0)
+      l.ports.now.roots cover.netlist.outputs
 
 -- the netlist is of the library's cells, as many as are dealt with, over the inputs
 pub record IsFit (l : Look) (n : NetlistParts) : Type 0 where
@@ -61,7 +65,9 @@ IsInTime cells starts times n = ArriveBy (timing_of cells starts) (plain n) (map
 
 -- the same by arrivals at hand
 abbrev pub AreEarly : List Micro → List Port → List Micro → Type 0
-AreEarly arrivals outputs times = AllZip (λ (port : Port) (time : Micro). (slice_index_or arrivals port.net.0 (record { 0 = 0 })).0 ≤ time.0) outputs times
+AreEarly arrivals outputs times =
+    AllZip (λ (port : Port) (time : Micro). (slice_index_or arrivals port.net.0 (record { 0 = 0 })).0 ≤ time.0) outputs
+    times
 
 -- the gates stand by depth, take no more than this area, and bring each output by its time
 pub record Fits (l : Look) (most : ℕ) (n : NetlistParts) : Type 0 where
@@ -78,13 +84,16 @@ pub record Passes (l : Look) (most : ℕ) (list : List Chosen) (cover : Cover) :
 
 -- the list is not a cover of the outputs, or the netlist that it makes does not fit
 abbrev pub IsRefused : Look → ℕ → List Chosen → Type 0
-IsRefused l most list = (IsRightList l list → ⊥) ⊎ ((cover : Cover) × IsAssembled l.graph.now l.pats.now l.ports.now list cover × (Fits l most cover.netlist → ⊥))
+IsRefused l most list =
+    (IsRightList l list → ⊥) ⊎ ((cover : Cover) × IsAssembled l.graph.now l.pats.now l.ports.now list cover
+    × (Fits l most cover.netlist → ⊥))
 
 abbrev pub IsPassed : Look → ℕ → List Chosen → Option Cover → Type 0
 IsPassed l most list None = IsRefused l most list
 IsPassed l most list (Some cover) = Passes l most list cover
 
--- The cover is the first one exactly where the list is refused. Else it is that of the list, which passes with no more area.
+-- The cover is the first one exactly where the list is refused. Else it is that of the list, which passes with no more
+-- area.
 abbrev pub IsDecidedBy : Look → List Chosen → Cover → Cover → Bool → Type 0
 IsDecidedBy l list first cover true = (cover ≡ first) × IsRefused l (area_of l.lib.now first.netlist.gates) list
 IsDecidedBy l list first cover false = Passes l (area_of l.lib.now first.netlist.gates) list cover

@@ -1,5 +1,6 @@
 // Whether the gates of a netlist stand by depth.
-ghost use Rattle.std.specs.Prelude.{◌≡◌, ◌<◌, ◌≤◌, ◌+◌, ◌↔◌, ℕ, All, IfOk, IsTrue, Some, length, map, slice_get, slice_index_or};
+ghost use Rattle.std.specs.Prelude.{◌≡◌, ◌<◌, ◌≤◌, ◌+◌, ◌↔◌, ℕ, All, IfOk, IsTrue, Some, length};
+ghost use Rattle.std.specs.Prelude.{map, slice_get, slice_index_or};
 ghost use Rattle.lw_laws.specs.Networks.{greatest_depth};
 ghost use Rattle.lw_laws.specs.Netlists.{AreByDepth};
 ghost use Rattle.lw_netlist.specs.Netlists.{IsGateAt};

@@ -1,9 +1,11 @@
 // Whether a list has matches in order that are a cover of the outputs.
-ghost use Rattle.std.specs.Prelude.{◌≡◌, ◌↔◌, ℕ, All, IfOk, IsTrue, List, Some, false, length, true};
+ghost use Rattle.std.specs.Prelude.{◌≡◌, ◌↔◌, ℕ, All, IfOk, IsTrue, List, Some, false, length};
+ghost use Rattle.std.specs.Prelude.{true};
 ghost use Rattle.lw_check.specs.Standing.{AreWithin};
 ghost use Rattle.lw_cost.specs.Least.{AreOfCells};
 ghost use Rattle.lw_extract.specs.Choosing.{chosen_classes};
-ghost use Rattle.lw_look.specs.Lists.{AllStand, AreSeen, IsMatchOfCell, IsNew, IsRightList, MayStand, is_seen, pin_counts};
+ghost use Rattle.lw_look.specs.Lists.{AllStand, AreSeen, IsMatchOfCell, IsNew, IsRightList};
+ghost use Rattle.lw_look.specs.Lists.{MayStand, is_seen, pin_counts};
 
 use crate::Look;
 use lw_check::class_of_pattern;

@@ -22,16 +22,19 @@ IsLastBefore bound k =
     IsMarkBefore (record { cost = k.cost; height = k.height + 1 }) bound → ⊥
 
 -- such are the marks of all matches at the class, and the bound is no greater than costs can be
-pub record AreLastBefore (g : Graph) (cost : Cost) (pats : List Pattern) (marks : Marks) (c : ℕ) (bound : Mark) : Type 0 where
+pub record AreLastBefore (g : Graph) (cost : Cost) (pats : List Pattern) (marks : Marks) (c : ℕ)
+    (bound : Mark) : Type 0 where
   pub capped : bound.cost ≤ cost.cap
   pub last : (b : Priced) → IsPricedAt g cost pats marks c b → IsLastBefore bound b.mark
 
 -- so it is for a query
 abbrev pub AreLastIn : {C : Type 0} → (C → Cost) → Query C → Mark → Type 0
 AreLastIn costs q bound =
-    AreLastBefore q.site.graph.now (costs q.site.cost.now) q.site.pats.now (marks_in q.site.marks.now) q.site.class.0 bound
+    AreLastBefore q.site.graph.now (costs q.site.cost.now) q.site.pats.now
+    (marks_in q.site.marks.now) q.site.class.0 bound
 
--- The numbers are bounds, and each pattern has a root. The gaps are certified at the top, and the matches are last before the bound.
+-- The numbers are bounds, and each pattern has a root. The gaps are certified at the top, and the matches are last
+-- before the bound.
 pub record IsPick {C : Type 0} (costs : C → Cost) (q : Query C) (p : Pick) : Type 0 where
   pub bounds : AreTrue q
   pub rooted : length q.site.pats.now ≤ length q.site.cuts.now.roots.now
@@ -64,7 +67,8 @@ IsInList q top list b =
 -- it is by the pattern of this root, which has its number in these, and costs less than the top
 abbrev pub IsByRoot : {C : Type 0} → Query C → ℕ → List ℕ → Root → Priced → Type 0
 IsByRoot q top numbers root b =
-    IsBelow top b × (list_at q.view (list_of (root_side (cuts_state q.site.cuts.now) b.found.pattern)) ≡ numbers) × (root ≡ root_of b.found.pattern (root_side (cuts_state q.site.cuts.now) b.found.pattern))
+    IsBelow top b × (list_at q.view (list_of (root_side (cuts_state q.site.cuts.now) b.found.pattern)) ≡ numbers)
+    × (root ≡ root_of b.found.pattern (root_side (cuts_state q.site.cuts.now) b.found.pattern))
 
 -- the best becomes the least of what it was and these matches
 abbrev pub PicksOf : {C : Type 0} → (C → Cost) → Query C → (Priced → Type 0) → Option Best → Option Best → Type 0

@@ -14,5 +14,6 @@ pub struct Query<'a, C> {
     /// The numbers of sides at the class.
     pub view: View<'a>,
     ghost leaves: { length view.leaves.now ≡ 5 },
-    ghost sides: { HasSides (cuts_reading (cuts_state site.cuts.now) site.graph.now site.marks.now) site.class.0 view },
+    ghost sides: { HasSides (cuts_reading (cuts_state site.cuts.now) site.graph.now site.marks.now)
+        site.class.0 view },
 }

@@ -2,7 +2,8 @@
 ghost use Rattle.std.specs.Prelude.{ℕ, ◌↔◌, IsTrue, IsFalse};
 ghost use Rattle.lw_bounds.specs.Places.{IsFar};
 ghost use Rattle.lw_match.specs.Queries.{IsQuery, IsQueryBy, AreRootsIn, HasRootsListed};
-ghost use Rattle.lw_match.specs.Hunts.{HuntsOn, HasNoneAtAll, HasNoneByRoot, HasNoneInList, HasNoneLeft, IsNewHunt, IsWholeHunt};
+ghost use Rattle.lw_match.specs.Hunts.{HuntsOn, HasNoneAtAll, HasNoneByRoot, HasNoneInList};
+ghost use Rattle.lw_match.specs.Hunts.{HasNoneLeft, IsNewHunt, IsWholeHunt};
 
 use crate::hunting::find_better_by;
 use crate::query::Query;

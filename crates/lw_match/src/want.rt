@@ -3,7 +3,8 @@ ghost use Rattle.std.specs.Prelude.{◌≡◌, Some, true, false};
 ghost use Rattle.lw_cost.specs.Values.{plain_mark};
 ghost use Rattle.lw_cost.specs.Least.{IsWithin};
 ghost use Rattle.lw_match.specs.Cutting.{IsSharper};
-ghost use Rattle.lw_match.specs.Hunts.{IsCheaper, IsTargetOf, IsTargetAfter, IsUnlimited, any_before, lowest_before};
+ghost use Rattle.lw_match.specs.Hunts.{IsCheaper, IsTargetOf, IsTargetAfter, IsUnlimited};
+ghost use Rattle.lw_match.specs.Hunts.{any_before, lowest_before};
 
 use crate::target::{Target, sharpened, top_of};
 use lw_cost::Mark;

@@ -6,8 +6,8 @@ use std::alloc::{AllocError, Global};
 /// No match, or no use.
 pub(crate) const NONE: u32 = u32::MAX;
 
-/// A match: its pattern and cell, what its cell takes, where its pins stand in the list of all pins,
-/// and where their links stand, if it has any.
+/// A match: its pattern and cell, what its cell takes, where its pins stand in the list of all
+/// pins, and where their links stand, if it has any.
 #[derive(Clone, Copy)]
 pub(crate) struct Put {
     pub pat: PatId,

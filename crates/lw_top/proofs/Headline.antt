@@ -28,7 +28,7 @@ use Rattle.lw_top.specs.Mappings.{AsksForMapping, AsksForTables, IsMappingText, 
 use Rattle.lw_top.specs.Tabled.{AreTables}
 use Rattle.lw_top.specs.Trades.{Trades}
 use Rattle.lw_top.specs.Traded.{AsksForTrade, IsTrade, LacksTradedOutput}
-use Rattle.lw_top.proofs.Steps.{IsLast, last-ok, last-err}
+use Rattle.lw_files.proofs.Steps.{IsLast, last_ok, last_err}
 use Rattle.lw_top.proofs.InRange.{command_in_range}
 use Rattle.lw_files.proofs.Kept.{cells_kept, model_kept}
 use Rattle.lw_top.proofs.Sound.{asked_some}
@@ -144,13 +144,13 @@ module _ (words : List (List ℕ)) (files : Files) (asks : AsksForMapping words)
   pub answer-mapped : (text : List ℕ) → IsAnswer words files (Ok text) → IsMappingText words files text
   answer-mapped text answer =
       let (c, is, comes) = asked-ok words files text answer in
-      mapping-text text (last-ok (ReadsLibrary library) (ReadsModel network) (λ (cells : List CellParts) (model : Parsed). Maps options certified cells model) files text (subst (λ (d : Command). IsCommandAnswer d files (Ok text)) (own-command c is) comes))
+      mapping-text text (last_ok (ReadsLibrary library) (ReadsModel network) (λ (cells : List CellParts) (model : Parsed). Maps options certified cells model) files text (subst (λ (d : Command). IsCommandAnswer d files (Ok text)) (own-command c is) comes))
 
   -- an answer that names an output is of one without a cover
   pub answer-lacks : (name : List ℕ) → IsAnswer words files (Err (NoCover name)) → LacksOutput words files name
   answer-lacks name answer =
       let (c, is, comes) = asked-lacks words files name answer in
-      lacks-output name (last-err (ReadsLibrary library) (ReadsModel network) (λ (cells : List CellParts) (model : Parsed). Maps options certified cells model) files (NoCover name) (λ no. no) (λ no. no) (subst (λ (d : Command). IsCommandAnswer d files (Err (NoCover name))) (own-command c is) comes))
+      lacks-output name (last_err (ReadsLibrary library) (ReadsModel network) (λ (cells : List CellParts) (model : Parsed). Maps options certified cells model) files (NoCover name) (λ no. no) (λ no. no) (subst (λ (d : Command). IsCommandAnswer d files (Err (NoCover name))) (own-command c is) comes))
 
 module _ (words : List (List ℕ)) (files : Files) (asks : AsksForTrade words) where
   abbrev own-trade : Command
@@ -163,7 +163,7 @@ module _ (words : List (List ℕ)) (files : Files) (asks : AsksForTrade words) w
   pub answer-traded : (text : List ℕ) → IsAnswer words files (Ok text) → IsTrade words files text
   answer-traded text answer =
       let (c, is, comes) = asked-ok words files text answer in
-      let m = last-ok (ReadsLibrary asks.library) (ReadsModel asks.network) (λ (cells : List CellParts) (model : Parsed). Trades asks.deadline asks.options cells model) files text (subst (λ (d : Command). IsCommandAnswer d files (Ok text)) (trade-command c is) comes) in
+      let m = last_ok (ReadsLibrary asks.library) (ReadsModel asks.network) (λ (cells : List CellParts) (model : Parsed). Trades asks.deadline asks.options cells model) files text (subst (λ (d : Command). IsCommandAnswer d files (Ok text)) (trade-command c is) comes) in
       let kept = model_kept asks.network files m.b m.two in
       record {
         asks = asks;
@@ -183,7 +183,7 @@ module _ (words : List (List ℕ)) (files : Files) (asks : AsksForTrade words) w
   pub answer-untraded : (name : List ℕ) → IsAnswer words files (Err (NoCover name)) → LacksTradedOutput words files name
   answer-untraded name answer =
       let (c, is, comes) = asked-lacks words files name answer in
-      let m = last-err (ReadsLibrary asks.library) (ReadsModel asks.network) (λ (cells : List CellParts) (model : Parsed). Trades asks.deadline asks.options cells model) files (NoCover name) (λ no. no) (λ no. no) (subst (λ (d : Command). IsCommandAnswer d files (Err (NoCover name))) (trade-command c is) comes) in
+      let m = last_err (ReadsLibrary asks.library) (ReadsModel asks.network) (λ (cells : List CellParts) (model : Parsed). Trades asks.deadline asks.options cells model) files (NoCover name) (λ no. no) (λ no. no) (subst (λ (d : Command). IsCommandAnswer d files (Err (NoCover name))) (trade-command c is) comes) in
       record { asks = asks; cells = m.a; model = m.b; library = m.one; network = m.two; lacks = m.comes }
 
 module _ {O : Type 0} (words : List (List ℕ)) (told : Option (List File)) (before now : ℕ) (taken : O → Option (List ℕ)) (is_finished : O → Bool) (faults : O → ℕ) (old new : O) (said : List ℕ → Type 0) where
