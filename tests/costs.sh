@@ -15,6 +15,7 @@ failing() { # CASE
     equal_of_long_carries) echo '1.3 s for 4,000 bits, and by the square' ;;
     equal_of_ands_in_two_orders) echo '0.8 s for 2,000 inputs, and by the square' ;;
     equal_of_wide_nodes) echo 'over 5.7 s' ;;
+    equal_of_names_that_collide) echo 'over 1.8 s' ;;
     *) return 1 ;;
     esac
 }
