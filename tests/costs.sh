@@ -14,6 +14,8 @@ failing() { # CASE
     equal_of_long_carries) echo '1.3 s for 4,000 bits, and by the square' ;;
     equal_of_ands_in_two_orders) echo '0.8 s for 2,000 inputs, and by the square' ;;
     equal_of_wide_nodes) echo 'over 5.7 s' ;;
+    equal_of_names_that_collide) echo 'over 1.8 s' ;;
+    equal_of_nets_that_collide) echo '12 s for one of the two files, as lwmap time reads it' ;;
     *) return 1 ;;
     esac
 }
