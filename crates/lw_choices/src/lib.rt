@@ -36,9 +36,13 @@ mod area;
 mod chains;
 mod choices;
 mod group_choices;
+mod listed;
 mod pin_groups;
+mod pin_uses;
+mod rows;
 
 pub use area::{AreaCost, MOST_AREA, joined};
 pub use chains::Chains;
-pub use choices::{Gate, ListedChoice, Stand, list_choices};
+pub use choices::list_choices;
 pub use pin_groups::{PinGroups, lane_of, pin_groups_of};
+pub use rows::{Gate, ListedChoice, Stand};
