@@ -1,7 +1,6 @@
 -- Pins of matches that are alike.
-use Rattle.std.proofs.Common.{◌≡◌, ℕ, zero, suc, ◌+◌, ◌<◌, ◌≤◌, ◌⊎◌, inl, inr, length, map, min, take, zip, List, [], ◌∷◌, ◌++◌, Some, option_map, slice_get, refl, ap, sym, ◌∙◌, subst, subst₂, arith}
+use Rattle.std.proofs.Common.{◌≡◌, ℕ, zero, suc, ◌+◌, ◌<◌, ◌≤◌, ◌⊎◌, inl, inr, length, map, min, take, zip, List, [], ◌∷◌, ◌++◌, Some, slice_get, refl, ap, sym, ◌∙◌, subst, subst₂, arith}
 use Rattle.std.specs.List.Sorted.{IsPermutation}
-use Rattle.std.proofs.lemmas.Option.{slice_get-map}
 use Rattle.std.proofs.lemmas.List.Sorted.{IsPermutation-sym, IsPermutation-trans}
 use Rattle.lw_fixed.specs.declared.micro.Micro.{Micro}
 use Rattle.lw_pool.specs.declared.id.ClassId.{ClassId}
@@ -9,12 +8,11 @@ use Rattle.lw_pool.specs.Numbers.{numbers}
 use Rattle.lw_genlib.specs.Cells.{CellParts}
 use Rattle.lw_genlib.specs.Tables.{delays_of_cells, millionths}
 use Rattle.lw_laws.specs.Covers.{delays_of}
-use Rattle.lw_choices.specs.declared.rows.ListedChoice.{ListedChoice}
 use Rattle.lw_choices.specs.declared.pin_uses.PinUse.{PinUse}
 use Rattle.lw_choices.specs.Choices.{Choice, IsListedLike, uses_of}
 use Rattle.lw_choices.specs.Choices.Part.{gate}
-use Rattle.lw_choices.specs.PinUses.{plain_use, plain_uses, HasLikeRow, IsLikeRow}
-use Rattle.lw_choices.specs.Rows.{IsGateAdded, plain_row, plain_rows}
+use Rattle.lw_choices.specs.PinUses.{plain_use, plain_uses, AreUsesIn, HasLikeRow}
+use Rattle.lw_choices.specs.Rows.{IsGateAdded}
 use Rattle.lw_choices.proofs.Lists.{get_last}
 use Rattle.lw_choices.proofs.Listing.{alike_itself}
 
@@ -51,17 +49,11 @@ same_uses (x ∷ xs) (y ∷ ys) e each =
     let rest = same_uses xs ys (omega arith) (λ i a b lt at bt. each (suc i) a b (omega arith) at bt) in
     λ j. first j ∷ rest j
 
--- a choice of the same class and cell, with these pins in some order
-pub row_like : (cells : List CellParts) (x : Choice) (c cell : ℕ) (ps ds : List ℕ) (others uses : List (ℕ × ℕ)) → x.class ≡ c → x.part ≡ gate cell ps → ds ≡ delays_of (delays_of_cells cells) cell → IsPermutation (zip ds ps) others → uses ≡ others → IsLikeRow cells x c cell uses
-row_like cells x c cell ps ds others uses class part delays perm e = record {
-  class_is = class;
-  pins = ps;
-  part_is = part;
-  alike = subst₂ (λ es us. IsPermutation (zip es ps) us) delays (sym e) perm;
-}
-
-pub row_found : (cells : List CellParts) (rows : List ListedChoice) (n : ℕ) (r : ListedChoice) (c cell : ℕ) (uses : List (ℕ × ℕ)) → slice_get rows n ≡ Some r → IsLikeRow cells (plain_row r) c cell uses → HasLikeRow cells (plain_rows rows) c cell uses
-row_found cells rows n r c cell uses at like = record { number = n; choice = plain_row r; at = slice_get-map plain_row rows n ∙ ap (option_map plain_row) at; like = like }
+-- the pins of a match, as they are listed
+pub pins_are : (cells : List CellParts) (cell : ℕ) (delays : List Micro) (pins qs : List ClassId) (us vs : List PinUse) → map millionths delays ≡ delays_of (delays_of_cells cells) cell → pins ≡ qs → vs ≡ us → AreUsesIn delays pins us → IsPermutation (uses_of cells cell (numbers qs)) (plain_uses vs)
+pins_are cells cell delays pins qs us vs from same e perm =
+    let one = subst (λ ds. IsPermutation (zip ds (numbers pins)) (plain_uses us)) from perm in
+    subst₂ (λ ps ws. IsPermutation (uses_of cells cell (numbers ps)) (plain_uses ws)) same (sym e) one
 
 -- one that is like the match is listed
 pub like_found : (cells : List CellParts) (xs : List Choice) (c cell : ℕ) (ps : List ℕ) (uses : List (ℕ × ℕ)) → IsPermutation (uses_of cells cell ps) uses → HasLikeRow cells xs c cell uses → IsListedLike cells xs c (gate cell ps)
