@@ -88,7 +88,14 @@ fn list_class(
     let mut list = matches_at(alloc, graph, pats, class)?;
     while let Some(found) = list.pop() {
         let cell = pats.get(found.pat).cell;
-        add_gate(to, class, Gate { cell, pins: found.pins })?;
+        add_gate(
+            to,
+            class,
+            Gate {
+                cell,
+                pins: found.pins,
+            },
+        )?;
     }
     Ok(())
 }

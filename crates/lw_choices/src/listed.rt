@@ -57,7 +57,11 @@ pub(crate) fn add_gate(to: &mut Listed, class: ClassId, gate: Gate) -> Result<()
     requires { to.old.chains.count ≡ bucket_count }
     ensures { OnOk result (IsListedMore to.old to.new (choice_of class gate)) }
 {
-    list_uses(&mut to.uses, delays_in(to.lib, gate.cell), gate.pins.as_slice())?;
+    list_uses(
+        &mut to.uses,
+        delays_in(to.lib, gate.cell),
+        gate.pins.as_slice(),
+    )?;
     let hash = hash_of(class, gate.cell, &to.uses);
     let sought = Sought {
         lib: to.lib,
@@ -87,7 +91,11 @@ fn is_like(
     if row.class.0 != sought.class.0 || gate.cell.0 != sought.cell.0 {
         return Ok(false);
     }
-    list_uses(others, delays_in(sought.lib, gate.cell), gate.pins.as_slice())?;
+    list_uses(
+        others,
+        delays_in(sought.lib, gate.cell),
+        gate.pins.as_slice(),
+    )?;
     Ok(are_same(sought.uses, others))
 }
 
@@ -119,12 +127,7 @@ fn has_like(
 }
 
 // Appends a match with its hash.
-fn push_gate(
-    to: &mut Listed,
-    class: ClassId,
-    gate: Gate,
-    hash: u64,
-) -> Result<(), AllocError>
+fn push_gate(to: &mut Listed, class: ClassId, gate: Gate, hash: u64) -> Result<(), AllocError>
     requires { to.old.chains.count ≡ bucket_count }
     ensures count { to.new.chains.count ≡ to.old.chains.count }
     ensures lib { to.new.lib.now ≡ to.old.lib.now }
