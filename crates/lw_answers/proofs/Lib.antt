@@ -4,6 +4,7 @@ pub mod DrawOne
 pub mod VerilogOne
 pub mod One
 pub mod Uncovered
+pub mod Untraded
 pub mod FormGraphs
 pub mod NetNames
 pub mod MappedChecks

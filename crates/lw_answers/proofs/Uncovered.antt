@@ -21,10 +21,10 @@ use Rattle.lw_top.proofs.Sound.{asked_some}
 use Rattle.lw_answers.proofs.One.{library_one, model_read_one}
 use Rattle.lw_top.proofs.MapAnswers.{Lack, of_forms, of_splits, of_cover, by_lack}
 
-contained : (outputs : List NetId) (place : ℕ) (root : NetId) → slice_get outputs place ≡ Some root → Contains outputs root
+pub contained : (outputs : List NetId) (place : ℕ) (root : NetId) → slice_get outputs place ≡ Some root → Contains outputs root
 contained outputs place root at = (place, slice_get_within outputs place root at, get_or_from_slice_get outputs place root root at)
 
-at_place : (outputs : List NetId) (root : NetId) → Contains outputs root → (place : ℕ) × (slice_get outputs place ≡ Some root)
+pub at_place : (outputs : List NetId) (root : NetId) → Contains outputs root → (place : ℕ) × (slice_get outputs place ≡ Some root)
 at_place outputs root (place, lt, is) =
     let (other, at) = slice_get_some outputs place lt in
     let same : other ≡ root = sym (get_or_from_slice_get outputs place other root at) ∙ is in
