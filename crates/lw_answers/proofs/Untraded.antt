@@ -1,5 +1,5 @@
 -- There is no netlist of least area exactly where some root has no cover, or a limit is passed.
-use Rattle.std.proofs.Common.{◌≡◌, ◌↔◌, ◌⊎◌, inl, inr, ℕ, List, Option, Some, None, Result, Ok, Err, Contains, refl, ap, sym, ◌∙◌, subst, arith}
+use Rattle.std.proofs.Common.{◌≡◌, ◌↔◌, ◌⊎◌, inl, inr, ℕ, List, Option, Some, None, Result, Ok, Err, Contains, refl, ap, subst, arith}
 use Rattle.lw_pool.specs.declared.id.NetId.{NetId}
 use Rattle.lw_fixed.specs.declared.micro.Micro.{Micro}
 use Rattle.lw_laws.specs.Headline.{HasLeastArrival}
@@ -15,18 +15,18 @@ use Rattle.lw_map.specs.Trading.{AreEarliest}
 use Rattle.lw_map.proofs.Once.{zip_at}
 use Rattle.lw_top.specs.declared.refusal.Refusal.{Refusal}
 use Rattle.lw_top.specs.declared.refusal.Refusal.TheVariants.{NoCover, Forms, Splits, Points}
-use Rattle.lw_top.specs.Words.{Command, trading, command_of}
+use Rattle.lw_top.specs.Words.{Command, trading}
 use Rattle.lw_top.specs.Trades.{Trades, LacksPoints}
-use Rattle.lw_top.specs.Answers.{asked_for, AreAlike, IsTradingAnswer, IsCommandAnswer, IsAnswer, status_in, status_of}
+use Rattle.lw_top.specs.Answers.{AreAlike, IsTradingAnswer, IsAnswer, status_in, status_of}
 use Rattle.lw_top.proofs.InRange.{command_in_range}
-use Rattle.lw_top.proofs.Sound.{asked_some}
+use Rattle.lw_top.proofs.Asked.{asked_answer}
 use Rattle.lw_top.proofs.TradeAnswers.{trades_alike}
 use Rattle.lw_answers.specs.Trades.{AreReadToTrade}
 use Rattle.lw_answers.proofs.One.{library_one, model_read_one}
 use Rattle.lw_answers.proofs.Uncovered.{contained, at_place}
 
 -- an answer that is alike a refusal has its status
-alike_status : (a : Result (List ℕ) Refusal) (r : Refusal) → AreAlike (λ s t. Unit {0}) a (Err r) → status_in a ≡ status_of r
+pub alike_status : (a : Result (List ℕ) Refusal) (r : Refusal) → AreAlike (λ s t. Unit {0}) a (Err r) → status_in a ≡ status_of r
 alike_status (Ok text) r alike = absurd alike
 alike_status (Err s) r same = ap status_of same
 
@@ -50,13 +50,7 @@ module _ (words : List (List ℕ)) (files : Files) (deadline : Option Micro) (op
       cc
 
   answer-trades : (a : Result (List ℕ) Refusal) → IsAnswer words files a → Trades deadline options cells model files a
-  answer-trades a (inl (c, is, comes)) =
-      let both : Some c ≡ Some own = sym (asked_some (command_of words) c is) ∙ read.form in
-      let same : c ≡ own = cc in
-      trades-trading a (subst (λ (d : Command). IsCommandAnswer d files a) same comes)
-  answer-trades a (inr (e, refused, is)) =
-      let no : ◌≡◌ {A = Result Command Refusal} (Ok own) (Err e) = subst (λ (o : Option Command). ◌≡◌ {A = Result Command Refusal} (asked_for o) (Err e)) read.form refused in
-      cc
+  answer-trades a answer = trades-trading a (asked_answer words files own a read.form answer)
 
   -- a refusal that the cells and the model come to is the answer's, and its status
   status_by : (a : Result (List ℕ) Refusal) (r : Refusal) → Trades deadline options cells model files a → Trades deadline options cells model files (Err r) → status_in a ≡ status_of r

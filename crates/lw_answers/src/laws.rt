@@ -1,5 +1,6 @@
 //! Laws over definitions: functions with empty bodies, whose clauses are the laws.
-ghost use Rattle.std.specs.Prelude.{◌≡◌, ◌⊎◌, ◌↔◌, ℕ, Bool, List, Option, Result, Ok, Contains};
+ghost use Rattle.std.specs.Prelude.{◌≡◌, ◌⊎◌, ◌↔◌, ℕ, Bool, List, Option, None, Result, Ok};
+ghost use Rattle.std.specs.Prelude.{Contains};
 ghost use Rattle.lw_fixed.specs.declared.micro.Micro.{Micro};
 ghost use Rattle.lw_pool.specs.declared.id.NetId.{NetId};
 ghost use Rattle.lw_genlib.specs.Cells.{CellParts};
@@ -13,6 +14,9 @@ ghost use Rattle.lw_answers.specs.Backs.{IsBackOf, ComesBack};
 ghost use Rattle.lw_top.specs.Checks.{yes_text};
 ghost use Rattle.lw_answers.specs.Checked.{IsCheckOf};
 ghost use Rattle.lw_answers.specs.Trades.{AreReadToTrade};
+ghost use Rattle.lw_answers.specs.ReadsBack.{ReadsBack};
+ghost use Rattle.lw_top.specs.Translated.{AsksForVerilog, LacksVerilog};
+ghost use Rattle.lw_verilog.specs.declared.reason.NoVerilog.{NoVerilog};
 ghost use Rattle.lw_top.specs.Trades.{LacksPoints};
 ghost use Rattle.lw_top.specs.Mappings.{AsksForMapping, AsksForTables, AreRead, IsMappingText};
 ghost use Rattle.lw_top.specs.Traded.{AsksForTrade, IsTrade};
@@ -81,6 +85,27 @@ pub fn written_mappings_are_accepted()
     ensures { (words checks : List (List ℕ)) (files others : Files) (text : List ℕ)
         → IsCheckOf words files text checks others → IsAnswer words files (Ok text) →
         IsAnswer checks others (Ok yes_text) }
+{}
+
+/// What a mapping or a trade wrote reads back: where no cell of the library has an output with the
+/// name of one of its pins, each file with the text is read as the netlist that it was written of,
+/// with its latches, its starts and its certificate.
+pub fn written_netlists_read_back()
+    ensures mapping { (words : List (List ℕ)) (files : Files) (text : List ℕ) →
+        AsksForMapping words → IsAnswer words files (Ok text)
+        → (is : IsMappingText words files text) ×
+        ReadsBack is.cells is.netlist is.model.frame is.model.starts is.certificate text }
+    ensures trade { (words : List (List ℕ)) (files : Files) (text : List ℕ)
+        → (is : IsTrade words files text) →
+        ReadsBack is.cells is.netlist is.model.frame is.model.starts None text }
+{}
+
+/// Where a mapped netlist is asked for in Verilog, status 11 is that of the netlist that was read
+/// and that one of the tests refuses, and only of such a one.
+pub fn unsayable_netlists_are_refused()
+    ensures { (words : List (List ℕ)) (files : Files) (a : Result (List ℕ) Refusal) →
+        AsksForVerilog words → IsAnswer words files a
+        → (status_in a ≡ 11) ↔ ((why : NoVerilog) × LacksVerilog words files why) }
 {}
 
 /// What was written in Verilog is read back: where a text in Verilog was written of a mapped
