@@ -89,13 +89,16 @@ own_conjunction gates n a b own at e =
     let low = slice_get_within gates n (And a b) at in
     stands_conjunction gates n a b own at (own_stands gates n own low e)
 
--- two equals of one literal through another
-pub equal_through : (gates : List Gate) (own through other s : Literal) → AreEqual gates own through → AreEqual gates through other → AreEqual gates s other → AreEqual gates s own
-equal_through gates own through other s e f g = record {
-  always = λ v values. g.always v values ∙ (sym (f.always v values) ∙ sym (e.always v values));
-}
-
 -- the gate at the end has its own literal
 pub pushed_own : (gates new : List Gate) (n : ℕ) (a b own : Literal) → new ≡ gates ++ And a b ∷ [] → n ≡ length gates → own.0 ≡ 2 * n → IsConjunction new a b own
 pushed_own gates new n a b own e at is =
     own_conjunction new n a b own (ap (λ gs. slice_get gs n) e ∙ (ap (slice_get (gates ++ And a b ∷ [])) at ∙ get_last gates (And a b))) is
+
+-- an equal of a literal that was found to be equal to another
+pub equal_adopted : (old new : List Gate) (l m s : Literal) → new ≡ old → AreEqual old l m → AreEqual new s m → AreEqual new s l
+equal_adopted old new l m s e same equal = record {
+  always = λ v values. equal.always v values ∙ sym (same.always v (subst (λ gates. AreNodeValues gates v) e values));
+}
+
+pub equal_adopted_by : (old new : List Gate) (own through other s : Literal) → new ≡ old → AreEqual old own through → AreEqual old through other → AreEqual new s other → AreEqual new s own
+equal_adopted_by old new own through other s e f g equal = equal_adopted old new own other s e (equal_both old own through other f g) equal

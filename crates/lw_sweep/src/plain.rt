@@ -189,7 +189,10 @@ impl Sweep {
         ensures { self.new ≡ self.old }
     {
         let own = self.stand_of(through);
-        if own.node() != node || !self.are_same(alloc, through, other, stops)? {
+        if own.node() != node {
+            return Ok(false);
+        }
+        if !self.are_same(alloc, through, other, stops)? {
             return Ok(false);
         }
         let stand = self.stand_of(other);

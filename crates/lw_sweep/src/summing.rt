@@ -346,7 +346,10 @@ impl Sweep {
             return Ok(false);
         };
         let mut free = Vec::new(alloc);
-        if !self.free_leaves(alloc, cone, sums, &mut free)? || !self.rewrite_all(alloc, cone)? {
+        if !self.free_leaves(alloc, cone, sums, &mut free)? {
+            return Ok(false);
+        }
+        if !self.rewrite_all(alloc, cone)? {
             return Ok(false);
         }
         let image = cone.image(Literal(node.wrapping_mul(2)));

@@ -296,13 +296,24 @@ impl Sweep {
         ensures grows { IsExtended self.old self.new }
         ensures stands { IfOk result (StandsFor self.new node) }
     {
-        if self.settle_by_class(alloc, node, FEW_TRIES)? {
-            if !self.settle_sum(alloc, node)? {
-                self.settle_by_class(alloc, node, self.limits.tries)?;
-            }
-            self.classify(node);
+        if !self.settle_by_class(alloc, node, FEW_TRIES)? {
+            return Ok(self.stand(node));
         }
+        let known = self.settle_sum(alloc, node)?;
+        self.settle_last(alloc, node, known)?;
         Ok(self.stand(node))
+    }
+
+    // Takes a node into its class, and looks there for what stands for it, if that is not known.
+    fn settle_last(&mut self, alloc: Global, node: u32, known: bool) -> Result<(), AllocError>
+        requires { node < length self.old }
+        ensures { self.new ≡ self.old }
+    {
+        if !known {
+            self.settle_by_class(alloc, node, self.limits.tries)?;
+        }
+        self.classify(node);
+        Ok(())
     }
 
     // Lets what stands for an earlier node of its class stand for a node, if both are found to be
@@ -311,6 +322,7 @@ impl Sweep {
         requires { node < length self.old }
         ensures { self.new ≡ self.old }
     {
+        let _ = self.search.aig().gates();
         let literal = self.seek(alloc, node, tries)?;
         let stand = self.stand_of(literal);
         self.let_equal(Literal::of(node), stand);
