@@ -232,19 +232,33 @@ impl Sweep {
     ) -> Result<Option<Literal>, AllocError>
         ensures { IsExtended self.old self.new }
     {
-        let mut plain = Literal(0);
-        let mut sum = Literal(0);
+        let mut both = (Literal(0), Literal(0));
         'leaves: for (k, leaf) in leaves.iter().enumerate() {
-            if members >> (k & 63) & 1 == 1 {
-                let literal = self.forms.sum(*leaf);
-                let Some((next, more)) = self.add_leaf(alloc, plain, sum, literal)? else {
-                    return Ok(None);
-                };
-                plain = next;
-                sum = more;
-            }
+            let taken = members >> (k & 63) & 1 == 1;
+            let Some(more) = self.add_if(alloc, both, *leaf, taken)? else {
+                return Ok(None);
+            };
+            both = more;
         }
-        Ok(Some(plain))
+        Ok(Some(both.0))
+    }
+
+    // The same for two literals and a leaf, if that is taken.
+    #[tactic(auto, using(crate::proofs::Growing::extended_itself, crate::proofs::Growing::extended_both))]
+    fn add_if(
+        &mut self,
+        alloc: Global,
+        both: (Literal, Literal),
+        leaf: u32,
+        taken: bool,
+    ) -> Result<Option<(Literal, Literal)>, AllocError>
+        ensures { IsExtended self.old self.new }
+    {
+        if !taken {
+            return Ok(Some(both));
+        }
+        let literal = self.forms.sum(leaf);
+        self.add_leaf(alloc, both.0, both.1, literal)
     }
 
     // Writes leaves that are sums of others as those: whether there was room. The others are left.
@@ -259,18 +273,35 @@ impl Sweep {
         ensures { IsExtended self.old self.new }
     {
         'leaves: for k in 0..sums.leaves.len() {
-            let members = sums.leaves[k];
             let leaf = cone.leaves.get(k).copied().unwrap_or(0);
-            if members == 0 {
-                free.push(leaf)?;
-            } else {
-                let Some(plain) = self.sum_of_leaves(alloc, &cone.leaves, members)? else {
-                    return Ok(false);
-                };
-                let turned = self.forms.sum(leaf).0 % 2 == 1;
-                cone.put_image(leaf, if turned { plain.flip() } else { plain })?;
+            if !self.free_leaf(alloc, cone, leaf, sums.leaves[k], free)? {
+                return Ok(false);
             }
         }
+        Ok(true)
+    }
+
+    // The same for one leaf, and the members of its sum.
+    #[tactic(auto, using(crate::proofs::Growing::extended_itself, crate::proofs::Growing::extended_both))]
+    fn free_leaf(
+        &mut self,
+        alloc: Global,
+        cone: &mut Cone,
+        leaf: u32,
+        members: u64,
+        free: &mut Vec<u32>,
+    ) -> Result<bool, AllocError>
+        ensures { IsExtended self.old self.new }
+    {
+        if members == 0 {
+            free.push(leaf)?;
+            return Ok(true);
+        }
+        let Some(plain) = self.sum_of_leaves(alloc, &cone.leaves, members)? else {
+            return Ok(false);
+        };
+        let turned = self.forms.sum(leaf).0 % 2 == 1;
+        cone.put_image(leaf, if turned { plain.flip() } else { plain })?;
         Ok(true)
     }
 
