@@ -1,0 +1,3 @@
+mod Alone
+pub mod Joins
+mod Pairs
