@@ -67,11 +67,11 @@ module _ (width : ℕ) (net union : Network) (links : List Signal) (wide : 2 ≤
   join_is_sound =
       subst (λ i. IsSoundListing i (joined_listing width union links)) is.begins.inputs (links_sound union.inputs (listing_of width union) links (network_is_sound width wide union) is.links_hold)
 
-  pub own_forms_are : IsInOrder net → AreNetForms net (joined_listing width union links) (own_form width net)
-  own_forms_are order =
+  pub own_listed : (s : ℕ) → s < net.inputs + length net.nodes → IsListed (joined_listing width union links) (own_form width net s)
+  own_listed s lt =
       let same = is.begins.inputs in
       let more = ap length is.begins.nodes ∙ length-append net.nodes is.begins.further in
-      record {
-        listed = λ s lt. subst (IsListed (joined_listing width union links)) (has_the_forms net union is.begins width s lt) (sop_occurs width wide union s (omega arith));
-        values = sop_value_is width wide net order;
-      }
+      subst (IsListed (joined_listing width union links)) (has_the_forms net union is.begins width s lt) (sop_occurs width wide union s (omega arith))
+
+  pub own_forms_are : IsInOrder net → AreNetForms net (joined_listing width union links) (own_form width net)
+  own_forms_are order = record { listed = own_listed; values = sop_value_is width wide net order }

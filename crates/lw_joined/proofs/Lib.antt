@@ -1,3 +1,6 @@
 mod Alone
+pub mod Covers
+mod FormCovers
+mod GateCount
 pub mod Joins
-mod Pairs
+pub mod Pairs
