@@ -1,5 +1,5 @@
 // The top call.
-ghost use Rattle.std.specs.Prelude.{◌≡◌, ◌≤◌, ◌↔◌, ℕ, List, map, string_bytes, IsErr};
+ghost use Rattle.std.specs.Prelude.{◌≡◌, ◌≤◌, ◌↔◌, [], ℕ, List, map, string_bytes, IsErr};
 ghost use Rattle.lw_io.specs.declared.file.File.{File};
 ghost use Rattle.lw_io.specs.Causes.{Rose};
 ghost use Rattle.lw_io.specs.Files.{bytes_of};
@@ -20,14 +20,16 @@ use crate::telling::{tell_ending, tell_word};
 use crate::words::asked_of;
 use lw_io::{Shelf, Sink};
 use std::alloc::Global;
+use std::time::Clock;
 
 /// Does what the words ask for, and answers the exit status.
 ///
 /// It reads the files that the words name, one after another and each once. The whole answer stands
 /// before the first byte goes to `out`. At a status other than 0 it writes one line to `err`, whose
 /// faults change no status.
-pub fn run<F: Shelf, O: Sink, E: Sink>(
+pub fn run<F: Shelf, O: Sink, E: Sink, C: Clock>(
     alloc: Global,
+    clock: &C,
     words: &[String],
     shelf: &mut F,
     out: &mut O,
@@ -53,7 +55,7 @@ pub fn run<F: Shelf, O: Sink, E: Sink>(
     ensures no_cover { (files : List File) (task : Task) → F.files shelf.old ≡ Some files →
         AsksFor (map string_bytes words.now) task → result ≡ 6 → ((name : List ℕ) ×
         LacksOutput task (bytes_of files) name × Told E.taken E.faults err.old err.new
-        (refusal_line task (Refusal.Unmapped (MapFault.NoCover name)))) }
+        (refusal_line task [] (Refusal.Unmapped (MapFault.NoCover name)))) }
 
     // Over known files, whatever failed, a status other than 2, 7 and 8 is that of an answer, and so
     // is the line on `err`. Where nothing failed each status is, unless memory runs out.
@@ -86,7 +88,7 @@ pub fn run<F: Shelf, O: Sink, E: Sink>(
             return 1;
         }
     };
-    let ending = serve(alloc, asked, shelf, out);
+    let ending = serve(alloc, clock, asked, shelf, out);
     let _ = tell_ending(&asked, &ending, err);
     ending.status()
 }

@@ -45,7 +45,7 @@ start_is_least mode count o g sound is pats timing cap patterns i c at = (
 )
 
 -- the outputs have the names and the nets
-zip_outputs : (class : PlainPort → ℕ) (g : Graph) (gates : List ℕ) (outputs : List PlainPort) (roots : List ClassId) (mapped : List Port) → numbers roots ≡ map class outputs → map (λ (port : Port). port.name) mapped ≡ map port_name outputs → AllZip (λ (root : ClassId) (port : Port). IsNetOf g gates root.0 port.net.0) roots mapped → AllZip (λ p q. (p.name ≡ q.name) × IsNetOf g gates (class p) q.net) outputs (map plain_port mapped)
+pub zip_outputs : (class : PlainPort → ℕ) (g : Graph) (gates : List ℕ) (outputs : List PlainPort) (roots : List ClassId) (mapped : List Port) → numbers roots ≡ map class outputs → map (λ (port : Port). port.name) mapped ≡ map port_name outputs → AllZip (λ (root : ClassId) (port : Port). IsNetOf g gates root.0 port.net.0) roots mapped → AllZip (λ p q. (p.name ≡ q.name) × IsNetOf g gates (class p) q.net) outputs (map plain_port mapped)
 zip_outputs class g gates [] roots [] classes names nets = tt
 zip_outputs class g gates [] roots (q ∷ mapped) classes names nets = cc
 zip_outputs class g gates (p ∷ outputs) roots [] classes names nets = cc

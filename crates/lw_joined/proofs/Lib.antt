@@ -1,6 +1,7 @@
 mod Alone
 pub mod Covers
-mod FormCovers
+pub mod FormCovers
 mod GateCount
 pub mod Joins
 pub mod Pairs
+mod Verdicts

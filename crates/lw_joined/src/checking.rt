@@ -31,7 +31,7 @@ pub fn check(
     requires few { length mapped.now.netlist.gates ≤ most_gates }
     ensures { IfOk result (HasVerdict lib.now model.now joined.now mapped.now) }
 {
-    let _ = model.network.inputs();
+    let _ = (lib.len(), model.network.inputs());
     let pats = patterns(alloc, lib)?;
     let verdict = lw_check::check(
         alloc,
