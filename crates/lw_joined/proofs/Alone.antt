@@ -6,7 +6,7 @@ use Rattle.lw_pool.specs.declared.id.NetId.{NetId}
 use Rattle.lw_pool.specs.Numbers.{net_number}
 use Rattle.lw_laws.specs.Networks as laws
 use Rattle.lw_laws.specs.Signals.{Signal, signals_of}
-use Rattle.lw_laws.specs.Listings.{Listing, listing_of}
+use Rattle.lw_laws.specs.Listings.{listing_of}
 use Rattle.lw_laws.specs.Occurring.{occurring_forms}
 use Rattle.lw_net.specs.Networks.{IsNetwork, NetworkParts, input_names, plain, plain_node}
 use Rattle.lw_net.specs.Unions.{placed_net, placed_node}
@@ -40,12 +40,14 @@ module _ (inputs first : ℕ) (same : first ≡ inputs) where
   nodes_keep (node ∷ nodes) =
       ap₂ (λ (fanins : List ℕ) (rest : List laws.Node). record { fanins = fanins; rows = (plain_node node).rows; on = node.on } ∷ rest) (all_keep node.fanins) (nodes_keep nodes)
 
-no_links : (width : ℕ) (net : laws.Network) → joined_listing width net [] ≡ listing_of width net
+pub no_links : (width : ℕ) (net : laws.Network) → joined_listing width net [] ≡ listing_of width net
 no_links width net = ap (λ (signals : List Signal). record { width = width; bases = occurring_forms width net; signals = signals }) (append-nil (signals_of width net))
 
-pub alone : (width : ℕ) (net : NetworkParts) → IsNetwork net → joined_listing width (plain (united net [] [])) [] ≡ listing_of width (plain net)
-alone width net kept =
+pub plain_alone : (net : NetworkParts) → IsNetwork net → plain (united net [] []) ≡ plain net
+plain_alone net kept =
     let named = kept.named in
     let first : length (input_names net) ≡ net.inputs = length-take-le net.inputs net.names (omega arith) in
-    let same : plain (united net [] []) ≡ plain net = ap (λ (nodes : List laws.Node). record { inputs = net.inputs; nodes = nodes }) (nodes_keep net.inputs (length (input_names net)) first net.nodes) in
-    no_links width (plain (united net [] [])) ∙ ap (listing_of width) same
+    ap (λ (nodes : List laws.Node). record { inputs = net.inputs; nodes = nodes }) (nodes_keep net.inputs (length (input_names net)) first net.nodes)
+
+pub alone : (width : ℕ) (net : NetworkParts) → IsNetwork net → joined_listing width (plain (united net [] [])) [] ≡ listing_of width (plain net)
+alone width net kept = no_links width (plain (united net [] [])) ∙ ap (listing_of width) (plain_alone net kept)

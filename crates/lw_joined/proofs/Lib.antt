@@ -1,4 +1,4 @@
-mod Alone
+pub mod Alone
 pub mod Covers
 pub mod FormCovers
 mod GateCount
