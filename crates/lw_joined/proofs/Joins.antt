@@ -1,10 +1,10 @@
 -- A union has the values and the forms of the network that it begins with, and with links its forms are a sound listing.
-use Rattle.std.proofs.Common.{ℕ, zero, suc, ◌+◌, ◌<◌, ◌≤◌, ◌≡◌, Bool, false, Contains, List, [], ◌∷◌, ◌++◌, length, map, take, Some, slice_get, slice_index_or, refl, ap, sym, ◌∙◌, subst, arith}
+use Rattle.std.proofs.Common.{ℕ, zero, suc, ◌+◌, ◌<◌, ◌≤◌, ◌≡◌, false, Contains, List, [], ◌∷◌, ◌++◌, length, take, Some, slice_get, refl, ap, sym, ◌∙◌, subst, arith}
 use Rattle.std.proofs.lemmas.List.{get_or-take, length-append, length-take-le}
 use Rattle.std.proofs.lemmas.Option.{get_or_from_slice_get, slice_get_within}
 use Rattle.std.specs.List.{list_any}
 use Rattle.lw_facts.proofs.Lists.{get_left}
-use Rattle.lw_laws.specs.Networks.{AreValues, IsInOrder, Network, Node, agrees, node_value, row_value}
+use Rattle.lw_laws.specs.Networks.{IsInOrder, Network, Node, agrees, row_value}
 use Rattle.lw_laws.specs.Signals.{Signal, input_signals, signal_of_node, signals_after, signals_of}
 use Rattle.lw_laws.specs.Listings.{IsListed, listing_of}
 use Rattle.lw_laws.specs.SignalValues.{AreNetForms, IsSoundListing}
@@ -21,11 +21,11 @@ get_front (suc k) (x ∷ xs) zero lt = refl
 get_front (suc k) (x ∷ xs) (suc i) lt = get_front k xs i (omega arith)
 
 -- what stands before further nodes stays
-after_more : (width : ℕ) (signals : List Signal) (nodes more : List Node) → signals_after width signals (nodes ++ more) ≡ signals_after width (signals_after width signals nodes) more
+pub after_more : (width : ℕ) (signals : List Signal) (nodes more : List Node) → signals_after width signals (nodes ++ more) ≡ signals_after width (signals_after width signals nodes) more
 after_more width signals [] more = refl
 after_more width signals (node ∷ nodes) more = after_more width (signals ++ signal_of_node width signals node ∷ []) nodes more
 
-after_front : (width : ℕ) (signals : List Signal) (nodes : List Node) (s : ℕ) (x : Signal) → slice_get signals s ≡ Some x → slice_get (signals_after width signals nodes) s ≡ Some x
+pub after_front : (width : ℕ) (signals : List Signal) (nodes : List Node) (s : ℕ) (x : Signal) → slice_get signals s ≡ Some x → slice_get (signals_after width signals nodes) s ≡ Some x
 after_front width signals [] s x e = e
 after_front width signals (node ∷ nodes) s x e = after_front width (signals ++ signal_of_node width signals node ∷ []) nodes s x (get_left signals (signal_of_node width signals node ∷ []) s x e)
 

@@ -2,6 +2,9 @@ pub mod Alone
 pub mod Covers
 pub mod FormCovers
 mod GateCount
+mod Held
 pub mod Joins
-pub mod Pairs
+mod NoLater
+mod Pairs
+mod Renamed
 mod Verdicts

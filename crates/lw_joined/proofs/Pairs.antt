@@ -1,5 +1,5 @@
 -- What more pairs of forms derive, and what the two forms of a pair do.
-use Rattle.std.proofs.Common.{ℕ, ◌≤◌, ◌≡◌, inl, inr, List, Contains, refl, subst, arith}
+use Rattle.std.proofs.Common.{ℕ, ◌≤◌, inl, inr, List, Contains, refl, subst, arith}
 use Rattle.lw_facts.proofs.Lists.{at_contained, contained_at}
 use Rattle.lw_laws.specs.Modes.{Mode}
 use Rattle.lw_laws.specs.Trees.{Tree}

@@ -1,6 +1,6 @@
 //! Laws about networks that are joined. Each function has an empty body; its clauses are the law.
-ghost use Rattle.std.specs.Prelude.{◌++◌, ◌≤◌, ◌≡◌, ◌+◌, ◌<◌, ℕ, [], Contains, List};
-ghost use Rattle.lw_laws.specs.Covers.{Pattern, Timing};
+ghost use Rattle.std.specs.Prelude.{◌++◌, ◌≤◌, ◌≡◌, ◌+◌, ◌<◌, ℕ, [], Contains, List, length, map};
+ghost use Rattle.lw_laws.specs.Covers.{ArePatterns, Pattern, Timing};
 ghost use Rattle.lw_laws.specs.Forms.{Form};
 ghost use Rattle.lw_laws.specs.Headline.{HasLeastTime};
 ghost use Rattle.lw_laws.specs.Listings.{listing_of};
@@ -53,8 +53,9 @@ pub fn linked_forms_arrive_together()
 pub fn linked_forms_are_no_later_than_alone()
     ensures { (mode : Mode) (width : ℕ) (net union : Network) (places : List ℕ) (first : ℕ)
         (links : List Signal) (pats : List Pattern) (timing : Timing) (x : Signal) (s d e : ℕ) →
-        2 ≤ width → IsInOrder net → Holds union net places first → Contains links x →
-        x.fac ≡ own_form width union (net_at net places first s) →
+        IsInOrder net → Holds union net places first →
+        ArePatterns (map length timing.delays) pats → Contains links x →
+        s < net.inputs + length net.nodes → x.fac ≡ own_form width union (net_at net places first s) →
         HasLeastTime mode width (signals_of width net) pats (starting places timing)
         (own_form width net s) d →
         HasLeastTime mode width (signals_of width union ++ links) pats timing x.sop e → e ≤ d }
