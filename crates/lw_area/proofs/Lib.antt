@@ -1,6 +1,7 @@
 mod Options
 mod Steps
 mod Further
+mod Reading
 mod Serving
 mod Endings
 mod Complete

@@ -110,6 +110,7 @@ pub(crate) fn read_sources<F: Shelf>(
             return Err(Refusal::Network(fault));
         }
     };
+    let _ = library.len();
     match read_all(alloc, shelf, &model.network, task.more) {
         Ok(further) => Ok(Sources {
             library,

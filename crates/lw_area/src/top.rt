@@ -37,21 +37,22 @@ pub fn run<F: Shelf, O: Sink, E: Sink, C: Clock>(
 ) -> u8
     // At 0, over known files and where a netlist was asked for, the text of one went out. It gives
     // each root, which is an output or what a latch reads, the network's value under every
-    // assignment. Each root arrives by its deadline. The area is at most that of the netlist that
-    // `map` writes for these files, and the certificate, where one was asked for, is right.
+    // assignment. Each root arrives by its deadline. The area is at most that of the netlist of the
+    // chosen matches, and the certificate, where one was asked for, is right. It is over a union of
+    // the network with further ones and over links, which are pairs of forms of one value.
     ensures mapping { (files : List File) (task : Task) → F.files shelf.old ≡ Some files →
         AsksFor (map string_bytes words.now) task → result ≡ 0 → ((text : List ℕ) ×
         IsRecoveryOf task (bytes_of files) text × IsDone O.taken O.is_finished out.old out.new text) }
 
     // With the deadline `each` that netlist is a mapping: each root arrives at the least time of
-    // all covers of all trees that the rules derive for it.
+    // all covers of all trees that the rules and the links derive for it.
     ensures each { (files : List File) (task : Task) → F.files shelf.old ≡ Some files →
         AsksFor (map string_bytes words.now) task → task.settings.deadline ≡ Deadline.Each →
         result ≡ 0 → ((text : List ℕ) × IsFastestOf task (bytes_of files) text
         × IsDone O.taken O.is_finished out.old out.new text) }
 
-    // At 6, over known files, no tree that the rules derive for the root whose name is reported has
-    // a cover.
+    // At 6, over known files, no tree that the rules and the links derive for the root whose name is
+    // reported has a cover.
     ensures no_cover { (files : List File) (task : Task) → F.files shelf.old ≡ Some files →
         AsksFor (map string_bytes words.now) task → result ≡ 6 → ((name : List ℕ) ×
         LacksOutput task (bytes_of files) name × Told E.taken E.faults err.old err.new

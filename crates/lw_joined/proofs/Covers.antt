@@ -1,7 +1,7 @@
 -- What the layers give one after another is the fastest cover of a network over the graph of several.
-use Rattle.std.proofs.Common.{ℕ, ◌+◌, ◌<◌, ◌≤◌, ◌≡◌, ◌⊎◌, inl, inr, List, [], ◌∷◌, map, length, Option, Some, None, Result, Ok, Err, option_map, slice_get, slice_index_or, refl, ap, sym, ◌∙◌, subst, arith}
+use Rattle.std.proofs.Common.{ℕ, ◌+◌, ◌<◌, ◌≤◌, ◌≡◌, ◌⊎◌, inl, inr, List, [], ◌∷◌, map, length, Option, Some, None, option_map, slice_get, slice_index_or, refl, ap, sym, ◌∙◌, subst, arith}
 use Rattle.std.specs.List.{IsDistinct}
-use Rattle.std.specs.Prelude.{All, IfErr}
+use Rattle.std.specs.Prelude.{All}
 use Rattle.std.specs.Str.{bytes_eq}
 use Rattle.std.proofs.lemmas.List.{length-map, length-take-le}
 use Rattle.std.proofs.lemmas.Option.{get_or_from_slice_get, slice_get_within}
@@ -195,10 +195,9 @@ module _ (net : NetworkParts) (j : Joined) (ports : Ports) (kept : IsNetwork net
                 some_mark other root.0 m (in_names other i e) is_root marked lacks;
           }
 
-    pub lack_over : {X : Type 0} (r : Result X ExtractFault) → ((k : ℕ) → r ≡ Err (extract.NoCover k) → IsFirstUncovered marks ports.roots k) → IfErr r (IsLackOver cells net starts j)
-    lack_over (Ok x) first = tt
-    lack_over (Err (extract.NoCover k)) first = λ is. first_lack is k (first k refl)
-    lack_over (Err extract.Memory) first = tt
+    pub lack_over : (fault : ExtractFault) → ((k : ℕ) → fault ≡ extract.NoCover k → IsFirstUncovered marks ports.roots k) → IsLackOver cells net starts j fault
+    lack_over (extract.NoCover k) first = λ is. first_lack is k (first k refl)
+    lack_over extract.Memory first = tt
 
 module _ (cells : List CellParts) (net : NetworkParts) (starts : List Micro) (j : Joined) (k : ℕ) (lack : (is : IsJoined net j) → IsFirstUncoveredOver cells net starts j is k) where
   pub lack_within : IsJoined net j → k < length net.outputs

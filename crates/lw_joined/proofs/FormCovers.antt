@@ -59,7 +59,7 @@ zip_outputs class g gates (p ∷ outputs) (root ∷ roots) (q ∷ mapped) classe
 
 module _ (mode : Mode) (count : ℕ) (o : Listing) (form : ℕ → Form) (g : Graph) (pats : List Pattern) (timing : Timing) (cap : ℕ) (marks : List (Option Mark)) (ports : Ports) (cover : Cover) (inputs : List (List ℕ)) (outputs : List PlainPort) where
   -- the height of a labelled class
-  height_is : AreLeastMarks g (delay_cost timing cap) pats marks → (c l : ℕ) → labels_in (costs_of marks) c ≡ Some l → IsHeight (choices_of g (map length timing.delays) pats) (delay_cost timing cap) (labels_in (costs_of marks)) c (heights marks c)
+  pub height_is : AreLeastMarks g (delay_cost timing cap) pats marks → (c l : ℕ) → labels_in (costs_of marks) c ≡ Some l → IsHeight (choices_of g (map length timing.delays) pats) (delay_cost timing cap) (labels_in (costs_of marks)) c (heights marks c)
   height_is are c l e =
       let (m, at, cost) = mark_of_label marks c l e in
       let same : m.height ≡ heights marks c = sym (ap (λ o. heights_of (λ d. o) c) at) in

@@ -69,6 +69,7 @@ fn chosen(
     let (labels, bounds) = (found.labels, found.bounds);
     let bounds = Some(&bounds);
     let cover = extract_with(alloc, graph, &pats, lib, &labels, bounds, &ports, &cost)?;
+    let _ = cover.netlist.gates();
     Ok(Covered { cover, labels })
 }
 
