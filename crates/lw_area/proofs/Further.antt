@@ -1,5 +1,5 @@
 -- The files of further networks, one after another.
-use Rattle.std.proofs.Common.{◌≡◌, inl, inr, ℕ, zero, suc, ◌+◌, ◌<◌, ◌≤◌, All, List, [], ◌∷◌, ◌++◌, length, drop, map, Option, Some, Result, Ok, Err, get_or, append_assoc, refl, ap, sym, ◌∙◌, subst, arith}
+use Rattle.std.proofs.Common.{◌≡◌, inl, inr, ℕ, zero, suc, ◌+◌, ◌<◌, ◌≤◌, All, List, [], ◌∷◌, ◌++◌, length, drop, map, Option, Some, Result, Ok, Err, slice_index_or, append_assoc, refl, ap, sym, ◌∙◌, subst, arith}
 use Rattle.std.proofs.lemmas.List.{append-nil, length-take-le}
 use Rattle.std.proofs.lemmas.List.Elements.{All-from_recursion, recursion_from_All}
 use Rattle.std.proofs.lemmas.Option.{slice_get_within}
@@ -59,11 +59,11 @@ module _ (names : List (List ℕ)) (words : List (List ℕ)) where
       none_left (w ∷ ws) zero le = absurd (omega arith)
       none_left (w ∷ ws) (suc k) le = none_left ws k (omega arith)
 
--- the words as they stand in memory
-pub word_at : {S : Type 0} (bytes : S → List ℕ) (words : List S) (k : ℕ) (d : S) → k < length words → drop k (map bytes words) ≡ bytes (get_or words k d) ∷ drop (k + 1) (map bytes words)
-word_at bytes [] k d lt = absurd (omega arith)
-word_at bytes (w ∷ words) zero d lt = refl
-word_at bytes (w ∷ words) (suc k) d lt = word_at bytes words k d (omega arith)
+-- the words from a place on
+pub word_first : (words : List (List ℕ)) (k : ℕ) → k < length words → drop k words ≡ slice_index_or words k [] ∷ drop (k + 1) words
+word_first [] k lt = absurd (omega arith)
+word_first (w ∷ words) zero lt = refl
+word_first (w ∷ words) (suc k) lt = word_first words k (omega arith)
 
 -- the places of names are below their number
 each_below : (names : List (List ℕ)) (places : List ℕ) (inputs : List (List ℕ)) → ArePlacesOf names inputs places → AllByRecursion (λ (i : ℕ). i < length names) places

@@ -77,10 +77,21 @@ module _ {A : Type 0} (told : Option (List File)) (before now : ℕ) (step : Fil
 module _ {T : Type 0} (task : Task) (next : List CellParts → Parsed → List sources.Further → Step T) (files : Files) where
   pub sources_then : (s : Sources) (r : Result T Refusal) → IsSourcesOf task files (Ok s) → next s.library s.model s.further.items files r → ReadsAll task next files r
   sources_then s r (inl (cells, one, inl (model, two, inl (further, three, (same_cells, same_model, same_further))))) comes =
-      inl (cells, one, inl (model, two, inl (further, three,
-      subst (λ (xs : List CellParts). next xs model further files r) same_cells
-      (subst (λ (m : Parsed). next s.library m further files r) same_model
-      (subst (λ (fs : List sources.Further). next s.library s.model fs files r) same_further comes)))))
+      inl (
+        cells,
+        one,
+        inl (
+          model,
+          two,
+          inl (
+            further,
+            three,
+            subst (λ (xs : List CellParts). next xs model further files r) same_cells
+                (subst (λ (m : Parsed). next s.library m further files r) same_model
+                (subst (λ (fs : List sources.Further). next s.library s.model fs files r) same_further comes)),
+          ),
+        ),
+      )
   sources_then s r (inl (cells, one, inl (model, two, inr (e, three, same)))) comes = cc
   sources_then s r (inl (cells, one, inr (e, two, same))) comes = cc
   sources_then s r (inr (e, one, same)) comes = cc

@@ -163,8 +163,10 @@ module _ (task : Task) (files : Files) (read : AreRead task files) where
     m.space,
     further,
     m.over,
-    (λ e. absurd (omega (arith, e)),
-    λ (root, c, lacks). let (place, at) = at_place net.outputs root c in absurd (covered task.settings read.cells read.model further text m place root at lacks)),
+    (
+      λ e. absurd (omega (arith, e)),
+      λ (root, c, lacks). let (place, at) = at_place net.outputs root c in absurd (covered task.settings read.cells read.model further text m place root at lacks),
+    ),
   )
   decides within (Err (Unmapped (map_fault.NoCover name))) further m not_8 = (
     m.space,

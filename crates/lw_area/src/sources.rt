@@ -1,5 +1,5 @@
 // The files of a task.
-ghost use Rattle.std.specs.Prelude.{◌≡◌, ◌++◌, [], ◌∷◌, All, IfOk, OnOk, length, map, string_bytes};
+ghost use Rattle.std.specs.Prelude.{◌≡◌, ◌++◌, [], ◌∷◌, ◌<◌, All, IfOk, OnOk, length, map, slice_index_or, string_bytes};
 ghost use Rattle.std.specs.List.{IsDistinct};
 ghost use Rattle.std.specs.Str.{bytes_eq};
 ghost use Rattle.lw_net.specs.Networks.{input_names};
@@ -68,6 +68,14 @@ fn put(further: &mut Vec<Further>, one: Further) -> Result<(), AllocError>
     Ok(())
 }
 
+// The word at a place.
+fn name_at(names: &[String], place: usize) -> &str
+    requires { place < length names.now }
+    ensures { result.now ≡ slice_index_or (map string_bytes names.now) place [] }
+{
+    names[place].as_str()
+}
+
 // Reads the further networks, in order.
 fn read_all<F: Shelf>(
     alloc: Global,
@@ -85,7 +93,7 @@ fn read_all<F: Shelf>(
     let inputs = Inputs::of(alloc, network)?;
     let mut further = Vec::new(alloc);
     'files: for place in 0..names.len() {
-        let one = read_further(alloc, shelf, &inputs, place, names[place].as_str())?;
+        let one = read_further(alloc, shelf, &inputs, place, name_at(names, place))?;
         put(&mut further, one)?;
     }
     Ok(further)

@@ -4,7 +4,7 @@ ghost use Rattle.lw_io.specs.Waitings.{IsTaken};
 ghost use Rattle.lw_io.specs.Writers.{Writes};
 ghost use Rattle.lw_area.specs.Outcomes.{ending_line};
 ghost use Rattle.lw_area.specs.Plain.{plain_asked, plain_task, plain_wrong};
-ghost use Rattle.lw_area.specs.Refusals.{counts_line, left_lines, limit_text, map_text, notes_lines, refusal_line, refusal_text, why_text, word_part, wrong_line};
+ghost use Rattle.lw_area.specs.Refusals.{counts_line, left_lines, limit_text, map_text, notes_lines, refusal_line, refusal_text, why_text, word_at, word_part, wrong_line};
 
 use crate::mapping::Notes;
 use crate::outcome::Ending;
@@ -100,7 +100,9 @@ fn put_unmapped<E: Sink>(out: &mut Writer<'_, E>, fault: &MapFault)
 }
 
 // The word for the file of a further network.
-fn word_at<'a>(task: &Task<'a>, place: usize) -> &'a [u8] {
+fn word_at<'a>(task: &Task<'a>, place: usize) -> &'a [u8]
+    ensures { result.now ≡ word_at (plain_task task.now) place }
+{
     match task.more.get(place) {
         Some(word) => word.as_bytes(),
         None => b"",

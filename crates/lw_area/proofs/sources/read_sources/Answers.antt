@@ -27,8 +27,7 @@ returns-in-Err-read_model g c = (
 
 pub returns-in-Err-read_all : goal.returns-in-Err-read_all
 returns-in-Err-read_all g c =
-    let model_files = c.in-Ok-read_model.ensures.reads.files ∙ c.in-Ok.ensures.files in
-    (
+    let model_files = c.in-Ok-read_model.ensures.reads.files ∙ c.in-Ok.ensures.files in (
       record {
         files = c.in-Err-read_all.ensures.reads.files ∙ model_files;
         later = omega (arith, c.in-Ok.ensures.later, c.in-Ok-read_model.ensures.reads.later, c.in-Err-read_all.ensures.reads.later);
@@ -42,8 +41,7 @@ returns-in-Err-read_all g c =
 
 pub returns-in-Ok-read_all : goal.returns-in-Ok-read_all
 returns-in-Ok-read_all g c =
-    let model_files = c.in-Ok-read_model.ensures.reads.files ∙ c.in-Ok.ensures.files in
-    (
+    let model_files = c.in-Ok-read_model.ensures.reads.files ∙ c.in-Ok.ensures.files in (
       record {
         files = c.in-Ok-read_all.ensures.reads.files ∙ model_files;
         later = omega (arith, c.in-Ok.ensures.later, c.in-Ok-read_model.ensures.reads.later, c.in-Ok-read_all.ensures.reads.later);
