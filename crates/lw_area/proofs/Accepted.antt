@@ -36,6 +36,7 @@ use Rattle.lw_top.specs.Words.{checking}
 use Rattle.lw_top.proofs.Asked.{names_read}
 use Rattle.lw_top.proofs.InRange.{command_in_range}
 use Rattle.lw_answers.proofs.Accepted.{library_again, text_there}
+use Rattle.lw_area.specs.declared.words.Deadline.TheVariants.{Each}
 use Rattle.lw_area.specs.Checked.{IsCheckOf}
 use Rattle.lw_area.specs.Promises.{IsRecoveryOf}
 use Rattle.lw_area.specs.Recovered.{IsAskedFor, IsCertificateOver, IsSpaceOf, Space, form_in, listing_in}
@@ -76,33 +77,27 @@ none_further : (names : List (List ℕ)) (words : List (List ℕ)) (files : File
 none_further names [] files further e is = is
 none_further names (word ∷ words) files further e is = cc
 
-pub written_accepted : (words checks : List (List ℕ)) (task : Task) (files others : Files) (text : List ℕ) → IsCheckOf words task files text checks others → IsRecoveryOf task files text → IsAnswer checks others (Ok yes_text)
-written_accepted words checks task files others text c r =
-    inl (
-      checking task.settings.options c.library c.network c.mapped,
-      ap asked_for c.form,
-      by_certificate r.is.certificate (subst (λ (b : Bool). IsAskedFor cells model.starts r.is.recovered.matches.graph r.is.recovered.matches.gates b r.is.certificate) c.certified r.is.asked) r.is.written,
-    )
-  where
-    abbrev cells : List CellParts
-    cells = r.read.cells
+module _ (task : Task) (files : Files) (text : List ℕ) (r : IsRecoveryOf task files text) where
+  abbrev cells : List CellParts
+  cells = r.read.cells
 
-    abbrev model : Parsed
-    model = r.read.model
+  abbrev model : Parsed
+  model = r.read.model
 
-    -- what is known over a listing
-    abbrev Known : Certificate → Listing → Type 0
-    Known certificate o =
-        (p : IsOverListing task.settings cells model.network model.starts o r.is.netlist) × IsCertificateOver cells model.starts p.matches.graph p.matches.gates certificate
-        × MapsForms task.settings.options.mode task.settings.options.width o.signals (form_in task.settings model.network) (network.plain model.network) (ports_of model.network) (library_patterns cells) (timing_of cells model.starts) (truth_of_cells cells) (netlist.plain r.is.netlist) (mapped_ports r.is.netlist)
+  -- what is known over a listing
+  abbrev Known : Certificate → Listing → Type 0
+  Known certificate o =
+      (p : IsOverListing task.settings cells model.network model.starts o r.is.netlist) × IsCertificateOver cells model.starts p.matches.graph p.matches.gates certificate
+      × MapsForms task.settings.options.mode task.settings.options.width o.signals (form_in task.settings model.network) (network.plain model.network) (ports_of model.network) (library_patterns cells) (timing_of cells model.starts) (truth_of_cells cells) (netlist.plain r.is.netlist) (mapped_ports r.is.netlist)
 
-    known : (certificate : Certificate) → IsCertificateOver cells model.starts r.is.recovered.matches.graph r.is.recovered.matches.gates certificate → Known certificate (listing_in task.settings r.is.space)
-    known certificate asked = (
-      record { kept = r.is.recovered.kept; model_name = r.is.recovered.model_name; covers = r.is.recovered.covers; matches = r.is.recovered.matches; by_depth = r.is.recovered.by_depth },
-      asked,
-      fastest_mapping task files text (certified_each task c.certified words c.asks) r,
-    )
+  known : task.settings.deadline ≡ Each → (certificate : Certificate) → IsCertificateOver cells model.starts r.is.recovered.matches.graph r.is.recovered.matches.gates certificate → Known certificate (listing_in task.settings r.is.space)
+  known each certificate asked = (
+    record { kept = r.is.recovered.kept; model_name = r.is.recovered.model_name; covers = r.is.recovered.covers; matches = r.is.recovered.matches; by_depth = r.is.recovered.by_depth },
+    asked,
+    fastest_mapping task files text each r,
+  )
 
+  module _ (words checks : List (List ℕ)) (others : Files) (c : IsCheckOf words task files text checks others) where
     by_certificate : (o : Option Certificate) → IsAskedFor cells model.starts r.is.recovered.matches.graph r.is.recovered.matches.gates true o → text ≡ mapped_text cells r.is.netlist model.frame model.starts o → IsCheckAnswer task.settings.options c.library c.network c.mapped others (Ok yes_text)
     by_certificate None asked written = absurd asked
     by_certificate (Some certificate) asked written =
@@ -117,7 +112,7 @@ written_accepted words checks task files others text c r =
         let lib = cells_kept task.library files cells r.read.library_is in
         let none = none_further (input_names model.network) task.more files r.read.further c.alone r.read.further_are in
         let within = own_within task.settings model.network kept.network r.read.further none c.unlinked r.is.space r.is.over in
-        let (is, asked_alone, maps) = subst (Known certificate) (own_listing task.settings model.network kept.network r.read.further none c.unlinked r.is.space r.is.over) (known certificate asked) in
+        let (is, asked_alone, maps) = subst (Known certificate) (own_listing task.settings model.network kept.network r.read.further none c.unlinked r.is.space r.is.over) (known (certified_each task c.certified words c.asks) certificate asked) in
         let can_be_read = readable task.settings cells model wide kept lib within n is certificate asked_alone named (c.apart cells r.read.library_is) in
         let read = reads-back cells n model.frame model.starts (Some certificate) can_be_read whole same in
         let text_read = text_there c.mapped own others (c.written ∙ ap Some written) (subst (λ (t : List ℕ). length t ≤ 67108864) written c.few) in
@@ -125,3 +120,12 @@ written_accepted words checks task files others text c r =
         let library = library_again task.library c.library files others cells c.same_library r.read.library_is in
         let network = network_again task.network c.network files others model c.same_network r.read.network_is in
         inl (cells, library, inl (model, network, inl (whole, inl (own, text_read, read), (refl, yes))))
+
+pub written_accepted : (words checks : List (List ℕ)) (task : Task) (files others : Files) (text : List ℕ) → IsCheckOf words task files text checks others → IsRecoveryOf task files text → IsAnswer checks others (Ok yes_text)
+written_accepted words checks task files others text c r =
+    inl (
+      checking task.settings.options c.library c.network c.mapped,
+      ap asked_for c.form,
+      by_certificate task files text r words checks others c r.is.certificate
+      (subst (λ (b : Bool). IsAskedFor r.read.cells r.read.model.starts r.is.recovered.matches.graph r.is.recovered.matches.gates b r.is.certificate) c.certified r.is.asked) r.is.written,
+    )

@@ -215,3 +215,7 @@ module _ (cells : List CellParts) (net : NetworkParts) (starts : List Micro) (j 
           let l = lack is in
           let one : o ≡ l.output = cc (at, l.at) in
           record { place = k; lack = l; named = ap (name_in net) one })
+
+pub lack_refused : (cells : List CellParts) (net : NetworkParts) (starts : List Micro) (j : Joined) → IsJoined net j → (fault : ExtractFault) (e : MapFault) → IsLackOver cells net starts j fault → ((k : ℕ) (o : NetId) → fault ≡ extract.NoCover k → slice_get net.outputs k ≡ Some o → (e ≡ map_fault.Memory) ⊎ (e ≡ map_fault.NoCover (name_in net o))) → (fault ≡ extract.Memory → e ≡ map_fault.Memory) → IsCoverFault cells net starts j e
+lack_refused cells net starts j own (extract.NoCover k) e lacks named memory = lack_named cells net starts j k lacks e own (λ o at. named k o refl at)
+lack_refused cells net starts j own extract.Memory e lacks named memory = subst (IsCoverFault cells net starts j) (sym (memory refl)) tt

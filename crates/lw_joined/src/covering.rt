@@ -1,5 +1,5 @@
 // The cover of the outputs of a network over the graph of several.
-ghost use Rattle.std.specs.Prelude.{◌≡◌, ◌<◌, ◌⊎◌, All, IfErr, IfOk, Some, length, slice_get};
+ghost use Rattle.std.specs.Prelude.{◌≡◌, ◌<◌, ◌⊎◌, ℕ, All, IfErr, IfOk, Some, length, slice_get};
 ghost use Rattle.std.specs.List.{IsDistinct};
 ghost use Rattle.std.specs.Str.{bytes_eq};
 ghost use Rattle.lw_pool.specs.declared.id.NetId.{NetId as Net};
@@ -35,15 +35,20 @@ fn name_of(alloc: Global, net: &Network, id: NetId) -> Result<Name, AllocError>
     Name::from_slice(alloc, net.names()[id.0 as usize].as_bytes())
 }
 
-// The fault of the output at a place, which has no cover.
-fn uncovered(alloc: Global, net: &Network, place: u32) -> MapFault
-    requires { place < length net.now.outputs }
-    ensures { (output : Net) → slice_get net.now.outputs place ≡ Some output →
+// Why there is no cover: the output that has none by its name, or memory.
+fn refused(alloc: Global, net: &Network, fault: ExtractFault) -> MapFault
+    requires { (k : ℕ) → fault ≡ ExtractFault.NoCover k → k < length net.now.outputs }
+    ensures named { (k : ℕ) (output : Net) → fault ≡ ExtractFault.NoCover k →
+        slice_get net.now.outputs k ≡ Some output →
         (result ≡ MapFault.Memory) ⊎ (result ≡ MapFault.NoCover (name_in net.now output)) }
+    ensures memory { fault ≡ ExtractFault.Memory → result ≡ MapFault.Memory }
 {
-    match name_of(alloc, net, net.outputs()[place as usize]) {
-        Ok(name) => MapFault::NoCover(name),
-        Err(_) => MapFault::Memory,
+    match fault {
+        ExtractFault::NoCover(place) => match name_of(alloc, net, net.outputs()[place as usize]) {
+            Ok(name) => MapFault::NoCover(name),
+            Err(_) => MapFault::Memory,
+        },
+        ExtractFault::Memory => MapFault::Memory,
     }
 }
 
@@ -90,7 +95,6 @@ pub fn cover(
 {
     match chosen(alloc, lib, net, starts, joined) {
         Ok(covered) => Ok(covered),
-        Err(ExtractFault::NoCover(place)) => Err(uncovered(alloc, net, place)),
-        Err(ExtractFault::Memory) => Err(MapFault::Memory),
+        Err(fault) => Err(refused(alloc, net, fault)),
     }
 }
