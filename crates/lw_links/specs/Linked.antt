@@ -1,5 +1,5 @@
 -- Literals of listed forms, and lists of forms with further pairs.
-use Rattle.std.specs.Prelude.{ℕ, ◌+◌, ◌*◌, ◌/◌, ◌%◌, ◌<◌, ◌≤◌, ◌≡◌, ◌==◌, Bool, Some, List, ◌++◌, length, slice_get, slice_index_or, All, if◌then◌else◌}
+use Rattle.std.specs.Prelude.{ℕ, ◌+◌, ◌*◌, ◌/◌, ◌%◌, ◌<◌, ◌≤◌, ◌≡◌, ◌==◌, Bool, ◌&&◌, Some, List, ◌++◌, length, slice_get, slice_index_or, All, if◌then◌else◌}
 use Rattle.lw_aig.specs.declared.gate.Gate.{Gate}
 use Rattle.lw_aig.specs.declared.literal.Literal.{Literal}
 use Rattle.lw_aig.specs.Aigs.{AreNodeValues, IsBelow}
@@ -24,6 +24,12 @@ pub record StandFor (gates : List Gate) (forms : NumberedForms) (literals : List
   pub few : length literals ≤ length forms.bases
   pub each : (b : ℕ) (d : Literal) → b < length literals → HasBaseValue gates forms b (slice_index_or literals b d)
 
+-- A base form has the conjunction of the values of two forms of base forms before it.
+pub record AreHalves (forms : NumberedForms) (b f h : ℕ) : Type 0 where
+  pub left : f / 2 < b
+  pub right : h / 2 < b
+  pub always : (x value : ℕ → Bool) → AreNumberedValues forms x value → value (2 * b) ≡ (value f && value h)
+
 -- the literal of a form, by those of the base forms
 abbrev pub signed_literal : List Literal → ℕ → Literal
 signed_literal literals f =
@@ -33,11 +39,6 @@ signed_literal literals f =
 -- Two base forms whose literals are of one node have one value there, each as it is or by its complement.
 pub record TellPairs (forms : NumberedForms) (literals : List Literal) : Type 0 where
   pub each : (a b : ℕ) (l m : Literal) → slice_get literals a ≡ Some l → slice_get literals b ≡ Some m → node_of l ≡ node_of m → HaveOneValue forms (2 * a + l.0 % 2) (2 * b + m.0 % 2)
-
--- They stand for base forms, and so they tell which forms have one value.
-pub record HaveFormValues (gates : List Gate) (forms : NumberedForms) (literals : List Literal) : Type 0 where
-  pub stand : StandFor gates forms literals
-  pub tell : TellPairs forms literals
 
 -- The same list of base forms with further pairs, which each have one value.
 pub record IsLinked (old new : NumberedForms) : Type 0 where
