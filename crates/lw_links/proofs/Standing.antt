@@ -1,12 +1,12 @@
 -- Literals that stand for base forms, in graphs that grow.
-use Rattle.std.proofs.Common.{ℕ, zero, suc, ◌+◌, ◌-◌, ◌*◌, ◌/◌, ◌%◌, ◌<◌, ◌≤◌, ◌≡◌, ◌==◌, Bool, true, false, not, ◌&&◌, cond, List, [], ◌∷◌, ◌++◌, length, replicate, Option, Some, None, IfSome, Result, Ok, Err, IfOk, slice_get, slice_index_or, refl, ap, ap₂, sym, ◌∙◌, subst, subst₂, arith}
+use Rattle.std.proofs.Common.{ℕ, zero, suc, ◌+◌, ◌-◌, ◌*◌, ◌/◌, ◌%◌, ◌<◌, ◌≡◌, ◌==◌, Bool, true, false, not, ◌&&◌, cond, List, [], ◌∷◌, ◌++◌, length, replicate, Option, Some, None, IfSome, Result, Ok, Err, IfOk, slice_get, slice_index_or, refl, ap, ap₂, sym, ◌∙◌, subst, subst₂, arith}
 use Rattle.std.proofs.lemmas.List.{get_or_append_left, get_or_push, length-replicate, length_push}
 use Rattle.std.proofs.lemmas.Option.{get_or_from_slice_get, slice_get_within}
 use native.Mathlib.Decide.{dec_lt}
 use Rattle.lw_aig.specs.declared.gate.Gate.{Gate}
 use Rattle.lw_aig.specs.declared.gate.Gate.TheVariants.{Input, Zero}
 use Rattle.lw_aig.specs.declared.literal.Literal.{Literal}
-use Rattle.lw_aig.specs.Aigs.{AreNodeValues, HasValues, IsAig, IsBelow, IsConjunction}
+use Rattle.lw_aig.specs.Aigs.{AreNodeValues, IsAig, IsBelow, IsConjunction}
 use Rattle.lw_aig.specs.Literals.{complement, literal_value, node_of}
 use Rattle.lw_aig.proofs.Literals.{node-complement, value_of_complement, value_of_node}
 use Rattle.lw_aig.proofs.Values.{inputs_are_free}
