@@ -1,0 +1,7 @@
+pub mod Alone
+pub mod Joins
+pub mod LeftOut
+pub mod LinkedForms
+pub mod MadeJoins
+pub mod Placing
+pub mod Unions
