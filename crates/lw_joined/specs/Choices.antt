@@ -20,30 +20,33 @@ use Rattle.lw_joined.specs.declared.uniting.Union.{Union}
 use Rattle.lw_joined.specs.Joins.{IsJoin, joined_listing, own_form}
 use Rattle.lw_joined.specs.Unions.{AreTaken, ends_of, united}
 
--- How many base forms occur in a union that begins with the network, the graph of their classes, by pairs of forms that have one value, and
--- the classes of the sums of products of the network's outputs.
+-- How many base forms occur in a union that begins with the network, the graph of their classes, by pairs of forms that
+-- have one value, and the classes of the sums of products of the network's outputs.
 pub record IsJoined (net : NetworkParts) (j : Joined) : Type 0 where
   pub wide : IsWide (plain_options j.choices.options)
   pub links : List Signal
   pub is_join : IsJoin j.choices.options.width (plain net) (plain j.union) links
   pub within : IsWithinLimits (plain_options j.choices.options) j.union
   pub forms : j.choices.forms ≡ base_count (plain_options j.choices.options) j.union
-  pub graph : IsGraphOf (plain_options j.choices.options).mode net.inputs (joined_listing j.choices.options.width (plain j.union) links) j.choices.graph
+  pub graph : IsGraphOf (plain_options j.choices.options).mode net.inputs
+      (joined_listing j.choices.options.width (plain j.union) links) j.choices.graph
   pub few : length j.choices.graph.pairs ≤ most_classes
-  pub roots : numbers j.choices.roots ≡ form_classes (joined_listing j.choices.options.width (plain j.union) links) (own_form j.choices.options.width (plain net)) j.choices.graph (ports_of net).outputs
+  pub roots : numbers j.choices.roots ≡ form_classes (joined_listing j.choices.options.width (plain j.union) links)
+      (own_form j.choices.options.width (plain net)) j.choices.graph (ports_of net).outputs
   pub in_range : All (λ (root : ClassId). root.0 < length j.choices.graph.pairs) j.choices.roots
 
 -- The graph of what is linked in a union, under these options. Where no links are asked for, there are none.
-pub record IsJoinOf (net : NetworkParts) (options : code.Options) (linked : Bool) (u : Union) (j : Joined) : Type 0 where
+pub record IsJoinOf (net : NetworkParts) (options : code.Options) (linked : Bool) (u : Union) (j : Joined)
+    : Type 0 where
   pub joined : IsJoined net j
   pub options_are : j.choices.options ≡ options
   pub union : j.union ≡ u.net
   pub ends : j.ends.items ≡ u.ends.items
   pub unlinked : linked ≡ false → joined.links ≡ []
 
--- The union is that of the network and of the others that are taken, and those that are not are told with the limit that they pass. Where no
--- links are asked for, there are none.
-pub record IsJoinedBy (net : NetworkParts) (others : List Other) (options : code.Options) (linked : Bool) (j : Joined) : Type 0 where
+-- The union is that of the network and of the others that are taken. Where no links are asked for, there are none.
+pub record IsJoinedBy (net : NetworkParts) (others : List Other) (options : code.Options) (linked : Bool)
+    (j : Joined) : Type 0 where
   pub joined : IsJoined net j
   pub options_are : j.choices.options ≡ options
   pub taken : List Bool

@@ -117,7 +117,8 @@ pub record AreLeftOut (o : Offer) (taken : List Bool) (left : List Left) : Type 
   pub all : (place : ℕ) → slice_get taken place ≡ Some false
       → (k : ℕ) × (l : Left) × (slice_get left k ≡ Some l) × (l.place ≡ place)
   pub each : (k : ℕ) (l : Left) → slice_get left k ≡ Some l
-      → (slice_get taken l.place ≡ Some false) × IsPast (plain_options o.options) (union_in o (tried_at l.place taken)) l.limit
+      → (slice_get taken l.place ≡ Some false)
+      × IsPast (plain_options o.options) (union_in o (tried_at l.place taken)) l.limit
 
 -- Whether each of the first others is taken, the union of those that are, and what is told of those that are not.
 pub record AreChosen (o : Offer) (count : ℕ) (c : Chosen) : Type 0 where
