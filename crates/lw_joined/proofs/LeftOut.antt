@@ -28,7 +28,7 @@ use Rattle.lw_joined.specs.declared.taking.Limit.TheVariants.{Signals, Forms, Sp
 use Rattle.lw_joined.specs.declared.taking.Listed.{Listed}
 use Rattle.lw_joined.specs.declared.taking.Listing.{Listing}
 use Rattle.lw_joined.specs.declared.taking.Offer.{Offer}
-use Rattle.lw_joined.specs.Unions.{AreLeftOut, IsListedAs, IsListingOf, IsPast, IsUnion, ListsTaken, ListsUnion, ends_of, first_of, limit_fault, own_places, tried_at, union_in, united}
+use Rattle.lw_joined.specs.Unions.{LeavesOut, IsListedAs, IsListingOf, IsPast, IsUnion, ListsTaken, ListsUnion, ends_of, first_of, limit_fault, own_places, tried_at, union_in, united}
 use Rattle.lw_joined.proofs.Alone.{plain_alone}
 use Rattle.lw_joined.proofs.Unions.{ends_without, joined_names, united_none, united_without}
 
@@ -79,7 +79,7 @@ first_fault o kept Splits (few, many) other = (
 
 -- Those that are left out.
 
-pub none_left : (o : Offer) (n : ℕ) → AreLeftOut o (replicate n true) []
+pub none_left : (o : Offer) (n : ℕ) → LeavesOut o (replicate n true) []
 none_left o n = record { all = λ place at. not_false n place at; each = λ k l at. none_at k l at }
   where
     not_false : (n place : ℕ) → slice_get (replicate n true) place ≡ Some false → (k : ℕ) × (l : Left) × (slice_get ([] {A = Left}) k ≡ Some l) × (l.place ≡ place)
@@ -101,7 +101,7 @@ told_before o taken b l (at, past) =
       subst (λ ts. IsPast (plain_options o.options) (union_in o (ts ++ true ∷ [])) l.limit) (sym (take-append-le l.place taken (b ∷ []) (omega (arith, low)))) past,
     )
 
-pub left_same : (o : Offer) (taken : List Bool) (left : List Left) → AreLeftOut o taken left → AreLeftOut o (taken ++ true ∷ []) left
+pub left_same : (o : Offer) (taken : List Bool) (left : List Left) → LeavesOut o taken left → LeavesOut o (taken ++ true ∷ []) left
 left_same o taken left out = record {
   all = λ place at. by place (get_last_cases taken true place false at);
   each = λ k l at. told_before o taken true l (out.each k l at);
@@ -111,7 +111,7 @@ left_same o taken left out = record {
     by place (inl at) = out.all place at
     by place (inr (p, q)) = cc
 
-pub left_more : (o : Offer) (taken : List Bool) (left : List Left) (l : Left) → l.place ≡ length taken → AreLeftOut o taken left → IsPast (plain_options o.options) (union_in o (taken ++ true ∷ [])) l.limit → AreLeftOut o (taken ++ false ∷ []) (left ++ l ∷ [])
+pub left_more : (o : Offer) (taken : List Bool) (left : List Left) (l : Left) → l.place ≡ length taken → LeavesOut o taken left → IsPast (plain_options o.options) (union_in o (taken ++ true ∷ [])) l.limit → LeavesOut o (taken ++ false ∷ []) (left ++ l ∷ [])
 left_more o taken left new here out past = record {
   all = λ place at. by place (get_last_cases taken false place false at);
   each = λ k l at. told k l (get_last_cases left new k l at);

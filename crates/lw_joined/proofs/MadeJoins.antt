@@ -42,6 +42,7 @@ use Rattle.lw_map.specs.Mapped.{IsWithinLimits}
 use Rattle.lw_map.specs.Options.{plain_options}
 use Rattle.lw_map.proofs.ChoiceLemmas.{base_number, sops_count, wide_options}
 use Rattle.lw_joined.specs.declared.choices.Joined.{Joined}
+use Rattle.lw_joined.specs.declared.taking.Left.{Left}
 use Rattle.lw_joined.specs.declared.taking.Listed.{Listed}
 use Rattle.lw_joined.specs.declared.uniting.Other.{Other}
 use Rattle.lw_joined.specs.declared.uniting.Union.{Union}
@@ -183,18 +184,20 @@ module _ (net : NetworkParts) (j : Joined) (new : NumberedForms) (kept : IsNetwo
     in_range = in_range;
   }
 
-pub join_of : (net : NetworkParts) (linked : Bool) (u : Union) (old new : NumberedForms) (j : Joined) → IsNetwork net → IsNetwork j.union → BeginsWith (plain net) (plain j.union) → IsWithinLimits (plain_options j.choices.options) j.union → old ≡ forms_of j.choices.options.width (plain j.union) → IsLinkedIf linked old new → j.union ≡ u.net → j.ends.items ≡ u.ends.items → j.choices.forms ≡ length new.bases → IsBuilt (law_mode j.choices.options.mode) new j.choices.graph → numbers j.choices.roots ≡ map (root_of new j.choices.graph) net.outputs → All (λ (root : ClassId). root.0 < length j.choices.graph.pairs) j.choices.roots → IsJoinOf net j.choices.options linked u j
-join_of net true u old new j kept also begins within is linked union ends count built roots in_range = record {
+pub join_of : (net : NetworkParts) (linked : Bool) (u : Union) (left : List Left) (old new : NumberedForms) (j : Joined) → IsNetwork net → IsNetwork j.union → BeginsWith (plain net) (plain j.union) → IsWithinLimits (plain_options j.choices.options) j.union → old ≡ forms_of j.choices.options.width (plain j.union) → IsLinkedIf linked old new → j.union ≡ u.net → j.ends.items ≡ u.ends.items → j.left.items ≡ left → j.choices.forms ≡ length new.bases → IsBuilt (law_mode j.choices.options.mode) new j.choices.graph → numbers j.choices.roots ≡ map (root_of new j.choices.graph) net.outputs → All (λ (root : ClassId). root.0 < length j.choices.graph.pairs) j.choices.roots → IsJoinOf net j.choices.options linked u left j
+join_of net true u left old new j kept also begins within is linked union ends told count built roots in_range = record {
   joined = is_joined net j new kept also begins within (subst (λ (f : NumberedForms). IsLinked f new) is linked) count built roots in_range;
   options_are = refl;
   union = union;
   ends = ends;
+  told = told;
   unlinked = λ no. cc;
 }
-join_of net false u old new j kept also begins within is same union ends count built roots in_range = record {
+join_of net false u left old new j kept also begins within is same union ends told count built roots in_range = record {
   joined = is_joined net j new kept also begins within (no_links (forms_of j.choices.options.width (plain j.union)) new (same ∙ is)) count built roots in_range;
   options_are = refl;
   union = union;
   ends = ends;
+  told = told;
   unlinked = λ no. refl;
 }

@@ -117,7 +117,7 @@ united_none union [] = refl
 united_none union (x ∷ others) = refl
 
 -- a union has the inputs that it began with
-inputs_stay : (union : NetworkParts) (others : List Other) (taken : List Bool) → (united_to union others taken).inputs ≡ union.inputs
+pub inputs_stay : (union : NetworkParts) (others : List Other) (taken : List Bool) → (united_to union others taken).inputs ≡ union.inputs
 inputs_stay union [] taken = refl
 inputs_stay union (x ∷ others) [] = refl
 inputs_stay union (x ∷ others) (true ∷ taken) = inputs_stay (with_taken union x true) others taken

@@ -15,10 +15,11 @@ use Rattle.lw_map.specs.Mapped.{IsWithinLimits, base_count}
 use Rattle.lw_map.specs.Options.{IsWide, plain_options}
 use Rattle.lw_map.specs.declared.options.Options as code
 use Rattle.lw_joined.specs.declared.choices.Joined.{Joined}
+use Rattle.lw_joined.specs.declared.taking.Left.{Left}
 use Rattle.lw_joined.specs.declared.uniting.Other.{Other}
 use Rattle.lw_joined.specs.declared.uniting.Union.{Union}
 use Rattle.lw_joined.specs.Joins.{IsJoin, joined_listing, own_form}
-use Rattle.lw_joined.specs.Unions.{AreTaken, ends_of, united}
+use Rattle.lw_joined.specs.Unions.{AreLeftOut, ends_of, united}
 
 -- How many base forms occur in a union that begins with the network, the graph of their classes, by pairs of forms that
 -- have one value, and the classes of the sums of products of the network's outputs.
@@ -36,15 +37,17 @@ pub record IsJoined (net : NetworkParts) (j : Joined) : Type 0 where
   pub in_range : All (λ (root : ClassId). root.0 < length j.choices.graph.pairs) j.choices.roots
 
 -- The graph of what is linked in a union, under these options. Where no links are asked for, there are none.
-pub record IsJoinOf (net : NetworkParts) (options : code.Options) (linked : Bool) (u : Union) (j : Joined)
-    : Type 0 where
+pub record IsJoinOf (net : NetworkParts) (options : code.Options) (linked : Bool) (u : Union) (left : List Left)
+    (j : Joined) : Type 0 where
   pub joined : IsJoined net j
   pub options_are : j.choices.options ≡ options
   pub union : j.union ≡ u.net
   pub ends : j.ends.items ≡ u.ends.items
+  pub told : j.left.items ≡ left
   pub unlinked : linked ≡ false → joined.links ≡ []
 
--- The union is that of the network and of the others that are taken. Where no links are asked for, there are none.
+-- The union is that of the network and of the others that are taken, and those that are not are told with the limit that
+-- they pass. Where no links are asked for, there are none.
 pub record IsJoinedBy (net : NetworkParts) (others : List Other) (options : code.Options) (linked : Bool)
     (j : Joined) : Type 0 where
   pub joined : IsJoined net j
@@ -52,6 +55,7 @@ pub record IsJoinedBy (net : NetworkParts) (others : List Other) (options : code
   pub taken : List Bool
   pub union : j.union ≡ united net others taken
   pub ends : j.ends.items ≡ ends_of net others taken
+  pub left_out : AreLeftOut options net others taken j.left.items
   pub unlinked : linked ≡ false → joined.links ≡ []
 
 -- the forms with pairs of equal forms, where these are asked for

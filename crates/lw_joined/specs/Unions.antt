@@ -113,23 +113,27 @@ abbrev pub tried_at : ℕ → List Bool → List Bool
 tried_at place taken = take place taken ++ true ∷ []
 
 -- Each other that is not taken is told, with the limit that it passes together with those that were taken before it.
-pub record AreLeftOut (o : Offer) (taken : List Bool) (left : List Left) : Type 0 where
+pub record AreLeftOut (options : code.Options) (net : NetworkParts) (others : List Other) (taken : List Bool)
+    (left : List Left) : Type 0 where
   pub all : (place : ℕ) → slice_get taken place ≡ Some false
       → (k : ℕ) × (l : Left) × (slice_get left k ≡ Some l) × (l.place ≡ place)
   pub each : (k : ℕ) (l : Left) → slice_get left k ≡ Some l
       → (slice_get taken l.place ≡ Some false)
-      × IsPast (plain_options o.options) (union_in o (tried_at l.place taken)) l.limit
+      × IsPast (plain_options options) (united net others (tried_at l.place taken)) l.limit
+
+abbrev pub LeavesOut : Offer → List Bool → List Left → Type 0
+LeavesOut o taken left = AreLeftOut o.options o.net.now o.others.now taken left
 
 -- Whether each of the first others is taken, the union of those that are, and what is told of those that are not.
 pub record AreChosen (o : Offer) (count : ℕ) (c : Chosen) : Type 0 where
   pub one_each : length c.taken.items ≡ count
   pub listed : ListsTaken o c.taken.items c.listed
-  pub left_out : AreLeftOut o c.taken.items c.left.items
+  pub left_out : LeavesOut o c.taken.items c.left.items
 
 pub record AreTaken (o : Offer) (taken : List Bool) (t : Taken) : Type 0 where
   pub one_each : length taken ≡ length o.others.now
   pub listed : ListsTaken o taken t.listed
-  pub left_out : AreLeftOut o taken t.left.items
+  pub left_out : LeavesOut o taken t.left.items
 
 abbrev pub IsTaking : Offer → Taken → Type 0
 IsTaking o t = (taken : List Bool) × AreTaken o taken t

@@ -132,7 +132,7 @@ fn graph_of(
 ) -> Result<Joined, AllocError>
     requires begins { BeginsWith (plain net.now) (plain listed.union.net) }
     requires listed { IsListedAs options listed.union.net listed.union.ends.items listed }
-    ensures { IfOk result (IsJoinOf net.now options linked listed.union) }
+    ensures { IfOk result (IsJoinOf net.now options linked listed.union left.items) }
 {
     let _ = net.inputs();
     let Listed { union, mut forms } = listed;

@@ -31,5 +31,5 @@ first_classes-requires-clause-bases c = omega (arith, c.in_ok-graph.ensures.writ
 
 pub returns : goal.returns
 returns c =
-    join_of c.args.net.now c.args.linked c.args.listed.union c.args.listed.forms c.link.new.forms _ c.inputs.ensures.kept c.nets-nets.ensures.kept c.requires.begins c.requires.listed.within c.requires.listed.forms c.in_ok-counts.ensures refl refl c.len-count.ensures.len c.in_ok-graph.ensures
+    join_of c.args.net.now c.args.linked c.args.listed.union c.args.left.items c.args.listed.forms c.link.new.forms _ c.inputs.ensures.kept c.nets-nets.ensures.kept c.requires.begins c.requires.listed.within c.requires.listed.forms c.in_ok-counts.ensures refl refl refl c.len-count.ensures.len c.in_ok-graph.ensures
     (c.in_ok-roots.ensures.classes ∙ ap (map (root_of c.link.new.forms c.in_ok-graph.graph)) c.outputs.ensures.outputs) c.in_ok-roots.ensures.within

@@ -1,7 +1,7 @@
 use Rattle.std.proofs.Common.{◌∙◌, subst, sym}
 use Rattle.lw_net.specs.Networks.{NetworkParts, plain}
 use Rattle.lw_joined.specs.Joins.{BeginsWith}
-use Rattle.lw_joined.specs.Unions.{ends_of, united}
+use Rattle.lw_joined.specs.Unions.{AreLeftOut, ends_of, united}
 use Rattle.lw_joined.proofs.MadeJoins.{begins_united, listed_itself}
 use Rattle.lw_joined.proofs.choices.join.Goals as goal
 
@@ -25,5 +25,6 @@ returns-clause-joined c =
       taken = t.0;
       union = is.union ∙ t.1.listed.union;
       ends = is.ends ∙ t.1.listed.ends;
+      left_out = subst (AreLeftOut c.args.options c.args.net.now c.args.others.now t.0) (sym is.told) t.1.left_out;
       unlinked = is.unlinked;
     }
