@@ -4,7 +4,12 @@ pub mod FormCovers
 mod GateCount
 mod Held
 pub mod Joins
+pub mod LeftOut
+pub mod LinkedForms
+pub mod MadeJoins
 mod NoLater
 mod Pairs
-mod Renamed
+pub mod Placing
+pub mod Renamed
+pub mod Unions
 mod Verdicts

@@ -1,5 +1,5 @@
 -- The inputs of a network among those of another.
-use Rattle.std.specs.Prelude.{ℕ, ◌≡◌, ◌<◌, List, length, take, Some, slice_get, Contains}
+use Rattle.std.specs.Prelude.{ℕ, ◌≡◌, List, take, Some, slice_get, Contains}
 use Rattle.std.specs.List.{AllZip}
 use Rattle.lw_net.specs.Networks.{NetworkParts, input_names}
 use Rattle.lw_joined.specs.declared.places.Places.{Places}
@@ -16,6 +16,10 @@ pub record IsFirstStrange (names inputs : List (List ℕ)) (name : List ℕ) : T
   pub strange : Contains names name → ⊥
   pub before : (other : List ℕ) → Contains (take place inputs) other → Contains names other
 
+abbrev pub ArePlaced : List (List ℕ) → List (List ℕ) → Places → Type 0
+ArePlaced names inputs (At places) = ArePlacesOf names inputs places.items
+ArePlaced names inputs (Strange name) = IsFirstStrange names inputs name
+
+-- where the inputs of the other network stand among the names
 abbrev pub IsPlacing : List (List ℕ) → NetworkParts → Places → Type 0
-IsPlacing names other (At places) = ArePlacesOf names (input_names other) places.items
-IsPlacing names other (Strange name) = IsFirstStrange names (input_names other) name
+IsPlacing names other places = ArePlaced names (input_names other) places

@@ -1,13 +1,21 @@
 // The graph of several networks.
-ghost use Rattle.std.specs.Prelude.{All, IfOk, IfErr};
+ghost use Rattle.std.specs.Prelude.{◌≡◌, ◌<◌, ◌≤◌, length, map, All, IfOk, IfErr, OnOk};
+ghost use Rattle.lw_pool.specs.declared.id.ClassId.{ClassId as Class};
+ghost use Rattle.lw_pool.specs.declared.id.NetId.{NetId as Net};
+ghost use Rattle.lw_pool.specs.Numbers.{numbers};
+ghost use Rattle.lw_net.specs.Networks.{plain};
+ghost use Rattle.lw_assoc.specs.Modes.{law_mode};
+ghost use Rattle.lw_assoc.specs.Splits.{most_splits, numbered_splits};
+ghost use Rattle.lw_map.specs.Choices.{root_of};
 ghost use Rattle.lw_map.specs.Faults.{IsChoiceFault};
 ghost use Rattle.lw_map.specs.Options.{plain_options};
-ghost use Rattle.lw_joined.specs.Choices.{IsJoinedBy};
-ghost use Rattle.lw_joined.specs.Unions.{FitsOther};
+ghost use Rattle.lw_joined.specs.Choices.{IsBuilt, IsJoinOf, IsJoinedBy, IsLinkedIf};
+ghost use Rattle.lw_joined.specs.Joins.{BeginsWith};
+ghost use Rattle.lw_joined.specs.Unions.{FitsOther, IsListedAs};
 
-use crate::taking::{Left, Listed, Offer};
+use crate::taking::{Left, Listed, Offer, Taken};
 use crate::{Counts, Other};
-use lw_assoc::build;
+use lw_assoc::{GraphFault, Mode, build};
 use lw_form::Forms;
 use lw_graph::Graph;
 use lw_links::{Limits, link_equal_forms};
@@ -49,13 +57,44 @@ const NO_WORK: Counts = Counts {
     links: 0,
 };
 
+// Links forms of equal value, where that is asked for.
+fn link(alloc: Global, forms: &mut Forms, linked: bool) -> Result<Counts, AllocError>
+    ensures { OnOk result (IsLinkedIf linked forms.old forms.new) }
+{
+    if !linked {
+        return Ok(NO_WORK);
+    }
+    link_equal_forms(alloc, forms, LIMITS)
+}
+
+// The graph of forms whose splits are few.
+fn built(alloc: Global, forms: &Forms, mode: Mode) -> Result<Graph, AllocError>
+    requires { numbered_splits (law_mode mode) forms.now ≤ most_splits }
+    ensures { IfOk result (IsBuilt (law_mode mode) forms.now) }
+{
+    let fault = match build(alloc, forms, mode) {
+        Ok(graph) => return Ok(graph),
+        Err(fault) => fault,
+    };
+    match fault {
+        GraphFault::Limit => unreachable!(),
+        GraphFault::Memory => Err(AllocError),
+    }
+}
+
 // The classes of the sums of products of some nets.
 fn classes_of(
     alloc: Global,
     nets: &[NetId],
     forms: &Forms,
     graph: &Graph,
-) -> Result<Classes, AllocError> {
+) -> Result<Classes, AllocError>
+    requires listed { All (λ (net : Net). net.0 < length forms.now.sops) nets.now }
+    requires bases { length graph.now.forms ≡ length forms.now.bases }
+    ensures classes { IfOk result (λ classes. numbers classes
+        ≡ map (root_of forms.now graph.now) nets.now) }
+    ensures within { IfOk result (All (λ (class : Class). class.0 < length graph.now.pairs)) }
+{
     let _ = forms.nets();
     let mut classes = Vec::with_capacity(alloc, nets.len())?;
     for net in nets {
@@ -70,7 +109,10 @@ fn first_classes(
     count: u32,
     forms: &Forms,
     graph: &Graph,
-) -> Result<Classes, AllocError> {
+) -> Result<Classes, AllocError>
+    requires listed { count ≤ length forms.now.sops }
+    requires bases { length graph.now.forms ≡ length forms.now.bases }
+{
     let _ = forms.nets();
     let mut classes = Vec::with_capacity(alloc, count as usize)?;
     for net in 0..count {
@@ -87,16 +129,18 @@ fn graph_of(
     linked: bool,
     listed: Listed,
     left: Vec<Left>,
-) -> Result<Joined, MapFault> {
+) -> Result<Joined, AllocError>
+    requires begins { BeginsWith (plain net.now) (plain listed.union.net) }
+    requires listed { IsListedAs options listed.union.net listed.union.ends.items listed }
+    ensures { IfOk result (IsJoinOf net.now options linked listed.union left.items) }
+{
+    let _ = net.inputs();
     let Listed { union, mut forms } = listed;
-    let counts = if linked {
-        link_equal_forms(alloc, &mut forms, LIMITS)?
-    } else {
-        NO_WORK
-    };
-    let graph = build(alloc, &forms, options.mode)?;
+    let nets = union.net.nets();
+    let counts = link(alloc, &mut forms, linked)?;
+    let graph = built(alloc, &forms, options.mode)?;
     let roots = classes_of(alloc, net.outputs(), &forms, &graph)?;
-    let nets = first_classes(alloc, union.net.nets(), &forms, &graph)?;
+    let nets = first_classes(alloc, nets, &forms, &graph)?;
     let count = forms.len();
     drop(forms);
     Ok(Joined {
@@ -135,6 +179,7 @@ pub fn join(
         others,
         options,
     };
-    let taken = offer.take(alloc)?;
-    graph_of(alloc, net, options, linked, taken.listed, taken.left)
+    let _ = net.inputs();
+    let Taken { listed, left } = offer.take(alloc)?;
+    Ok(graph_of(alloc, net, options, linked, listed, left)?)
 }

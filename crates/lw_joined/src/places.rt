@@ -1,9 +1,10 @@
 // The inputs of a network among those of another.
-ghost use Rattle.std.specs.Prelude.{◌≡◌, IfOk};
+ghost use Rattle.std.specs.Prelude.{◌≡◌, ◌≤◌, length, IfOk};
 ghost use Rattle.std.specs.List.{IsDistinct};
 ghost use Rattle.std.specs.Str.{bytes_eq};
 ghost use Rattle.lw_net.specs.Networks.{input_names};
-ghost use Rattle.lw_joined.specs.Places.{IsPlacing};
+ghost use Rattle.lw_pool.specs.Numbers.{most_signals};
+ghost use Rattle.lw_joined.specs.Places.{IsPlacing, ArePlaced};
 
 use indexmap::IndexSet;
 use lw_net::Network;
@@ -18,11 +19,14 @@ pub struct Inputs {
 }
 
 impl Model for Inputs {
-    ghost use Rattle.std.specs.Prelude.{List, ℕ};
+    ghost use Rattle.std.specs.Prelude.{List, ℕ, ◌≤◌, length};
+    ghost use Rattle.lw_pool.specs.Numbers.{most_signals};
 
     ghost Value = { List (List ℕ) };
 
     ghost view = { λ i. i.names.keys };
+
+    ghost invariant = { λ i. length i.names.keys ≤ most_signals };
 }
 
 /// The places of the inputs of a network among those of another, or the first one that is none.
@@ -32,6 +36,34 @@ pub enum Places {
     Strange(Name),
 }
 
+// Names as a set.
+fn set_of(alloc: Global, names: &[Name]) -> Result<IndexSet<Name>, AllocError>
+    requires { IsDistinct bytes_eq names.now }
+    ensures { IfOk result (λ set. set.keys ≡ names.now) }
+{
+    let mut set = IndexSet::new(alloc);
+    for name in names {
+        set.insert(Name::from_slice(alloc, name.as_bytes())?)?;
+    }
+    Ok(set)
+}
+
+// Where names stand among others, or the first one that is none of them.
+fn places_in(alloc: Global, all: &IndexSet<Name>, names: &[Name]) -> Result<Places, AllocError>
+    requires { length all.now.keys ≤ most_signals }
+    ensures { IfOk result (ArePlaced all.now.keys names.now) }
+{
+    let mut places = Vec::new(alloc);
+    for name in names {
+        let Some(place) = all.get_index_of(name) else {
+            drop(places);
+            return Ok(Places::Strange(Name::from_slice(alloc, name.as_bytes())?));
+        };
+        places.push(place as u32)?;
+    }
+    Ok(Places::At(places))
+}
+
 impl Inputs {
     /// The names of the inputs of this network.
     pub fn of(alloc: Global, net: &Network) -> Result<Self, AllocError>
@@ -39,10 +71,7 @@ impl Inputs {
         ensures { IfOk result (λ inputs. inputs ≡ input_names net.now) }
     {
         let inputs = net.inputs() as usize;
-        let mut names = IndexSet::with_capacity(alloc, inputs)?;
-        for name in &net.names()[..inputs] {
-            names.insert(Name::from_slice(alloc, name.as_bytes())?)?;
-        }
+        let names = set_of(alloc, &net.names()[..inputs])?;
         Ok(Inputs { names })
     }
 
@@ -51,17 +80,6 @@ impl Inputs {
         ensures { IfOk result (IsPlacing self.now other.now) }
     {
         let inputs = other.inputs() as usize;
-        let mut places = Vec::with_capacity(alloc, inputs)?;
-        for name in &other.names()[..inputs] {
-            match self.names.get_index_of(name) {
-                Some(place) => places.push(place as u32)?,
-                None => {
-                    let name = Name::from_slice(alloc, name.as_bytes())?;
-                    drop(places);
-                    return Ok(Places::Strange(name));
-                }
-            }
-        }
-        Ok(Places::At(places))
+        places_in(alloc, &self.names, &other.names()[..inputs])
     }
 }

@@ -1,8 +1,8 @@
 // Which networks are within the limits.
-ghost use Rattle.std.specs.Prelude.{◌≡◌, ◌≢◌, ◌++◌, [], ◌∷◌, Bool, List, length, All, IfOk, IfErr, OnOk};
+ghost use Rattle.std.specs.Prelude.{◌≡◌, ◌≢◌, ◌≤◌, ◌<◌, ◌+◌, [], ℕ, length, All, IfOk, IfErr};
 ghost use Rattle.lw_map.specs.Faults.{IsChoiceFault};
 ghost use Rattle.lw_map.specs.Options.{plain_options};
-ghost use Rattle.lw_joined.specs.Unions.{AreTaken, FitsOther, ListsUnion, limit_fault};
+ghost use Rattle.lw_joined.specs.Unions.{AreChosen, FitsOther, IsListingOf, IsTaking, ListsTaken, ListsUnion, limit_fault};
 ghost use Rattle.lw_joined.specs.declared.taking.Limit.TheVariants.{Signals};
 
 use crate::Other;
@@ -28,7 +28,7 @@ pub enum Limit {
 /// network and those that were taken before it.
 #[derive(Clone, Copy, Debug, PartialEq, Eq)]
 pub struct Left {
-    pub place: u32,
+    pub place: usize,
     pub limit: Limit,
 }
 
@@ -53,6 +53,14 @@ pub(crate) struct Taken {
     pub(crate) left: Vec<Left>,
 }
 
+// Whether each of the first others is taken, the union of those that are, and the rest.
+#[derive(Drop)]
+struct Chosen {
+    listed: Listed,
+    taken: Vec<bool>,
+    left: Vec<Left>,
+}
+
 // The most splits of a listing.
 const MOST_SPLITS: u64 = 16_777_216;
 
@@ -71,7 +79,9 @@ impl Limit {
 }
 
 // The forms of a union, or the limit that it passes.
-fn forms_of(alloc: Global, union: Union, options: Options) -> Result<Listing, AllocError> {
+fn forms_of(alloc: Global, union: Union, options: Options) -> Result<Listing, AllocError>
+    ensures { IfOk result (IsListingOf options union.net union.ends.items) }
+{
     let forms = match forms(alloc, &union.net, options.width) {
         Ok(forms) => forms,
         Err(fault) => {
@@ -90,16 +100,6 @@ fn forms_of(alloc: Global, union: Union, options: Options) -> Result<Listing, Al
     Ok(Listing::Within(Listed { union, forms }))
 }
 
-// Notes a network that is left out.
-fn leave(left: &mut Vec<Left>, place: usize, limit: Limit) -> Result<(), AllocError>
-    ensures { OnOk result (left.new.items
-        ≡ left.old.items ++ record { place = place; limit = limit } ∷ []) }
-{
-    let place = place as u32;
-    left.push(Left { place, limit })?;
-    Ok(())
-}
-
 // The networks that may be joined to one.
 #[derive(Clone, Copy)]
 pub(crate) struct Offer<'a> {
@@ -112,7 +112,7 @@ impl Offer<'_> {
     // The union of those that are taken, or the limit that it passes.
     fn list(&self, alloc: Global, taken: &[bool]) -> Result<Listing, AllocError>
         requires others { All (FitsOther self.now.net.now) self.now.others.now }
-        requires one_each { length taken.now ≡ length self.now.others.now }
+        requires few { length taken.now ≤ length self.now.others.now }
         ensures { IfOk result (ListsUnion self.now taken.now) }
     {
         match union_of(alloc, self.net, self.others, taken)? {
@@ -121,29 +121,76 @@ impl Offer<'_> {
         }
     }
 
-    // The first network, then with each of the others in order that stays within the limits.
-    fn take_each(&self, alloc: Global, taken: &mut [bool]) -> Result<Taken, MapFault>
-        requires others { All (FitsOther self.now.net.now) self.now.others.now }
-        requires one_each { length taken.old ≡ length self.now.others.now }
-        ensures taken { IfOk result (AreTaken self.now taken.new) }
+    // The first network alone.
+    fn first(&self, alloc: Global) -> Result<Listed, MapFault>
+        requires { All (FitsOther self.now.net.now) self.now.others.now }
+        ensures listed { IfOk result (ListsTaken self.now []) }
         ensures fault { IfErr result (IsChoiceFault (plain_options self.now.options)
             self.now.net.now) }
     {
-        let mut left = Vec::new(alloc);
-        let mut listed = match self.list(alloc, taken)? {
-            Listing::Within(listed) => listed,
-            Listing::Past(limit) => return Err(limit.fault()),
-        };
-        'others: for place in 0..self.others.len() {
-            taken[place] = true;
-            match self.list(alloc, taken)? {
-                Listing::Within(more) => listed = more,
-                Listing::Past(limit) => {
-                    taken[place] = false;
-                    leave(&mut left, place, limit)?;
-                }
+        let _ = self.net.inputs();
+        let none = Vec::new(alloc);
+        match self.list(alloc, &none)? {
+            Listing::Within(listed) => Ok(listed),
+            Listing::Past(limit) => Err(limit.fault()),
+        }
+    }
+
+    // The other at a place as well, where it stays within the limits.
+    fn take_next(&self, alloc: Global, chosen: Chosen, place: usize) -> Result<Chosen, AllocError>
+        requires others { All (FitsOther self.now.net.now) self.now.others.now }
+        requires chosen { AreChosen self.now place chosen }
+        requires more { place < length self.now.others.now }
+        ensures { IfOk result (AreChosen self.now (place + 1)) }
+    {
+        let Chosen {
+            listed,
+            mut taken,
+            mut left,
+        } = chosen;
+        taken.push(true)?;
+        match self.list(alloc, &taken)? {
+            Listing::Within(more) => {
+                drop(listed);
+                Ok(Chosen {
+                    listed: more,
+                    taken,
+                    left,
+                })
+            }
+            Listing::Past(limit) => {
+                taken[place] = false;
+                left.push(Left { place, limit })?;
+                Ok(Chosen {
+                    listed,
+                    taken,
+                    left,
+                })
             }
         }
+    }
+
+    // The first network, then with each of the others in order that stays within the limits.
+    fn take_each(&self, alloc: Global) -> Result<Taken, MapFault>
+        requires { All (FitsOther self.now.net.now) self.now.others.now }
+        ensures taken { IfOk result (IsTaking self.now) }
+        ensures fault { IfErr result (IsChoiceFault (plain_options self.now.options)
+            self.now.net.now) }
+    {
+        let mut chosen = Chosen {
+            listed: self.first(alloc)?,
+            taken: Vec::new(alloc),
+            left: Vec::new(alloc),
+        };
+        for place in 0..self.others.len() {
+            chosen = self.take_next(alloc, chosen, place)?;
+        }
+        let Chosen {
+            listed,
+            taken,
+            left,
+        } = chosen;
+        drop(taken);
         Ok(Taken { listed, left })
     }
 
@@ -152,18 +199,17 @@ impl Offer<'_> {
     /// network passes these limits alone.
     pub(crate) fn take(&self, alloc: Global) -> Result<Taken, MapFault>
         requires { All (FitsOther self.now.net.now) self.now.others.now }
-        ensures taken { IfOk result (λ t. (taken : List Bool) × AreTaken self.now taken t) }
+        ensures taken { IfOk result (IsTaking self.now) }
         ensures fault { IfErr result (IsChoiceFault (plain_options self.now.options)
             self.now.net.now) }
     {
-        let mut taken = vec![in alloc; true; self.others.len()]?;
-        if let Listing::Within(listed) = self.list(alloc, &taken)? {
+        let all = vec![in alloc; true; self.others.len()]?;
+        if let Listing::Within(listed) = self.list(alloc, &all)? {
             return Ok(Taken {
                 listed,
                 left: Vec::new(alloc),
             });
         }
-        taken.fill(false);
-        self.take_each(alloc, &mut taken)
+        self.take_each(alloc)
     }
 }

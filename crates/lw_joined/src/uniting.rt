@@ -1,6 +1,8 @@
 // The network of all nodes.
-ghost use Rattle.std.specs.Prelude.{◌≡◌, length, All, IfOk};
-ghost use Rattle.lw_joined.specs.Unions.{FitsOther, IsUnion, own_places};
+ghost use Rattle.std.specs.Prelude.{◌≡◌, ◌≤◌, ◌++◌, ◌∷◌, [], ℕ, List, length, All, IfOk, IfSome};
+ghost use Rattle.lw_net.specs.Networks.{NetworkParts};
+ghost use Rattle.lw_net.specs.Unions.{ArePlacesIn, joined_to};
+ghost use Rattle.lw_joined.specs.Unions.{FitsOther, IsUnion, IsUnionOf, end_of, first_of, own_places, with_taken};
 
 use lw_net::Network;
 use std::alloc::{AllocError, Global};
@@ -26,7 +28,7 @@ const MOST_SIGNALS: u32 = 262_144;
 fn own_places(alloc: Global, inputs: u32) -> Result<Vec<u32>, AllocError>
     ensures { IfOk result (λ places. places.items ≡ own_places inputs) }
 {
-    let mut places = Vec::with_capacity(alloc, inputs as usize)?;
+    let mut places = Vec::new(alloc);
     for place in 0..inputs {
         places.push(place)?;
     }
@@ -39,20 +41,58 @@ fn with_other(
     alloc: Global,
     net: &Network,
     places: &[u32],
-) -> Result<Option<Union>, AllocError> {
+) -> Result<Option<Union>, AllocError>
+    requires { ArePlacesIn union.net.inputs net.now places.now }
+    ensures { IfOk result (IsUnionOf (joined_to union.net net.now places.now)
+        (union.ends.items ++ length (joined_to union.net net.now places.now).names ∷ [])) }
+{
     let signals = union.net.nets() + (net.nets() - net.inputs());
     if signals > MOST_SIGNALS {
         drop(union);
         return Ok(None);
     }
-    let mut ends = union.ends;
-    let net = union.net.joined(alloc, net, places)?;
-    ends.push(net.nets())?;
-    Ok(Some(Union { net, ends }))
+    let Union {
+        net: before,
+        mut ends,
+    } = union;
+    let joined = before.joined(alloc, net, places)?;
+    ends.push(joined.nets())?;
+    Ok(Some(Union { net: joined, ends }))
+}
+
+// The union of a network alone.
+fn first_union(alloc: Global, net: &Network) -> Result<Option<Union>, AllocError>
+    ensures { IfOk result (IsUnionOf (first_of net.now) (length (first_of net.now).names ∷ [])) }
+{
+    let places = own_places(alloc, net.inputs())?;
+    let bare = Network::bare(alloc, net)?;
+    let ends = Vec::new(alloc);
+    with_other(Union { net: bare, ends }, alloc, net, &places)
+}
+
+// A union with another network where that is taken.
+fn with_taken(
+    union: Option<Union>,
+    alloc: Global,
+    other: &Other,
+    taken: bool,
+) -> Result<Option<Union>, AllocError>
+    requires { IfSome union (λ u. FitsOther u.net other.now) }
+    ensures { (net : NetworkParts) (ends : List ℕ) → IsUnionOf net ends union →
+        IfOk result (IsUnionOf (with_taken net other.now taken)
+        (ends ++ end_of (with_taken net other.now taken) taken)) }
+{
+    if !taken {
+        return Ok(union);
+    }
+    match union {
+        Some(union) => with_other(union, alloc, other.net, other.places),
+        None => Ok(None),
+    }
 }
 
 /// The union of a network and of those others that are taken, or none where there are too many
-/// signals.
+/// signals. Behind the end of `taken` none is.
 pub(crate) fn union_of(
     alloc: Global,
     net: &Network,
@@ -60,23 +100,12 @@ pub(crate) fn union_of(
     taken: &[bool],
 ) -> Result<Option<Union>, AllocError>
     requires others { All (FitsOther net.now) others.now }
-    requires one_each { length taken.now ≡ length others.now }
+    requires few { length taken.now ≤ length others.now }
     ensures { IfOk result (IsUnion net.now others.now taken.now) }
 {
-    let own = own_places(alloc, net.inputs())?;
-    let bare = Union {
-        net: Network::bare(alloc, net)?,
-        ends: Vec::new(alloc),
-    };
-    let mut union = with_other(bare, alloc, net, &own)?;
-    drop(own);
-    'others: for (k, other) in others.iter().enumerate() {
-        if taken[k] {
-            union = match union {
-                Some(union) => with_other(union, alloc, other.net, other.places)?,
-                None => None,
-            };
-        }
+    let mut union = first_union(alloc, net)?;
+    for k in 0..taken.len() {
+        union = with_taken(union, alloc, &others[k], taken[k])?;
     }
     Ok(union)
 }

@@ -1,24 +1,20 @@
 -- Lists of forms with further pairs.
-use Rattle.std.proofs.Common.{ℕ, zero, suc, ◌+◌, ◌*◌, ◌/◌, ◌%◌, ◌<◌, ◌≤◌, ◌≡◌, ◌⊎◌, inl, inr, Bool, List, [], ◌∷◌, ◌++◌, length, Some, slice_get, Result, Ok, Err, MatchResult, OnOk, refl, ap, ap₂, sym, ◌∙◌, subst, arith, append_assoc}
+use Rattle.std.proofs.Common.{ℕ, zero, suc, ◌+◌, ◌*◌, ◌/◌, ◌%◌, ◌<◌, ◌≡◌, ◌⊎◌, inl, inr, Bool, List, [], ◌∷◌, ◌++◌, length, Some, slice_get, Result, Ok, Err, MatchResult, OnOk, refl, ap, sym, ◌∙◌, subst, arith, append_assoc}
 use Rattle.std.proofs.lemmas.List.{append-nil, length-append}
 use Rattle.std.proofs.lemmas.Option.{none-some}
+use Rattle.lw_facts.proofs.Lists.{get_left}
 use Rattle.lw_aig.specs.declared.literal.Literal.{Literal}
-use Rattle.lw_laws.specs.NumberedForms.{NumberedForms, IsSignal}
+use Rattle.lw_laws.specs.NumberedForms.{NumberedForms}
 use Rattle.lw_laws.specs.NumberedValues.{AreNumberedValues}
 use Rattle.lw_form.specs.Links.{HaveOneValue, with_pair}
 use Rattle.lw_links.specs.Linked.{IsLinked, TellPairs}
-
-get_before : (xs ys : List ℕ) (s a : ℕ) → slice_get xs s ≡ Some a → slice_get (xs ++ ys) s ≡ Some a
-get_before [] ys s a e = cc
-get_before (x ∷ xs) ys zero a e = e
-get_before (x ∷ xs) ys (suc s) a e = get_before xs ys s a e
 
 -- values of a longer list are values of the list
 values_before : (old new : NumberedForms) → IsLinked old new → (x value : ℕ → Bool) → AreNumberedValues new x value → AreNumberedValues old x value
 values_before old new linked x value are = record {
   flips = are.flips;
   bases = λ b base at. are.bases b base (subst (λ bs. slice_get bs b ≡ Some base) (sym linked.bases) at);
-  signals = λ f h (s, e, d). are.signals f h (s, subst (λ xs. slice_get xs s ≡ Some f) (sym linked.sops) (get_before old.sops linked.lefts s f e), subst (λ xs. slice_get xs s ≡ Some h) (sym linked.facs) (get_before old.facs linked.rights s h d));
+  signals = λ f h (s, e, d). are.signals f h (s, subst (λ xs. slice_get xs s ≡ Some f) (sym linked.sops) (get_left old.sops linked.lefts s f e), subst (λ xs. slice_get xs s ≡ Some h) (sym linked.facs) (get_left old.facs linked.rights s h d));
 }
 
 -- forms of one value stay such

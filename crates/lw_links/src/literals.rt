@@ -2,7 +2,7 @@
 ghost use Rattle.std.specs.Prelude.{◌≡◌, ◌<◌, ◌≤◌, ◌/◌, ◌-◌, ◌^◌, length, Some, slice_get, IfOk, IfSome};
 ghost use Rattle.lw_laws.specs.NumberedForms.Base.{base_and};
 ghost use Rattle.lw_sweep.specs.Sweeps.{IsExtended, inputs_alone};
-ghost use Rattle.lw_links.specs.Linked.{HasBaseValue, HaveFormValues, StandFor, signed_literal};
+ghost use Rattle.lw_links.specs.Linked.{AreHalves, HasBaseValue, StandFor, signed_literal};
 
 use lw_aig::Literal;
 use lw_form::{Base, FormIds, Forms};
@@ -28,8 +28,27 @@ fn but_last(count: usize) -> u32
     (1 << (count - 1)) - 1
 }
 
-// The literal of an And: the conjunction of the literals of all its operands but the last, and of
-// the last. None where there is no room for a node.
+// Two forms, of which an And is the conjunction.
+#[derive(Clone, Copy)]
+struct Halves {
+    others: FormId,
+    last: FormId,
+}
+
+// The And of all operands but the last, and the last.
+fn halves_of(forms: &Forms, b: u32, ids: &FormIds) -> Halves
+    requires { slice_get forms.now.bases b ≡ Some (base_and ids.now) }
+    ensures { AreHalves forms.now b result.others.0 result.last.0 }
+{
+    let _ = forms.inputs();
+    let count = ids.len();
+    let others = forms.part(b, but_last(count));
+    let last = ids.get(count - 1);
+    Halves { others, last }
+}
+
+// The literal of an And: the conjunction of the literals of its halves. None where there is no room
+// for a node.
 fn and_literal(
     sweep: &mut Sweep,
     alloc: Global,
@@ -44,11 +63,9 @@ fn and_literal(
     ensures grows { IsExtended sweep.old sweep.new }
     ensures literal { IfOk result (λ l. IfSome l (HasBaseValue sweep.new forms.now b)) }
 {
-    let _ = forms.inputs();
-    let count = ids.len();
-    let others = forms.part(b, but_last(count));
-    let last = ids.get(count - 1);
-    let (others, last) = (literal_of(literals, others), literal_of(literals, last));
+    let halves = halves_of(forms, b, ids);
+    let others = literal_of(literals, halves.others);
+    let last = literal_of(literals, halves.last);
     sweep.and(alloc, others, last)
 }
 
@@ -81,12 +98,12 @@ pub(crate) fn form_literals(
     forms: &Forms,
 ) -> Result<Vec<Literal>, AllocError>
     requires { sweep.old ≡ inputs_alone forms.now.inputs }
-    ensures { IfOk result (λ literals. HaveFormValues sweep.new forms.now literals.items) }
+    ensures { IfOk result (λ literals. StandFor sweep.new forms.now literals.items) }
 {
     let mut literals = Vec::new(alloc);
     'bases: for b in 0..forms.len() {
         let Some(literal) = base_literal(sweep, alloc, forms, b, &literals)? else {
-            break;
+            return Ok(literals);
         };
         literals.push(literal)?;
     }

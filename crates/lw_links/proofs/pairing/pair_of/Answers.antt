@@ -1,4 +1,4 @@
-use Rattle.std.proofs.Common.{ℕ, ◌≡◌, ◌<◌, sym, subst₂, arith}
+use Rattle.std.proofs.Common.{sym, subst₂, arith}
 use Rattle.std.proofs.lemmas.Option.{slice_get-get_or}
 use Rattle.lw_form.specs.Links.{HaveOneValue}
 use Rattle.lw_links.proofs.pairing.pair_of.Goals as goal
