@@ -11,3 +11,11 @@ returns-in-Usage g c = rw c.in-Usage.is (record {
   read = omega arith;
   written = c.write_page.ensures.later;
 })
+
+pub returns-in-Version : goal.returns-in-Version
+returns-in-Version g c = rw c.in-Version.is (record {
+  meets = version_served (g.F.Shelf.files c.args.shelf.now) (g.F.Shelf.faults c.args.shelf.now) (g.F.Shelf.faults c.args.shelf.now) g.O.Sink.taken g.O.Sink.is_finished g.O.Sink.faults c.args.out.now c.write_page-in-Version.new.out version_text c.write_page-in-Version.result refl c.write_page-in-Version.ensures.writes;
+  files = refl;
+  read = omega arith;
+  written = c.write_page-in-Version.ensures.later;
+})
