@@ -79,6 +79,11 @@ fn effort_of(limits: &Limits) -> Effort {
     }
 }
 
+// The same, or no effort where sums are to be brought to one form first.
+fn effort_in(sweep: &Sweep, effort: Effort) -> Effort {
+    if sweep.wants_sums() { NO_EFFORT } else { effort }
+}
+
 // The same limits, with sums in one form.
 fn with_sums(limits: Limits) -> Limits {
     Limits {
@@ -134,11 +139,7 @@ fn solve_in(
         left: &left,
         right: &right,
     };
-    let effort = if sweep.wants_sums() {
-        NO_EFFORT
-    } else {
-        effort
-    };
+    let effort = effort_in(sweep, effort);
     decide_all(sweep, alloc, &case, pairs, effort)
 }
 
