@@ -17,6 +17,14 @@ use std::marker::Model;
 // How many literals the clauses have at most when a query begins.
 const MOST_LITERALS: usize = 100_000;
 
+// How many nodes a first query goes down to, and how many conflicts it may have.
+const FEW_NODES: usize = 256;
+
+const FEW_TRIES: u32 = 30;
+
+// How many literals the clauses may have, before a query is left open.
+const ALL_LITERALS: usize = 4_000_000;
+
 /// A search over an and-inverter graph. Its clauses live from query to query.
 #[derive(Debug, Drop)]
 pub struct Search {
@@ -102,6 +110,8 @@ impl Search {
     /// Whether two literals have one value under every assignment, with so many conflicts both ways
     /// at most. The search goes down to the nodes `stops` alone, which it takes to be free. After
     /// `Apart` it has values, of inputs too, that may tell the literals apart.
+    ///
+    /// First it goes down to the nodes close by alone.
     pub fn compare(
         &mut self,
         alloc: Global,
@@ -117,7 +127,28 @@ impl Search {
         if spent {
             return Ok(Found::Open);
         }
-        self.enter(alloc, left, right, stops)?;
+        self.enter(alloc, left, right, stops, FEW_NODES)?;
+        if !self.cones.is_cut() {
+            return self.compare_both(left, right, tries);
+        }
+        let near = self.compare_both(left, right, FEW_TRIES)?;
+        if near == Found::Equal {
+            return Ok(near);
+        }
+        self.enter(alloc, left, right, stops, usize::MAX)?;
+        self.compare_both(left, right, tries)
+    }
+
+    // The same in the cones of a query.
+    fn compare_both(
+        &mut self,
+        left: Literal,
+        right: Literal,
+        tries: u32,
+    ) -> Result<Found, AllocError>
+        ensures kept { self.new ≡ self.old }
+        ensures told { IfOk result (Tells self.old left right) }
+    {
         let there = self.run(&[left, right.flip()], tries)?;
         let Found::Equal = there else {
             return Ok(there);
@@ -133,6 +164,7 @@ impl Search {
         left: Literal,
         right: Literal,
         stops: &[u32],
+        most: usize,
     ) -> Result<(), AllocError>
         ensures { self.new ≡ self.old }
     {
@@ -146,7 +178,8 @@ impl Search {
             self.watches.renew(&self.clauses)?;
         }
         let roots = [left.node(), right.node()];
-        self.cones.enter(self.clauses.aig().gates(), roots, stops)
+        let gates = self.clauses.aig().gates();
+        self.cones.enter(gates, roots, stops, most)
     }
 
     // Begins a search: what is known without an assignment.
@@ -177,6 +210,9 @@ impl Search {
         ensures refuted { IfOk result (MayRefute self.old roots.now) }
     {
         if self.steps == 0 {
+            return Ok(Some(Found::Open));
+        }
+        if self.clauses.literals() > ALL_LITERALS {
             return Ok(Some(Found::Open));
         }
         let failed = spread(
