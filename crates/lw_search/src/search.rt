@@ -1,4 +1,4 @@
-ghost use Rattle.std.specs.Prelude.{◌≡◌, ◌<◌, ◌++◌, [], ◌∷◌, length, IfOk, OnErr};
+ghost use Rattle.std.specs.Prelude.{◌≡◌, ◌<◌, ◌++◌, [], ◌∷◌, length, IfOk, IfSome, OnErr};
 
 use crate::Found;
 use crate::analysing::trace;
@@ -6,6 +6,8 @@ use crate::cones::Cones;
 use crate::deciding::{begin, pick, turn_back};
 use crate::lesson::Lesson;
 use crate::querying::{learn, refutes};
+use crate::queue::Queue;
+use crate::room::Room;
 use crate::spreading::spread;
 use crate::trail::{Trail, Truth};
 use crate::watches::Watches;
@@ -33,6 +35,8 @@ pub struct Search {
     watches: Watches,
     cones: Cones,
     lesson: Lesson,
+    queue: Queue,
+    room: Room,
     // Conflicts so far, how many more this search may have, and how many more values all searches
     // may spread.
     conflicts: u64,
@@ -64,6 +68,8 @@ impl Search {
             watches: Watches::new(alloc),
             cones: Cones::new(alloc),
             lesson: Lesson::new(alloc),
+            queue: Queue::new(alloc),
+            room: Room::new(),
             conflicts: 0,
             tries: 0,
             steps,
@@ -104,6 +110,7 @@ impl Search {
         ensures ok { IfOk result (λ _. self.new ≡ self.old ++ And left right ∷ []) }
         ensures err { OnErr result (self.new ≡ self.old) }
     {
+        self.room.grow();
         self.clauses.push_and(alloc, left, right)
     }
 
@@ -111,7 +118,8 @@ impl Search {
     /// at most. The search goes down to the nodes `stops` alone, which it takes to be free. After
     /// `Apart` it has values, of inputs too, that may tell the literals apart.
     ///
-    /// First it goes down to the nodes close by alone.
+    /// First it goes down to the nodes close by. It goes on, and it begins, as long as all
+    /// comparisons together went to few nodes for each node of the graph.
     pub fn compare(
         &mut self,
         alloc: Global,
@@ -123,19 +131,76 @@ impl Search {
         ensures kept { self.new ≡ self.old }
         ensures told { IfOk result (Tells self.old left right) }
     {
-        let spent = self.steps == 0;
-        if spent {
+        if !self.room.has_near() {
             return Ok(Found::Open);
         }
+        if let Some(found) = self.compare_near(alloc, left, right, stops, tries)? {
+            return Ok(found);
+        }
+        if !self.room.has_far() {
+            return Ok(Found::Open);
+        }
+        self.compare_far(alloc, left, right, stops, tries)
+    }
+
+    /// The same down to the inputs, whatever other comparisons took.
+    pub fn decide(
+        &mut self,
+        alloc: Global,
+        left: Literal,
+        right: Literal,
+        tries: u32,
+    ) -> Result<Found, AllocError>
+        ensures kept { self.new ≡ self.old }
+        ensures told { IfOk result (Tells self.old left right) }
+    {
+        if let Some(found) = self.compare_near(alloc, left, right, &[], tries)? {
+            return Ok(found);
+        }
+        self.compare_far(alloc, left, right, &[], tries)
+    }
+
+    // The same down to the nodes close by: none, if those further off may tell more.
+    fn compare_near(
+        &mut self,
+        alloc: Global,
+        left: Literal,
+        right: Literal,
+        stops: &[u32],
+        tries: u32,
+    ) -> Result<Option<Found>, AllocError>
+        ensures kept { self.new ≡ self.old }
+        ensures told { IfOk result (λ found. IfSome found (Tells self.old left right)) }
+    {
+        let spent = self.steps == 0;
+        if spent {
+            return Ok(Some(Found::Open));
+        }
         self.enter(alloc, left, right, stops, FEW_NODES)?;
+        self.room.take_near(self.cones.nodes().len());
         if !self.cones.is_cut() {
-            return self.compare_both(left, right, tries);
+            return Ok(Some(self.compare_both(left, right, tries)?));
         }
-        let near = self.compare_both(left, right, FEW_TRIES)?;
-        if near == Found::Equal {
-            return Ok(near);
+        match self.compare_both(left, right, FEW_TRIES)? {
+            Found::Equal => Ok(Some(Found::Equal)),
+            _ => Ok(None),
         }
+    }
+
+    // The same down to all nodes.
+    fn compare_far(
+        &mut self,
+        alloc: Global,
+        left: Literal,
+        right: Literal,
+        stops: &[u32],
+        tries: u32,
+    ) -> Result<Found, AllocError>
+        ensures kept { self.new ≡ self.old }
+        ensures told { IfOk result (Tells self.old left right) }
+    {
         self.enter(alloc, left, right, stops, usize::MAX)?;
+        self.room.take_far(self.cones.nodes().len());
         self.compare_both(left, right, tries)
     }
 
@@ -173,6 +238,7 @@ impl Search {
         self.trail.fit(nodes)?;
         self.watches.fit(nodes)?;
         self.lesson.fit(nodes)?;
+        self.queue.fit(nodes)?;
         if self.clauses.literals() > MOST_LITERALS {
             self.clauses.forget(alloc, self.clauses.len() / 2)?;
             self.watches.renew(&self.clauses)?;
@@ -187,7 +253,13 @@ impl Search {
         ensures { self.new ≡ self.old }
     {
         self.tries = tries;
-        begin(&mut self.trail, &self.watches, &self.cones, &self.clauses);
+        begin(
+            &mut self.trail,
+            &mut self.queue,
+            &self.watches,
+            &self.cones,
+            &self.clauses,
+        );
     }
 
     // Looks for an assignment under which all roots are true.
@@ -248,7 +320,8 @@ impl Search {
             self.trail.put(*root, Cause::Free);
             return Ok(None);
         }
-        let Some(literal) = pick(&self.trail, &self.cones, self.clauses.aig().gates()) else {
+        let gates = self.clauses.aig().gates();
+        let Some(literal) = pick(&mut self.queue, &self.trail, &self.cones, gates) else {
             return Ok(Some(Found::Apart));
         };
         self.trail.rise();
@@ -276,7 +349,8 @@ impl Search {
             return Ok(false);
         }
         self.tries = self.tries.saturating_sub(1);
-        Ok(turn_back(&mut self.trail, &self.lesson.clause, number))
+        let clause = &self.lesson.clause;
+        Ok(turn_back(&mut self.trail, &mut self.queue, clause, number))
     }
 
     // Traces a conflict of the roots back to a clause over their complements, which refutes them if
