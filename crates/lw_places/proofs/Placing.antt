@@ -1,8 +1,9 @@
 -- Places of names, where there is one more name.
-use Rattle.std.proofs.Common.{ℕ, ◌≡◌, ◌≢◌, ◌<◌, ◌≤◌, ◌+◌, ◌⊎◌, inl, inr, Bool, true, false, cond, not, ◌||◌, List, [], ◌∷◌, ◌++◌, length, map, Option, Some, None, refl, ap, ap₂, sym, subst, ◌∙◌, arith, length-append, length-map}
+use Rattle.std.proofs.Common.{ℕ, ◌≡◌, ◌≢◌, ◌≤◌, ◌+◌, ◌⊎◌, inl, inr, Bool, true, false, cond, not, ◌||◌, List, [], ◌∷◌, ◌++◌, length, map, Option, Some, None, refl, ap, ap₂, sym, subst, ◌∙◌, arith}
 use Rattle.std.specs.Prelude.{nat_lt}
 use Rattle.std.proofs.lemmas.Bool.{cases_Bool, false≢true}
 use Rattle.std.proofs.lemmas.Grind.{common_steps}
+use Rattle.std.proofs.lemmas.List.{length-map}
 use Rattle.std.proofs.lemmas.List.Sums.{prefix_len-le-length}
 use Rattle.std.proofs.lemmas.Map.Text.{is_eq-slice_cmp}
 use Rattle.std.specs.BTreeMap.{BTreeMap}
@@ -15,7 +16,7 @@ use Rattle.std.specs.Map.{lookup, IsKeyTest, AreApart}
 use Rattle.std.specs.Map as map
 use Rattle.std.specs.Ordering.{nat_cmp}
 use Rattle.std.specs.Str.{bytes_eq}
-use Rattle.lw_facts.proofs.Lists.{bytes_eq_is, bytes_eq_same, bytes_differ, bytes_differ_turned}
+use Rattle.lw_facts.proofs.Lists.{bytes_eq_is, bytes_eq_same, bytes_differ}
 use Rattle.lw_places.specs.Places.{ArePlaces, KeepsOthers, place_in}
 
 other_places : (eq : Vec ℕ → Vec ℕ → Bool) (test : Vec ℕ → Bool) (old new : List (Vec ℕ × ℕ)) → map.KeepsOthers eq test old new → (other : Vec ℕ → Bool) → IsKeyTest eq other → AreApart test other → lookup other new ≡ lookup other old
@@ -53,8 +54,11 @@ module _ {X : Type 0} (p : X → Bool) where
   pub position_before : (xs : List X) (x : X) → p x ≡ false → position p (xs ++ x ∷ []) ≡ position p xs
   position_before xs x other = grind (arith, common_steps, prefix_len-le-length)
 
+abbrev placed : ℕ → ℕ → Option ℕ
+placed at size = cond (nat_lt at size) (Some at) None
+
 pub position_map : {X Y : Type 0} (f : X → Y) (p : Y → Bool) (xs : List X) → position p (map f xs) ≡ position (λ x. p (f x)) xs
-position_map {X} f p xs = ap₂ (λ n m. cond (nat_lt n m) (Some n) None) (places xs) (length-map xs f)
+position_map {X} f p xs = ap₂ placed (places xs) (length-map xs f)
   where
     places : (xs : List X) → position_or_len p (map f xs) ≡ position_or_len (λ x. p (f x)) xs
     places [] = refl

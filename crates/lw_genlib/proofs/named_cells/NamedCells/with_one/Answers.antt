@@ -1,4 +1,4 @@
-use Rattle.std.proofs.Common.{◌≡◌, ◌<◌, ◌∙◌, List, false, length, sym, ap, subst, rules, arith}
+use Rattle.std.proofs.Common.{◌≡◌, ◌∙◌, List, Some, false, length, sym, ap, subst, arith}
 use Rattle.std.specs.List.{list_any}
 use Rattle.std.specs.Str.{bytes_eq}
 use Rattle.lw_places.specs.Places.{ArePlaces, KeepsOthers, place_in}
@@ -10,6 +10,9 @@ pub invariant_of-result : goal.invariant_of-result
 invariant_of-result c =
     let cells : c.args.self ≡ c.self.inside.cells.items = sym c.self.view_is in
     let fresh = subst (λ (cs : List CellParts). list_any (λ (other : CellParts). bytes_eq c.args.cell.name other.name) cs ≡ false) cells c.requires.new_name in
+    let name : c.as_bytes.result.now ≡ c.args.cell.name = c.as_bytes.ensures.bytes ∙ c.name.ensures in
+    let count : c.len.result ≡ length c.self.inside.cells.items = omega (arith, c.len.ensures, c.self.inside.cells.ok.0) in
     rw (c.in_ok-push.ensures.items)
     (placed_more c.self.inside.cells.items c.args.cell c.self.inside.places.entries c.set_place.new.places.entries c.self.invariant fresh
-    c.set_place.ensures.others c.in_ok-set_place.ensures.own)
+    (subst (λ l. KeepsOthers l c.self.inside.places.entries c.set_place.new.places.entries) name c.set_place.ensures.others)
+    (subst (λ l. place_in c.set_place.new.places.entries l ≡ Some (length c.self.inside.cells.items)) name (c.in_ok-set_place.ensures.own ∙ ap Some count)))
