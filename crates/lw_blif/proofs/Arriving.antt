@@ -6,14 +6,14 @@ use Rattle.std.specs.List.{list_all}
 use Rattle.lw_fixed.specs.declared.micro.Micro.{Micro}
 use Rattle.lw_fixed.specs.declared.fault.DecimalFault.{DecimalFault}
 use Rattle.lw_frame.specs.Starts.{start_said}
-use Rattle.lw_blif.specs.declared.command.Command.{Command}
-use Rattle.lw_blif.specs.declared.command.Command.TheVariants.{Model, Inputs, Outputs, Names, Arrival, DefaultArrival, End, Ignored, Unsupported, Unknown, Row}
+use Rattle.lw_blif_text.specs.declared.command.Command.{Command}
+use Rattle.lw_blif_text.specs.declared.command.Command.TheVariants.{Model, Inputs, Outputs, Names, Arrival, DefaultArrival, End, Ignored, Gate, Certificate, Unsupported, Unknown, Plain as Row}
 use Rattle.lw_blif.specs.declared.fault.BlifKind.{BlifKind}
 use Rattle.lw_blif.specs.declared.fault.BlifKind.TheVariants as kind
 use Rattle.lw_blif.specs.LineFaults.{first_broken, other_words, wants_words, names_for, times_for, times_place, is_arrival_command, start_in, start_rules, arrival_rules}
 use Rattle.lw_blif.specs.Drafts.{arrival_of, arrivals_for, latch_of}
 use Rattle.lw_pool.specs.declared.latch.Latch.{Latch}
-use Rattle.lw_blif.specs.declared.command.Command.TheVariants as asks
+use Rattle.lw_blif_text.specs.declared.command.Command.TheVariants as asks
 use Rattle.std.proofs.lemmas.Bool.{and_parts, eqb-true}
 use Rattle.lw_facts.proofs.Lists.{drop_get}
 use Rattle.lw_blif.specs.Readers.{start_or_kind, start_said_on}
@@ -30,7 +30,9 @@ arrival-cases asks.Latch is = cc
 arrival-cases End is = cc
 arrival-cases Ignored is = cc
 arrival-cases Unsupported is = cc
+arrival-cases Gate is = cc
 arrival-cases Unknown is = cc
+arrival-cases Certificate is = cc
 arrival-cases Row is = cc
 
 pub arrival-left : (c : Command) → is_arrival_command c ≡ true → (c ≡ Arrival → ⊥) → c ≡ DefaultArrival

@@ -12,8 +12,8 @@ use Rattle.std.proofs.Math.Bool.{not-not, or-false, or_self}
 use Rattle.lw_net.specs.declared.draft.DraftNode.{DraftNode}
 use Rattle.lw_net.specs.declared.draft.Draft.{Draft}
 use Rattle.lw_words.specs.Lines.{LogicalLine, has_some}
-use Rattle.lw_blif.specs.declared.command.Command.{Command}
-use Rattle.lw_blif.specs.declared.command.Command.TheVariants.{Ignored, Row}
+use Rattle.lw_blif_text.specs.declared.command.Command.{Command}
+use Rattle.lw_blif_text.specs.declared.command.Command.TheVariants.{Ignored, Plain as Row}
 use Rattle.lw_blif.specs.declared.fault.BlifKind.{BlifKind}
 use Rattle.lw_blif.specs.declared.fault.BlifKind.TheVariants as kind
 use Rattle.lw_blif.specs.LineFaults.{first_broken, row_rules, rules_for, line_fault, name_rules, wants_words, names_for, words_before_last, has_twice, other_words, is_ignored_command, is_row_command, is_names_command, defined_for, command, is_row, is_names, is_ignored, last_word, fanins_on, has_shape, is_value, is_column, defined_on, defined_by, rows_before, node_before}

@@ -10,8 +10,8 @@ use Rattle.lw_net.specs.Networks.{NetworkParts, IsNetwork}
 use Rattle.lw_net.proofs.Closed.{closed_kept, closed_distinct, closed_inputs, closed_outputs}
 use Rattle.lw_frame.specs.Starts.{IsEarly}
 use Rattle.lw_frame.proofs.Fitting.{frame_fits, starts_fit}
-use Rattle.lw_blif.specs.declared.command.Command.{Command}
-use Rattle.lw_blif.specs.declared.command.Command.TheVariants as asks
+use Rattle.lw_blif_text.specs.declared.command.Command.{Command}
+use Rattle.lw_blif_text.specs.declared.command.Command.TheVariants as asks
 use Rattle.lw_blif.specs.declared.parsed.Parsed.{Parsed}
 use Rattle.lw_blif.specs.declared.drafting.Said.{Said}
 use Rattle.lw_blif.specs.LineFaults.{FaultAt, first_fault, lines_read, command, other_words, times_for, start_in}

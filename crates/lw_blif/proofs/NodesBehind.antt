@@ -5,8 +5,8 @@ use Rattle.std.proofs.lemmas.List.{reverse-append}
 use Rattle.std.proofs.lemmas.List.Elements.{filter-append}
 use Rattle.std.proofs.lemmas.List.Folds.{list_all-append}
 use Rattle.lw_words.specs.Lines.{LogicalLine}
-use Rattle.lw_blif.specs.declared.command.Command.{Command}
-use Rattle.lw_blif.specs.declared.command.Command.TheVariants.{Model, Inputs, Outputs, Names, Latch, Arrival, DefaultArrival, End, Ignored, Unsupported, Unknown, Row}
+use Rattle.lw_blif_text.specs.declared.command.Command.{Command}
+use Rattle.lw_blif_text.specs.declared.command.Command.TheVariants.{Model, Inputs, Outputs, Names, Latch, Arrival, DefaultArrival, End, Ignored, Gate, Certificate, Unsupported, Unknown, Plain as Row}
 use Rattle.lw_blif.specs.LineFaults.{command, is_row_command, is_names_command, is_row, is_names, is_ignored, nearest, rows_before, node_before}
 use Rattle.lw_blif.specs.Drafts.{node_of, nodes_of}
 use Rattle.lw_blif.specs.Readers.{whole_nodes}
@@ -145,7 +145,9 @@ nodes_of-none (row ∷ rows) none = at_first (is_row row) refl none (nodes_of-no
     no_names End e = cc
     no_names Ignored e = cc
     no_names Unsupported e = cc
+    no_names Gate e = cc
     no_names Unknown e = cc
+    no_names Certificate e = cc
 
     at_first : (b : Bool) → is_row row ≡ b → (is_row row && list_all is_row rows) ≡ true → (list_all is_row rows ≡ true → nodes_of rows ≡ []) → cond (is_names row) (node_of row (front is_row rows) ∷ nodes_of rows) (nodes_of rows) ≡ []
     at_first true e pass others =
@@ -186,7 +188,9 @@ names-no_row DefaultArrival e = refl
 names-no_row End e = refl
 names-no_row Ignored e = refl
 names-no_row Unsupported e = refl
+names-no_row Gate e = refl
 names-no_row Unknown e = refl
+names-no_row Certificate e = refl
 
 drop-sum : {A : Type 0} (n m : ℕ) (xs : List A) → drop (n + m) xs ≡ drop m (drop n xs)
 drop-sum zero m xs = let same : 0 + m ≡ m = omega arith in ap (λ k. drop k xs) same

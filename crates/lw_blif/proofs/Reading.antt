@@ -4,8 +4,8 @@ use Rattle.std.specs.List.{flat_map}
 use Rattle.lw_net.specs.declared.draft.DraftNode.{DraftNode}
 use Rattle.lw_words.specs.Lines.{LogicalLine}
 use Rattle.lw_blif.specs.declared.parts.Parts.{Parts}
-use Rattle.lw_blif.specs.declared.command.Command.{Command}
-use Rattle.lw_blif.specs.declared.command.Command.TheVariants.{Model, Inputs, Outputs, Names, Latch, Arrival, DefaultArrival, End, Ignored, Unsupported, Unknown, Row}
+use Rattle.lw_blif_text.specs.declared.command.Command.{Command}
+use Rattle.lw_blif_text.specs.declared.command.Command.TheVariants.{Model, Inputs, Outputs, Names, Latch, Arrival, DefaultArrival, End, Ignored, Gate, Certificate, Unsupported, Unknown, Plain as Row}
 use Rattle.lw_blif.specs.declared.fault.BlifKind.{BlifKind}
 use Rattle.lw_blif.specs.declared.fault.BlifKind.TheVariants as kind
 use Rattle.lw_blif.specs.LineFaults.{is_names_command, arrival_rules, command, other_words, is_ignored_command, is_row_command, wants_words, name_rules, rules_for, first_broken, line_fault, defined_for, node_before, rows_before, defined_by}
@@ -68,7 +68,9 @@ rules-names DefaultArrival node rows defined words is = absurd is
 rules-names Ignored node rows defined words is = absurd is
 rules-names End node rows defined words is = absurd is
 rules-names Unsupported node rows defined words is = absurd is
+rules-names Gate node rows defined words is = absurd is
 rules-names Unknown node rows defined words is = absurd is
+rules-names Certificate node rows defined words is = absurd is
 rules-names Row node rows defined words is = absurd is
 
 pub names-fault : (old : Parts) (lines : List LogicalLine) (line : LogicalLine) (c : Command) (fault : Option BlifKind) → IsNamesLine c → c ≡ command line → line.long ≡ false → fault ≡ names_fault old c line.words → Keeps old lines → fault ≡ line_fault lines line
@@ -88,7 +90,9 @@ names-shape DefaultArrival is = absurd is
 names-shape Ignored is = absurd is
 names-shape End is = absurd is
 names-shape Unsupported is = absurd is
+names-shape Gate is = absurd is
 names-shape Unknown is = absurd is
+names-shape Certificate is = absurd is
 names-shape Row is = absurd is
 
 says-no-arrival : (c : Command) (words : List (List ℕ)) → IsNamesLine c → arrivals_for c words ≡ []
@@ -102,7 +106,9 @@ says-no-arrival DefaultArrival words is = absurd is
 says-no-arrival Ignored words is = absurd is
 says-no-arrival End words is = absurd is
 says-no-arrival Unsupported words is = absurd is
+says-no-arrival Gate words is = absurd is
 says-no-arrival Unknown words is = absurd is
+says-no-arrival Certificate words is = absurd is
 says-no-arrival Row words is = absurd is
 
 pub names-keeps : (old new : Parts) (lines : List LogicalLine) (line : LogicalLine) (c : Command) → IsNamesLine c → c ≡ command line → ReadsNames old c line.words new → Keeps old lines → Keeps new (lines ++ line ∷ [])
@@ -144,7 +150,9 @@ arrival-shape Latch is = absurd is
 arrival-shape Ignored is = absurd is
 arrival-shape End is = absurd is
 arrival-shape Unsupported is = absurd is
+arrival-shape Gate is = absurd is
 arrival-shape Unknown is = absurd is
+arrival-shape Certificate is = absurd is
 arrival-shape Row is = absurd is
 
 -- what an arrival line says of names: nothing
@@ -167,7 +175,9 @@ says-arrival Latch words is = absurd is
 says-arrival Ignored words is = absurd is
 says-arrival End words is = absurd is
 says-arrival Unsupported words is = absurd is
+says-arrival Gate words is = absurd is
 says-arrival Unknown words is = absurd is
+says-arrival Certificate words is = absurd is
 says-arrival Row words is = absurd is
 
 rules-arrival : (c : Command) (node rows : List LogicalLine) (defined words : List (List ℕ)) → IsArrivalLine c → rules_for node rows defined c words ≡ arrival_rules c words
@@ -181,7 +191,9 @@ rules-arrival Latch node rows defined words is = absurd is
 rules-arrival Ignored node rows defined words is = absurd is
 rules-arrival End node rows defined words is = absurd is
 rules-arrival Unsupported node rows defined words is = absurd is
+rules-arrival Gate node rows defined words is = absurd is
 rules-arrival Unknown node rows defined words is = absurd is
+rules-arrival Certificate node rows defined words is = absurd is
 rules-arrival Row node rows defined words is = absurd is
 
 pub arrival-fault : (lines : List LogicalLine) (line : LogicalLine) (c : Command) (fault : Option BlifKind) → IsArrivalLine c → c ≡ command line → line.long ≡ false → fault ≡ first_broken (arrival_rules c line.words) → fault ≡ line_fault lines line
@@ -221,20 +233,28 @@ unknown-fault lines line e short = sym (fault-of lines line Unknown e short)
 pub unsupported-fault : (lines : List LogicalLine) (line : LogicalLine) → Unsupported ≡ command line → line.long ≡ false → Some kind.Unsupported ≡ line_fault lines line
 unsupported-fault lines line e short = sym (fault-of lines line Unsupported e short)
 
+pub gate-fault : (lines : List LogicalLine) (line : LogicalLine) → Gate ≡ command line → line.long ≡ false → Some kind.Unsupported ≡ line_fault lines line
+gate-fault lines line e short = sym (fault-of lines line Gate e short)
+
+pub certificate-fault : (lines : List LogicalLine) (line : LogicalLine) → Certificate ≡ command line → line.long ≡ false → Some kind.UnknownCommand ≡ line_fault lines line
+certificate-fault lines line e short = sym (fault-of lines line Certificate e short)
+
 -- any other command is one of names
-pub names-left : (c : Command) → (c ≡ End → ⊥) → (c ≡ Ignored → ⊥) → (c ≡ Unsupported → ⊥) → (c ≡ Unknown → ⊥) → (c ≡ Row → ⊥) → (c ≡ Arrival → ⊥) → (c ≡ DefaultArrival → ⊥) → IsNamesLine c
-names-left Model e i s k r a d = tt
-names-left Inputs e i s k r a d = tt
-names-left Outputs e i s k r a d = tt
-names-left Names e i s k r a d = tt
-names-left Latch e i s k r a d = tt
-names-left Arrival e i s k r a d = absurd (a refl)
-names-left DefaultArrival e i s k r a d = absurd (d refl)
-names-left End e i s k r a d = absurd (e refl)
-names-left Ignored e i s k r a d = absurd (i refl)
-names-left Unsupported e i s k r a d = absurd (s refl)
-names-left Unknown e i s k r a d = absurd (k refl)
-names-left Row e i s k r a d = absurd (r refl)
+pub names-left : (c : Command) → (c ≡ End → ⊥) → (c ≡ Ignored → ⊥) → (c ≡ Gate → ⊥) → (c ≡ Certificate → ⊥) → (c ≡ Unsupported → ⊥) → (c ≡ Unknown → ⊥) → (c ≡ Row → ⊥) → (c ≡ Arrival → ⊥) → (c ≡ DefaultArrival → ⊥) → IsNamesLine c
+names-left Model e i g t s k r a d = tt
+names-left Inputs e i g t s k r a d = tt
+names-left Outputs e i g t s k r a d = tt
+names-left Names e i g t s k r a d = tt
+names-left Latch e i g t s k r a d = tt
+names-left Arrival e i g t s k r a d = absurd (a refl)
+names-left DefaultArrival e i g t s k r a d = absurd (d refl)
+names-left End e i g t s k r a d = absurd (e refl)
+names-left Ignored e i g t s k r a d = absurd (i refl)
+names-left Unsupported e i g t s k r a d = absurd (s refl)
+names-left Gate e i g t s k r a d = absurd (g refl)
+names-left Unknown e i g t s k r a d = absurd (k refl)
+names-left Certificate e i g t s k r a d = absurd (t refl)
+names-left Row e i g t s k r a d = absurd (r refl)
 
 -- a line of any other command defines no signal
 pub defines-none : (c : Command) (words : List (List ℕ)) → (c ≡ Inputs → ⊥) → (c ≡ Names → ⊥) → (c ≡ Latch → ⊥) → defined_for c words ≡ []
@@ -248,5 +268,7 @@ defines-none DefaultArrival words i n l = refl
 defines-none End words i n l = refl
 defines-none Ignored words i n l = refl
 defines-none Unsupported words i n l = refl
+defines-none Gate words i n l = refl
 defines-none Unknown words i n l = refl
+defines-none Certificate words i n l = refl
 defines-none Row words i n l = refl

@@ -13,8 +13,8 @@ use Rattle.lw_facts.proofs.Lists.{bytes_eq_turned}
 use Rattle.lw_words.specs.Lines.{LogicalLine}
 use Rattle.lw_net.specs.declared.draft.DraftNode.{DraftNode}
 use Rattle.lw_net.specs.Closing.{IsDraft, out_of}
-use Rattle.lw_blif.specs.declared.command.Command.{Command}
-use Rattle.lw_blif.specs.declared.command.Command.TheVariants.{Model, Inputs, Outputs, Names, Latch, Arrival, DefaultArrival, End, Ignored, Unsupported, Unknown, Row}
+use Rattle.lw_blif_text.specs.declared.command.Command.{Command}
+use Rattle.lw_blif_text.specs.declared.command.Command.TheVariants.{Model, Inputs, Outputs, Names, Latch, Arrival, DefaultArrival, End, Ignored, Gate, Certificate, Unsupported, Unknown, Plain as Row}
 use Rattle.lw_blif.specs.declared.fault.BlifKind.{BlifKind}
 use Rattle.lw_blif.specs.declared.fault.BlifKind.TheVariants as kind
 use Rattle.lw_blif.specs.LineFaults.{command, last_word, other_words, is_row_command, is_names_command, is_ignored_command, is_row, is_names, is_ignored, defined_for, defined_on, defined_by, fanins_on, nearest, rows_before, node_before, has_shape, is_column, is_value, first_broken, row_rules, name_rules, rules_for, wants_words, line_fault, first_fault, differs_from}
@@ -202,7 +202,9 @@ sound-more lines line none h = by_command (command line) refl (short line.long (
     by_command Row e b = sound-row lines line e (fit (node_before lines) (rows_before lines) line.words b) h
     by_command Ignored e b = sound-ignored lines line e h
     by_command Unknown e b = cc
+    by_command Certificate e b = cc
     by_command Unsupported e b = cc
+    by_command Gate e b = cc
     by_command Model e b = sound-names Model lines line e refl refl (fit-both (defined_by lines) Model line.words b) h
     by_command Inputs e b = sound-names Inputs lines line e refl refl (fit-both (defined_by lines) Inputs line.words b) h
     by_command Outputs e b = sound-names Outputs lines line e refl refl (fit-both (defined_by lines) Outputs line.words b) h
@@ -251,7 +253,9 @@ defined-parts DefaultArrival words = refl
 defined-parts End words = refl
 defined-parts Ignored words = refl
 defined-parts Unsupported words = refl
+defined-parts Gate words = refl
 defined-parts Unknown words = refl
+defined-parts Certificate words = refl
 defined-parts Row words = refl
 
 -- what latches give
@@ -287,7 +291,9 @@ outs-are (line ∷ lines) =
     first End = refl
     first Ignored = refl
     first Unsupported = refl
+    first Gate = refl
     first Unknown = refl
+    first Certificate = refl
     first Row = refl
 
 pub signals-are : (lines : List LogicalLine) → IsPermutation (defined_by lines) (input_names (flat_map inputs_on lines) (flat_map latches_on lines) ++ map out_of (nodes_of (filter (λ line. not (is_ignored line)) lines)))

@@ -8,9 +8,9 @@ use Rattle.lw_net.specs.Closing.{IsClosed}
 use Rattle.lw_net.specs.declared.draft.Draft.{Draft}
 use Rattle.lw_net.specs.declared.draft.DraftNode.{DraftNode}
 use Rattle.lw_blif.specs.declared.parsed.Parsed.{Parsed}
-use Rattle.lw_blif.specs.declared.command.Command.{Command}
-use Rattle.lw_blif.specs.declared.command.Command.TheVariants as asks
-use Rattle.lw_blif.specs.declared.command.Command.TheVariants.{Model, Inputs, Outputs}
+use Rattle.lw_blif_text.specs.declared.command.Command.{Command}
+use Rattle.lw_blif_text.specs.declared.command.Command.TheVariants as asks
+use Rattle.lw_blif_text.specs.declared.command.Command.TheVariants.{Model, Inputs, Outputs}
 use Rattle.lw_blif.specs.LineFaults.{last_word, other_words, command, is_row, is_names, is_ignored, fanins_on}
 use Rattle.lw_blif.specs.LineFaults.{times_for, start_in}
 use Rattle.lw_fixed.specs.declared.micro.Micro.{Micro}

@@ -3,9 +3,9 @@ use Rattle.std.specs.Prelude.{⊤, ℕ, Bool, true, ◌≤◌, length, ◌≡◌
 use Rattle.std.specs.Prelude.{option_to_list, if◌then◌else◌}
 use Rattle.std.specs.Str.{bytes_eq}
 use Rattle.indexmap.specs.IndexSet.{insert_all}
-use Rattle.lw_blif.specs.declared.command.Command.{Command}
-use Rattle.lw_blif.specs.declared.command.Command.TheVariants.{Model, Inputs, Outputs, Names, Latch, Arrival}
-use Rattle.lw_blif.specs.declared.command.Command.TheVariants.{DefaultArrival}
+use Rattle.lw_blif_text.specs.declared.command.Command.{Command}
+use Rattle.lw_blif_text.specs.declared.command.Command.TheVariants.{Model, Inputs, Outputs, Names, Latch, Arrival}
+use Rattle.lw_blif_text.specs.declared.command.Command.TheVariants.{DefaultArrival}
 use Rattle.lw_blif.specs.LineFaults.{other_words, is_names_command, defined_for, first_fault, first_broken}
 use Rattle.lw_blif.specs.LineFaults.{arrival_rules}
 use Rattle.lw_blif.specs.declared.fault.BlifKind.{BlifKind}

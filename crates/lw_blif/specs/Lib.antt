@@ -1,5 +1,4 @@
 pub mod BlifNetworks
-pub mod Commands
 pub mod Drafts
 pub mod Given
 pub mod Keeping

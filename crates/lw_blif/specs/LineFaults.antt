@@ -5,12 +5,13 @@ use Rattle.std.specs.Prelude.{if◌then◌else◌, codes}
 use Rattle.std.specs.List.{list_any, list_all, flat_map}
 use Rattle.std.specs.Str.{bytes_eq}
 use Rattle.lw_words.specs.Lines.{LogicalLine}
-use Rattle.lw_blif.specs.declared.command.Command.{Command}
-use Rattle.lw_blif.specs.declared.command.Command.TheVariants.{Model, Inputs, Outputs, Names, Latch, Arrival}
-use Rattle.lw_blif.specs.declared.command.Command.TheVariants.{DefaultArrival, End, Ignored, Unsupported, Unknown, Row}
+use Rattle.lw_blif_text.specs.declared.command.Command.{Command}
+use Rattle.lw_blif_text.specs.declared.command.Command.TheVariants.{Model, Inputs, Outputs, Names, Latch, Arrival}
+use Rattle.lw_blif_text.specs.declared.command.Command.TheVariants.{DefaultArrival, Ignored, Gate, Certificate, Unsupported}
+use Rattle.lw_blif_text.specs.declared.command.Command.TheVariants.{Unknown, Plain as Row}
 use Rattle.lw_blif.specs.declared.fault.BlifKind.{BlifKind}
 use Rattle.lw_blif.specs.declared.fault.BlifKind.TheVariants as kind
-use Rattle.lw_blif.specs.Commands.{command_of}
+use Rattle.lw_blif_text.specs.Commands.{point_command, ends}
 use Rattle.lw_fixed.specs.declared.micro.Micro.{Micro}
 use Rattle.lw_fixed.specs.declared.fault.DecimalFault.{DecimalFault}
 use Rattle.lw_fixed.specs.declared.fault.DecimalFault.TheVariants.{Shape}
@@ -18,7 +19,7 @@ use Rattle.lw_frame.specs.Starts.{start_said}
 use Rattle.lw_frame.specs.Ending.{lines_until, has_end}
 use Rattle.lw_blif_text.specs.FirstFaults as faults
 use Rattle.lw_blif_text.specs.FirstFaults.{first_fault_by}
-use Rattle.lw_words.specs.Words.{is_among, first_word, front, is_name}
+use Rattle.lw_words.specs.Words.{is_among, first_word, has_point, front, is_name}
 use Rattle.lw_pool.specs.Numbers.{most_signals}
 
 -- Words.
@@ -40,6 +41,10 @@ has_twice [] = false
 has_twice (word ∷ words) = is_among words word || has_twice words
 
 -- What lines are.
+
+-- what a first word asks for: one that is no command begins a row of a node
+unfoldable pub command_of : List ℕ → Command
+command_of word = if has_point word then point_command word else Row
 
 abbrev pub command : LogicalLine → Command
 command line = command_of (first_word line.words)
@@ -66,12 +71,6 @@ abbrev pub is_ignored : LogicalLine → Bool
 is_ignored line = is_ignored_command (command line)
 
 -- The end of a reading.
-
--- The command ends the reading: a model does so where it is not on the first line.
-abbrev pub ends : Bool → Command → Bool
-ends first End = true
-ends first Model = not first
-ends first other = false
 
 abbrev pub goes_on : LogicalLine → Bool
 goes_on line = not (ends false (command line))
@@ -229,6 +228,8 @@ arrival_rules c words =
 abbrev pub rules_for : List LogicalLine → List LogicalLine → List (List ℕ) → Command → List (List ℕ) → List Rule
 rules_for node rows defined Unknown words = record { broken = true; kind = kind.UnknownCommand } ∷ []
 rules_for node rows defined Unsupported words = record { broken = true; kind = kind.Unsupported } ∷ []
+rules_for node rows defined Gate words = record { broken = true; kind = kind.Unsupported } ∷ []
+rules_for node rows defined Certificate words = record { broken = true; kind = kind.UnknownCommand } ∷ []
 rules_for node rows defined Row words = row_rules node rows words
 rules_for node rows defined Ignored words = []
 rules_for node rows defined Arrival words = arrival_rules Arrival words

@@ -10,7 +10,7 @@ use Rattle.lw_blif.specs.declared.fault.BlifKind.TheVariants as kind
 use Rattle.lw_blif.specs.LineFaults.{most_rows, most_fanins, defined_by, last_word, has_shape, nearest, rows_before}
 use Rattle.lw_blif.specs.LineFaults.{node_before, wants_words, names_for, defined_for, is_names_command}
 use Rattle.lw_blif.specs.LineFaults.{words_before_last, other_words, times_for, start_in}
-use Rattle.lw_blif.specs.declared.command.Command.{Command}
+use Rattle.lw_blif_text.specs.declared.command.Command.{Command}
 use Rattle.std.specs.List.{list_all, flat_map}
 use Rattle.lw_blif.specs.Drafts.{nodes_of, node_of, columns_of, model_on, inputs_on, outputs_on, latches_on}
 use Rattle.lw_blif.specs.Drafts.{arrivals_on}

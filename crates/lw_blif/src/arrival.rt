@@ -8,7 +8,8 @@ ghost use Rattle.lw_blif.specs.Readers.{start_said_on};
 
 use crate::lengths::ArrivalLine;
 use crate::rules::{has_names, wants_words};
-use crate::{BlifKind, Command};
+use crate::BlifKind;
+use lw_blif_text::Command;
 use lw_fixed::Micro;
 use lw_frame::{Arrivals, read_start};
 use lw_pool::Name;

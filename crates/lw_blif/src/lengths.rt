@@ -2,7 +2,7 @@
 ghost use Rattle.std.specs.Prelude.{◌≡◌, ◌≤◌, true, length};
 ghost use Rattle.lw_blif.specs.LineFaults.{is_arrival_command, wants_words};
 
-use crate::Command;
+use lw_blif_text::Command;
 use lw_words::Words;
 
 /// The words of a line of names, as many as its command wants.

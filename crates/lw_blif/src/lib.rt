@@ -34,7 +34,6 @@ mod reader;
 mod rows;
 mod rules;
 
-pub use command::Command;
 pub use fault::{BlifFault, BlifKind};
 pub use laws::model_is_network;
 pub use parsed::Parsed;

@@ -12,8 +12,9 @@ use crate::lengths::{ArrivalLine, LatchLine, LongLine, NamesLine};
 use crate::naming::last_word;
 use crate::rows::row_fault;
 use crate::rules::names_fault;
-use crate::{BlifFault, BlifKind, Command, Parsed};
+use crate::{BlifFault, BlifKind, Parsed};
 use indexmap::IndexSet;
+use lw_blif_text::Command;
 use lw_frame::Arrivals;
 use lw_net::{Draft, DraftNode, DraftNodes, Network, closed_is_network};
 use lw_pool::{Frame, Latches, Name, Names};
@@ -155,9 +156,11 @@ impl Parts {
         }
         let words = &line.words;
         match asked {
-            Command::Row => self.read_row(words),
+            Command::Plain => self.read_row(words),
             Command::Unknown => Ok(Some(BlifKind::UnknownCommand)),
             Command::Unsupported => Ok(Some(BlifKind::Unsupported)),
+            Command::Gate => Ok(Some(BlifKind::Unsupported)),
+            Command::Certificate => Ok(Some(BlifKind::UnknownCommand)),
             Command::Ignored => Ok(None),
             Command::Arrival => {
                 let one = ArrivalLine {

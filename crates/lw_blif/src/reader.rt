@@ -6,7 +6,7 @@ ghost use Rattle.lw_blif.specs.Standing.{fault_of};
 use crate::command::command_of;
 use crate::naming::first_word;
 use crate::parts::Parts;
-use crate::{BlifFault, BlifKind, Command, Parsed};
+use crate::{BlifFault, BlifKind, Parsed};
 use lw_blif_text::Stop;
 use lw_words::Line;
 use std::alloc::Global;
@@ -18,21 +18,6 @@ fn fault_of(stop: Stop<BlifKind>) -> BlifFault
     match stop {
         Stop::Broken(number, kind) => BlifFault::Line(number, kind),
         Stop::Memory => BlifFault::Memory,
-    }
-}
-
-impl Command {
-    ghost use Rattle.lw_blif.specs.LineFaults.{ends};
-
-    // Whether the command ends the reading.
-    fn ends(self, first: bool) -> bool
-        ensures { result ≡ ends first self }
-    {
-        match self {
-            Command::End => true,
-            Command::Model => !first,
-            _ => false,
-        }
     }
 }
 

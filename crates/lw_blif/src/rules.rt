@@ -6,7 +6,8 @@ ghost use Rattle.lw_blif.specs.LineFaults.{words_before_last, other_words};
 ghost use Rattle.lw_blif.specs.Readers.{names_fault_of};
 ghost use Rattle.lw_words.specs.Words.{is_name};
 
-use crate::{BlifKind, Command};
+use crate::BlifKind;
+use lw_blif_text::Command;
 use lw_words::{Words, are_names, is_name};
 
 const FANINS_MAX: usize = 256;

@@ -1,2 +1,3 @@
+pub mod Commands
 pub mod FirstFaults
 pub mod Standing

@@ -14,8 +14,8 @@ use Rattle.lw_net.specs.Networks.{NetworkParts, input_names, output_names}
 use Rattle.lw_net.proofs.Closed.{closed_inputs, closed_outputs}
 use Rattle.lw_frame.specs.Frames.{each_once, read_by, output_of}
 use Rattle.lw_genlib.specs.Cells.{IsWord}
-use Rattle.lw_blif.specs.declared.command.Command.{Command}
-use Rattle.lw_blif.specs.declared.command.Command.TheVariants.{Model, Inputs, Outputs, Names, Latch as LatchLine, Arrival, DefaultArrival, End, Ignored, Unsupported, Unknown, Row}
+use Rattle.lw_blif_text.specs.declared.command.Command.{Command}
+use Rattle.lw_blif_text.specs.declared.command.Command.TheVariants.{Model, Inputs, Outputs, Names, Latch as LatchLine, Arrival, DefaultArrival, End, Ignored, Gate, Certificate, Unsupported, Unknown, Plain as Row}
 use Rattle.lw_blif.specs.declared.fault.BlifKind.{BlifKind}
 use Rattle.lw_blif.specs.declared.fault.BlifKind.TheVariants as kind
 use Rattle.lw_blif.specs.declared.parsed.Parsed.{Parsed}
@@ -82,7 +82,9 @@ line-fit before line none = by_command (command line) (short line.long (first_br
   where
     by_command : (c : Command) → first_broken (rules_for (node_before before) (rows_before before) (defined_by before) c line.words) ≡ None → IsFit c line.words
     by_command Unknown e = cc
+    by_command Certificate e = cc
     by_command Unsupported e = cc
+    by_command Gate e = cc
     by_command Row e = record { names = refl; count = refl }
     by_command Ignored e = record { names = refl; count = refl }
     by_command Arrival e = fit-arrival Arrival line.words e

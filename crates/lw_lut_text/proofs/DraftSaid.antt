@@ -11,10 +11,11 @@ use Rattle.lw_words.specs.Lines.{LogicalLine}
 use Rattle.lw_frame.specs.Frames.{Fits, each_once, frame_of, input_names, output_of, root_names}
 use Rattle.lw_frame.specs.Starts.{at_once, start_of, starts_of}
 use Rattle.lw_frame.proofs.Once.{once-distinct, roots_differ}
-use Rattle.lw_blif.specs.declared.command.Command.{Command}
-use Rattle.lw_blif.specs.declared.command.Command.TheVariants.{Model, Inputs, Outputs, Names, Row}
-use Rattle.lw_blif.specs.declared.command.Command.TheVariants as asks
-use Rattle.lw_blif.specs.LineFaults.{command, other_words, ends, goes_on, is_ignored, is_ignored_command, lines_read}
+use Rattle.lw_blif_text.specs.declared.command.Command.{Command}
+use Rattle.lw_blif_text.specs.declared.command.Command.TheVariants.{Model, Inputs, Outputs, Names, Plain as Row}
+use Rattle.lw_blif_text.specs.declared.command.Command.TheVariants as asks
+use Rattle.lw_blif.specs.LineFaults.{command, other_words, goes_on, is_ignored, is_ignored_command, lines_read}
+use Rattle.lw_blif_text.specs.Commands.{ends}
 use Rattle.lw_blif.specs.Drafts.{model_for, inputs_for, outputs_for, latches_for, arrivals_for, model_on, inputs_on, outputs_on, latches_on, arrivals_on, nodes_of, draft_of, frame_on, starts_on}
 use Rattle.lw_lut.specs.Nets.{PlainTableNet}
 use Rattle.lw_lut_text.specs.Said.{draft_said, table_node, wire_nodes}
@@ -67,7 +68,9 @@ module _ {A : Type 0} (f : Command → Words → List A) where
     none_of asks.End words i = absurd i
     none_of asks.Ignored words i = absurd i
     none_of asks.Unsupported words i = absurd i
+    none_of asks.Gate words i = absurd i
     none_of asks.Unknown words i = absurd i
+    none_of asks.Certificate words i = absurd i
 
     none_in : (lines : List Words) → Each OfNode lines → of_kind lines ≡ []
     none_in [] each = refl

@@ -12,8 +12,8 @@ use Rattle.lw_pool.specs.declared.latch.Frame.{Frame}
 use Rattle.lw_pool.specs.declared.latch.Latch.{Latch}
 use Rattle.lw_frame.specs.Frames.{output_of}
 use Rattle.lw_laws.proofs.Lists.{all_append}
-use Rattle.lw_blif.specs.declared.command.Command.TheVariants.{Model, Inputs, Outputs, Names}
-use Rattle.lw_blif.specs.declared.command.Command.TheVariants as asks
+use Rattle.lw_blif_text.specs.declared.command.Command.TheVariants.{Model, Inputs, Outputs, Names}
+use Rattle.lw_blif_text.specs.declared.command.Command.TheVariants as asks
 use Rattle.lw_blif.specs.LineFaults.{other_words, words_before_last, has_twice}
 use Rattle.lw_lut.specs.Nets.{PlainTableNet}
 use Rattle.lw_lut_text.specs.Readable.{IsSayable, AreUnlimited}

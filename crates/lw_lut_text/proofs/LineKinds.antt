@@ -14,11 +14,13 @@ use Rattle.lw_pool.specs.declared.id.ClassId.{ClassId}
 use Rattle.lw_pool.specs.declared.latch.Frame.{Frame}
 use Rattle.lw_pool.specs.declared.latch.Latch.{Latch}
 use Rattle.lw_laws.proofs.Lists.{all_append}
-use Rattle.lw_blif.specs.declared.command.Command.{Command}
-use Rattle.lw_blif.specs.declared.command.Command.TheVariants.{Model, Inputs, Outputs, Names, Arrival, DefaultArrival, End, Ignored, Unsupported, Unknown, Row}
-use Rattle.lw_blif.specs.declared.command.Command.TheVariants as asks
-use Rattle.lw_blif.specs.Commands.{command_of, point_command}
-use Rattle.lw_blif.specs.LineFaults.{last_word, ends, is_column, is_value, has_shape, is_ignored_command}
+use Rattle.lw_blif_text.specs.declared.command.Command.{Command}
+use Rattle.lw_blif_text.specs.declared.command.Command.TheVariants.{Model, Inputs, Outputs, Names, Arrival, DefaultArrival, End, Ignored, Gate, Certificate, Unsupported, Unknown, Plain as Row}
+use Rattle.lw_blif_text.specs.declared.command.Command.TheVariants as asks
+use Rattle.lw_blif.specs.LineFaults.{command_of}
+use Rattle.lw_blif_text.specs.Commands.{point_command, port_command}
+use Rattle.lw_blif.specs.LineFaults.{last_word, is_column, is_value, has_shape, is_ignored_command}
+use Rattle.lw_blif_text.specs.Commands.{ends}
 use Rattle.lw_lut.specs.Cuts.{is_set}
 use Rattle.lw_lut.specs.Nets.{PlainTableNet}
 use Rattle.lw_lut.specs.Texts.{binary, is_buffer, net_name}
@@ -32,15 +34,15 @@ asks_for words = command_of (first_word words)
 -- First words.
 
 pub asks_model : command_of (codes ".model") ≡ Model
-unfolding command_of point_command
+unfolding command_of point_command port_command
 asks_model = refl
 
 pub asks_inputs : command_of (codes ".inputs") ≡ Inputs
-unfolding command_of point_command
+unfolding command_of point_command port_command
 asks_inputs = refl
 
 pub asks_outputs : command_of (codes ".outputs") ≡ Outputs
-unfolding command_of point_command
+unfolding command_of point_command port_command
 asks_outputs = refl
 
 pub asks_names : command_of (codes ".names") ≡ Names
@@ -167,7 +169,9 @@ inner_goes DefaultArrival i = absurd i
 inner_goes End i = absurd i
 inner_goes Ignored i = absurd i
 inner_goes Unsupported i = absurd i
+inner_goes Gate i = absurd i
 inner_goes Unknown i = absurd i
+inner_goes Certificate i = absurd i
 
 pub inner_kept : (c : Command) → IsInner c → is_ignored_command c ≡ false
 inner_kept Inputs i = refl
@@ -181,7 +185,9 @@ inner_kept DefaultArrival i = absurd i
 inner_kept End i = absurd i
 inner_kept Ignored i = absurd i
 inner_kept Unsupported i = absurd i
+inner_kept Gate i = absurd i
 inner_kept Unknown i = absurd i
+inner_kept Certificate i = absurd i
 
 -- the line of a node, or a row
 abbrev pub IsOfNode : Command → Type 0
@@ -201,7 +207,9 @@ of_node_inner DefaultArrival i = absurd i
 of_node_inner End i = absurd i
 of_node_inner Ignored i = absurd i
 of_node_inner Unsupported i = absurd i
+of_node_inner Gate i = absurd i
 of_node_inner Unknown i = absurd i
+of_node_inner Certificate i = absurd i
 
 abbrev pub OfNode : Words → Type 0
 OfNode words = IsOfNode (asks_for words)

@@ -8,8 +8,8 @@ use Rattle.std.proofs.lemmas.List.{map-append, length-append}
 use Rattle.lw_pool.specs.declared.id.ClassId.{ClassId}
 use Rattle.lw_words.specs.Lines.{LogicalLine}
 use Rattle.lw_net.specs.declared.draft.DraftNode.{DraftNode}
-use Rattle.lw_blif.specs.declared.command.Command.{Command}
-use Rattle.lw_blif.specs.declared.command.Command.TheVariants.{Names, Row}
+use Rattle.lw_blif_text.specs.declared.command.Command.{Command}
+use Rattle.lw_blif_text.specs.declared.command.Command.TheVariants.{Names, Plain as Row}
 use Rattle.lw_blif.specs.LineFaults.{last_word, other_words, words_before_last, is_row_command, is_names_command, is_row, is_ignored, is_ignored_command}
 use Rattle.lw_blif.specs.Drafts.{columns_of, is_off_row, row_of, nodes_of}
 use Rattle.lw_lut.specs.Cuts.{is_set}

@@ -6,9 +6,9 @@ use Rattle.std.proofs.lemmas.Bool.Decides.{nat_tests}
 use Rattle.std.proofs.lemmas.List.Elements.{All-from_recursion}
 use Rattle.std.proofs.lemmas.Slice.Eq.{bytes_eq-Decides}
 use Rattle.lw_words.specs.Lines.{LogicalLine, has_some}
-use Rattle.lw_blif.specs.declared.command.Command.{Command}
-use Rattle.lw_blif.specs.declared.command.Command.TheVariants.{Model, Inputs, Outputs, Names, Arrival, DefaultArrival, End, Ignored, Unsupported, Unknown, Row}
-use Rattle.lw_blif.specs.declared.command.Command.TheVariants as asks
+use Rattle.lw_blif_text.specs.declared.command.Command.{Command}
+use Rattle.lw_blif_text.specs.declared.command.Command.TheVariants.{Model, Inputs, Outputs, Names, Arrival, DefaultArrival, End, Ignored, Gate, Certificate, Unsupported, Unknown, Plain as Row}
+use Rattle.lw_blif_text.specs.declared.command.Command.TheVariants as asks
 use Rattle.lw_blif.specs.declared.fault.BlifKind.{BlifKind}
 use Rattle.lw_blif.specs.declared.fault.BlifKind.TheVariants as kind
 use Rattle.lw_blif.specs.Keeping.{IsNamesLine}
@@ -86,7 +86,9 @@ rules_of_names node rows defined DefaultArrival words i = absurd i
 rules_of_names node rows defined End words i = absurd i
 rules_of_names node rows defined Ignored words i = absurd i
 rules_of_names node rows defined Unsupported words i = absurd i
+rules_of_names node rows defined Gate words i = absurd i
 rules_of_names node rows defined Unknown words i = absurd i
+rules_of_names node rows defined Certificate words i = absurd i
 
 name_line : (before : List LogicalLine) (number : ℕ) (words : Words) (c : Command) → IsNamesLine c → asks_for words ≡ c → IsNameLine (defined_by before) c words → IsUnlimited before (record { number = number; long = false; words = words })
 name_line before number words c i e is =

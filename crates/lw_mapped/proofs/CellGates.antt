@@ -9,8 +9,8 @@ use Rattle.lw_words.specs.Lines.{LogicalLine}
 use Rattle.lw_genlib.specs.Cells.{CellParts}
 use Rattle.lw_named_netlist.specs.declared.draft.DraftGate.{DraftGate}
 use Rattle.lw_named_netlist.specs.Closing.{IsOfCell}
-use Rattle.lw_mapped.specs.declared.command.Command.{Command}
-use Rattle.lw_mapped.specs.declared.command.Command.TheVariants as command
+use Rattle.lw_blif_text.specs.declared.command.Command.{Command}
+use Rattle.lw_blif_text.specs.declared.command.Command.TheVariants as command
 use Rattle.lw_mapped.specs.declared.fault.MappedKind.{MappedKind}
 use Rattle.lw_mapped.specs.declared.saying.Saying.{Saying}
 use Rattle.lw_mapped.specs.declared.saying.Saying.TheVariants as saying
@@ -55,11 +55,12 @@ gates-alone cells command.Outputs words P none some = subst P (sym (none-said (f
 gates-alone cells command.Gate words P none some = some refl
 gates-alone cells command.Names words P none some = subst P (sym (none-said (fault_in (length words == 2) (are_names words)) (saying.Wire (record { from = first_word words; to = second_word words })) refl)) none
 gates-alone cells command.Latch words P none some = subst P (sym (none-said (fault_in (nat_le 2 (length words) && nat_le (length words) 5) (are_names words)) (saying.Latch (record { input = first_word words; output = second_word words; rest = drop 2 words })) refl)) none
-gates-alone cells command.InputArrival words P none some = subst P (sym (none-arrival words)) none
+gates-alone cells command.Arrival words P none some = subst P (sym (none-arrival words)) none
 gates-alone cells command.DefaultArrival words P none some = subst P (sym (none-default words)) none
 gates-alone cells command.Certificate words P none some = subst P (sym (none-certificate words)) none
 gates-alone cells command.Ignored words P none some = none
 gates-alone cells command.End words P none some = none
+gates-alone cells command.Unsupported words P none some = none
 gates-alone cells command.Unknown words P none some = none
 gates-alone cells command.Plain words P none some = none
 

@@ -4,11 +4,13 @@ use Rattle.std.specs.Prelude.{codes}
 use Rattle.std.specs.List.{flat_map, AllByRecursion as Each}
 use Rattle.lw_words.specs.Lines.{LogicalLine}
 use Rattle.lw_genlib.specs.Cells.{CellParts}
-use Rattle.lw_mapped.specs.declared.command.Command.{Command}
+use Rattle.lw_blif_text.specs.declared.command.Command.{Command}
 use Rattle.lw_mapped.specs.declared.saying.Saying.{Saying}
-use Rattle.lw_mapped.specs.Commands.{command_of, point_command}
+use Rattle.lw_mapped.specs.Commands.{command_of}
+use Rattle.lw_blif_text.specs.Commands.{point_command}
 use Rattle.lw_mapped.specs.Sayings.{words_say}
-use Rattle.lw_mapped.specs.LineFaults.{ends, goes_on, lines_read, is_names_command, is_row, wire_without_row, what_is_said, lines_say, told_fault, saying_fault, fault_behind, line_fault, first_fault, fault_else, text_fault}
+use Rattle.lw_mapped.specs.LineFaults.{goes_on, lines_read, is_names_command, is_row, wire_without_row, what_is_said, lines_say, told_fault, saying_fault, fault_behind, line_fault, first_fault, fault_else, text_fault}
+use Rattle.lw_blif_text.specs.Commands.{ends}
 use Rattle.lw_blif_text.specs.FirstFaults.{fault_or, first_fault_by}
 use Rattle.lw_mapped.proofs.ReadingLemmas.{say-last, wire-last, row-says, row-wire, none-wire, none-say}
 use Rattle.lw_words.specs.Words.{first_word, front}

@@ -18,7 +18,8 @@ use Rattle.lw_netlist.specs.declared.gate.Gate.{Gate}
 use Rattle.lw_mapped.specs.declared.fault.MappedKind.{MappedKind}
 use Rattle.lw_mapped.specs.declared.fault.MappedKind.TheVariants as kind
 use Rattle.lw_mapped.specs.declared.saying.Saying.TheVariants as saying
-use Rattle.lw_mapped.specs.Commands.{command_of, point_command}
+use Rattle.lw_mapped.specs.Commands.{command_of}
+use Rattle.lw_blif_text.specs.Commands.{point_command}
 use Rattle.lw_mapped.specs.GateLines.{is_equals, formal_of, actual_of, is_for, gives, is_formal, tie_fault, first_tie_fault, or_missing, ties_fault, net_for, gate_of}
 use Rattle.lw_mapped.specs.Sayings.{said, gate_says, gate_says_in, gate_says_at, words_say}
 use Rattle.lw_mapped.specs.Texts.{net_name, tie, ties, gate_words}

@@ -13,8 +13,8 @@ use Rattle.lw_fixed.specs.declared.micro.Micro.{Micro}
 use Rattle.lw_frame.specs.Starts.{Arrival, IsEarly, starts_of}
 use Rattle.lw_genlib.specs.Cells.{CellParts}
 use Rattle.lw_pool.specs.declared.id.ClassId.{ClassId}
-use Rattle.lw_mapped.specs.declared.command.Command.{Command}
-use Rattle.lw_mapped.specs.declared.command.Command.TheVariants as command
+use Rattle.lw_blif_text.specs.declared.command.Command.{Command}
+use Rattle.lw_blif_text.specs.declared.command.Command.TheVariants as command
 use Rattle.lw_mapped.specs.declared.fault.MappedKind.{MappedKind}
 use Rattle.lw_mapped.specs.declared.fault.Refusal.{Refusal}
 use Rattle.lw_mapped.specs.declared.saying.Saying.{Saying}
@@ -67,11 +67,12 @@ fit-command cells command.Outputs words = fit-said (fault_in true (are_names wor
 fit-command cells command.Gate words = gate-all IsFit cells words (λ number cell at none. tt)
 fit-command cells command.Names words = fit-said (fault_in (length words == 2) (are_names words)) (saying.Wire (record { from = first_word words; to = second_word words })) tt
 fit-command cells command.Latch words = fit-said (fault_in (nat_le 2 (length words) && nat_le (length words) 5) (are_names words)) (saying.Latch (record { input = first_word words; output = second_word words; rest = drop 2 words })) tt
-fit-command cells command.InputArrival words = arrival-all IsFit (λ name rise fall start e. said_early rise fall start e) words
+fit-command cells command.Arrival words = arrival-all IsFit (λ name rise fall start e. said_early rise fall start e) words
 fit-command cells command.DefaultArrival words = default-all IsFit said_early words
 fit-command cells command.Certificate words = fit-certificate words
 fit-command cells command.Ignored words = (tt, tt)
 fit-command cells command.End words = (tt, tt)
+fit-command cells command.Unsupported words = tt
 fit-command cells command.Unknown words = tt
 fit-command cells command.Plain words = tt
 

@@ -13,8 +13,8 @@ use Rattle.lw_frame.specs.Frames.{control_among, each_once, output_of, read_by}
 use Rattle.lw_frame.proofs.Once.{roots_differ}
 use Rattle.lw_genlib.specs.Cells.{CellParts}
 use Rattle.lw_mapped.specs.declared.closing.Mapped.{Mapped}
-use Rattle.lw_mapped.specs.declared.command.Command.{Command}
-use Rattle.lw_mapped.specs.declared.command.Command.TheVariants as command
+use Rattle.lw_blif_text.specs.declared.command.Command.{Command}
+use Rattle.lw_blif_text.specs.declared.command.Command.TheVariants as command
 use Rattle.lw_mapped.specs.declared.fault.MappedKind.{MappedKind}
 use Rattle.lw_mapped.specs.declared.saying.Saying.{Saying}
 use Rattle.lw_mapped.specs.declared.saying.Saying.TheVariants as saying
@@ -103,11 +103,12 @@ command-named cells command.Names words right = named-said (length words == 2) (
 command-named cells command.Latch words right =
     named-said (nat_le 2 (length words) && nat_le (length words) 5) (are_names words) (saying.Latch (record { input = first_word words; output = second_word words; rest = drop 2 words }))
     (λ few names. latch-named words few (signals words right names))
-command-named cells command.InputArrival words right = arrival-all IsNamedSaying (λ name rise fall start e. tt) words
+command-named cells command.Arrival words right = arrival-all IsNamedSaying (λ name rise fall start e. tt) words
 command-named cells command.DefaultArrival words right = default-all IsNamedSaying (λ rise fall start e. tt) words
 command-named cells command.Certificate words right = certificate-all IsNamedSaying (λ first second class label e f. tt) (λ first second class e. tt) words
 command-named cells command.Ignored words right = (tt, tt)
 command-named cells command.End words right = (tt, tt)
+command-named cells command.Unsupported words right = tt
 command-named cells command.Unknown words right = tt
 command-named cells command.Plain words right = tt
 

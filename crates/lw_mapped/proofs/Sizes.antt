@@ -12,8 +12,8 @@ use Rattle.lw_fixed.specs.declared.fault.DecimalFault.{DecimalFault}
 use Rattle.lw_fixed.specs.Decimals.{decimal_of}
 use Rattle.lw_frame.specs.Starts.{start_said}
 use Rattle.lw_genlib.specs.Cells.{CellParts, names_of}
-use Rattle.lw_mapped.specs.declared.command.Command.{Command}
-use Rattle.lw_mapped.specs.declared.command.Command.TheVariants as command
+use Rattle.lw_blif_text.specs.declared.command.Command.{Command}
+use Rattle.lw_blif_text.specs.declared.command.Command.TheVariants as command
 use Rattle.lw_mapped.specs.declared.fault.MappedKind.{MappedKind}
 use Rattle.lw_mapped.specs.declared.fault.MappedKind.TheVariants as kind
 use Rattle.lw_mapped.specs.declared.saying.Saying.{Saying}
@@ -23,7 +23,8 @@ use Rattle.lw_mapped.specs.GateLines.{ties_fault, gate_of}
 use Rattle.lw_mapped.specs.Limits.{label_units}
 use Rattle.lw_mapped.specs.Said.{inputs_in, outputs_in, latches_in, gates_in}
 use Rattle.lw_mapped.specs.Sayings.{said, fault_in, are_names, second_word, words_say, command_says, gate_says, gate_says_in, gate_says_at, latch_says, arrival_says, default_says, certificate_says, named_arrival, default_arrival, class_said, label_of, net_of}
-use Rattle.lw_mapped.specs.LineFaults.{line_says, lines_say, what_is_said, lines_read, goes_on, ends}
+use Rattle.lw_mapped.specs.LineFaults.{line_says, lines_say, what_is_said, lines_read, goes_on}
+use Rattle.lw_blif_text.specs.Commands.{ends}
 use Rattle.lw_mapped.specs.LineFaults as faults
 use Rattle.lw_mapped.specs.Standing.{word_count}
 use Rattle.lw_words.specs.Words.{first_word, front, is_name}
@@ -133,11 +134,12 @@ line-fits cells command.Outputs words = fits-said (fault_in true (are_names word
 line-fits cells command.Gate words = fits-gate cells words
 line-fits cells command.Names words = fits-said (fault_in (length words == 2) (are_names words)) (saying.Wire (record { from = first_word words; to = second_word words })) (length words) (λ e. omega arith)
 line-fits cells command.Latch words = fits-latch words
-line-fits cells command.InputArrival words = omega (arith, fits-arrival words)
+line-fits cells command.Arrival words = omega (arith, fits-arrival words)
 line-fits cells command.DefaultArrival words = omega (arith, fits-default words)
 line-fits cells command.Certificate words = omega (arith, fits-certificate words)
 line-fits cells command.Ignored words = omega arith
 line-fits cells command.End words = omega arith
+line-fits cells command.Unsupported words = omega arith
 line-fits cells command.Unknown words = omega arith
 line-fits cells command.Plain words = omega arith
 

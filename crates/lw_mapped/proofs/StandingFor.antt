@@ -17,7 +17,8 @@ use Rattle.lw_mapped.specs.declared.fault.Refusal.TheVariants as refusal
 use Rattle.lw_mapped.specs.declared.saying.Saying.{Saying}
 use Rattle.lw_mapped.specs.Parsed.{TellsFault}
 use Rattle.lw_mapped.specs.Unmapped.{ComesTo, ClosesTo}
-use Rattle.lw_mapped.specs.LineFaults.{ends_on, FaultAt, fault_else, text_fault, wire_without_row, line_fault, first_fault, lines_read, ends, command}
+use Rattle.lw_mapped.specs.LineFaults.{ends_on, FaultAt, fault_else, text_fault, wire_without_row, line_fault, first_fault, lines_read, command}
+use Rattle.lw_blif_text.specs.Commands.{ends}
 use Rattle.lw_mapped.specs.Standing.{IsKept, KeepsLines, Tells, fault_of, stop_at}
 
 -- Behind a fault.

@@ -11,19 +11,21 @@ use Rattle.std.proofs.lemmas.Bool.{and_parts, not-false}
 use Rattle.lw_words.specs.Lines.{LogicalLine, weight, lines_weight}
 use Rattle.lw_genlib.specs.Cells.{CellParts, IsLibrary, IsListed, names_of}
 use Rattle.lw_mapped.specs.declared.closing.Mapped.{Mapped}
-use Rattle.lw_mapped.specs.declared.command.Command.TheVariants as command
+use Rattle.lw_blif_text.specs.declared.command.Command.TheVariants as command
 use Rattle.lw_mapped.specs.declared.fault.MappedFault.{MappedFault}
 use Rattle.lw_mapped.specs.declared.fault.MappedKind.{MappedKind}
 use Rattle.lw_mapped.specs.declared.fault.MappedKind.TheVariants as kind
 use Rattle.lw_mapped.specs.declared.saying.Saying.{Saying}
 use Rattle.lw_mapped.specs.declared.saying.Saying.TheVariants as saying
 use Rattle.lw_mapped.specs.Closings.{HasFewGates}
-use Rattle.lw_mapped.specs.Commands.{command_of, point_command, port_command, other_command}
+use Rattle.lw_mapped.specs.Commands.{command_of}
+use Rattle.lw_blif_text.specs.Commands.{point_command, port_command, other_command, is_unsupported_word}
 use Rattle.lw_mapped.specs.GateLines.{is_equals, formal_of, actual_of, is_tie, ties_fault, gate_of}
 use Rattle.lw_mapped.specs.Limits.{gate_weight}
 use Rattle.lw_mapped.specs.Said.{gates_in}
 use Rattle.lw_mapped.specs.Sayings.{said, words_say, gate_says, gate_says_in, gate_says_at}
-use Rattle.lw_mapped.specs.LineFaults.{line_says, lines_say, lines_read, what_is_said, goes_on, ends}
+use Rattle.lw_mapped.specs.LineFaults.{line_says, lines_say, lines_read, what_is_said, goes_on}
+use Rattle.lw_blif_text.specs.Commands.{ends}
 use Rattle.lw_mapped.specs.LineFaults as faults
 use Rattle.lw_mapped.specs.Standing.{word_count}
 use Rattle.lw_mapped.specs.Unmapped.{ClosesTo}
@@ -37,17 +39,18 @@ use Rattle.lw_frame.specs.Ending.{lines_until}
 
 other-gate : (word : List ℕ) → other_command word ≡ command.Gate → ⊥
 unfolding other_command
-other-gate word e = by_case (is_ignored_word word) e
+other-gate word e = by_case (is_ignored_word word) (is_unsupported_word word) e
   where
-    by_case : (b : Bool) → cond b command.Ignored command.Unknown ≡ command.Gate → ⊥
-    by_case true h = cc
-    by_case false h = cc
+    by_case : (b u : Bool) → cond b command.Ignored (cond u command.Unsupported command.Unknown) ≡ command.Gate → ⊥
+    by_case true u h = cc
+    by_case false true h = cc
+    by_case false false h = cc
 
 port-gate : (word : List ℕ) → port_command word ≡ command.Gate → ⊥
 unfolding port_command
 port-gate word e = by_case (bytes_eq word (codes ".model")) (bytes_eq word (codes ".inputs")) (bytes_eq word (codes ".outputs")) (bytes_eq word (codes ".input_arrival")) (bytes_eq word (codes ".default_input_arrival")) e
   where
-    by_case : (m i o a d : Bool) → cond m command.Model (cond i command.Inputs (cond o command.Outputs (cond a command.InputArrival (cond d command.DefaultArrival (other_command word))))) ≡ command.Gate → ⊥
+    by_case : (m i o a d : Bool) → cond m command.Model (cond i command.Inputs (cond o command.Outputs (cond a command.Arrival (cond d command.DefaultArrival (other_command word))))) ≡ command.Gate → ⊥
     by_case true i o a d h = cc
     by_case false true o a d h = cc
     by_case false false true a d h = cc

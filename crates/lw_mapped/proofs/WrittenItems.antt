@@ -21,8 +21,9 @@ use Rattle.lw_pool.specs.declared.latch.Latch.{Latch}
 use Rattle.lw_words.specs.Gathering.{IsNoHash}
 use Rattle.lw_mapped.specs.declared.fault.MappedKind.TheVariants as kind
 use Rattle.lw_mapped.specs.declared.saying.Saying.TheVariants as saying
-use Rattle.lw_mapped.specs.Commands.{command_of, point_command, port_command}
-use Rattle.lw_mapped.specs.LineFaults.{ends}
+use Rattle.lw_mapped.specs.Commands.{command_of}
+use Rattle.lw_blif_text.specs.Commands.{point_command, port_command}
+use Rattle.lw_blif_text.specs.Commands.{ends}
 use Rattle.lw_mapped.specs.Limits.{label_units}
 use Rattle.lw_mapped.specs.Parsed.{IsLabel}
 use Rattle.lw_mapped.specs.Sayings.{said, fault_in, words_say, class_said, label_of, net_of, named_arrival}

@@ -5,12 +5,13 @@ use Rattle.std.specs.List.{flat_map}
 use Rattle.std.specs.Str.{bytes_eq}
 use Rattle.lw_words.specs.Lines.{LogicalLine}
 use Rattle.lw_genlib.specs.Cells.{CellParts}
-use Rattle.lw_mapped.specs.declared.command.Command.{Command}
-use Rattle.lw_mapped.specs.declared.command.Command.TheVariants.{Model, Names, End}
+use Rattle.lw_blif_text.specs.declared.command.Command.{Command}
+use Rattle.lw_blif_text.specs.declared.command.Command.TheVariants.{Names}
 use Rattle.lw_mapped.specs.declared.fault.MappedKind.{MappedKind}
 use Rattle.lw_mapped.specs.declared.fault.MappedKind.TheVariants as kind
 use Rattle.lw_mapped.specs.declared.saying.Saying.{Saying}
 use Rattle.lw_mapped.specs.declared.saying.Saying.TheVariants as saying
+use Rattle.lw_blif_text.specs.Commands.{ends}
 use Rattle.lw_mapped.specs.Commands.{command_of}
 use Rattle.lw_mapped.specs.Sayings.{words_say}
 use Rattle.lw_mapped.specs.Said.{label_among, class_among, labels_in, nets_in}
@@ -23,12 +24,6 @@ abbrev pub command : LogicalLine → Command
 command line = command_of (first_word line.words)
 
 -- The end of a reading.
-
--- The command ends the reading: a model does so where it is not on the first line.
-abbrev pub ends : Bool → Command → Bool
-ends first End = true
-ends first Model = not first
-ends first other = false
 
 abbrev pub goes_on : LogicalLine → Bool
 goes_on line = not (ends false (command line))

@@ -10,8 +10,8 @@ use Rattle.lw_fixed.specs.declared.fault.DecimalFault.{DecimalFault}
 use Rattle.lw_fixed.specs.Decimals.{decimal_of}
 use Rattle.lw_frame.specs.Starts.{start_said}
 use Rattle.lw_genlib.specs.Cells.{CellParts, names_of}
-use Rattle.lw_mapped.specs.declared.command.Command.{Command}
-use Rattle.lw_mapped.specs.declared.command.Command.TheVariants as command
+use Rattle.lw_blif_text.specs.declared.command.Command.{Command}
+use Rattle.lw_blif_text.specs.declared.command.Command.TheVariants as command
 use Rattle.lw_mapped.specs.declared.fault.MappedKind.{MappedKind}
 use Rattle.lw_mapped.specs.declared.fault.MappedKind.TheVariants as kind
 use Rattle.lw_mapped.specs.declared.saying.Saying.{Saying}
@@ -130,11 +130,12 @@ command_says cells command.Outputs words = outputs_say words
 command_says cells command.Gate words = gate_says cells words
 command_says cells command.Names words = wire_says words
 command_says cells command.Latch words = latch_says words
-command_says cells command.InputArrival words = arrival_says words
+command_says cells command.Arrival words = arrival_says words
 command_says cells command.DefaultArrival words = default_says words
 command_says cells command.Certificate words = certificate_says words
 command_says cells command.Ignored words = Ok saying.Nothing
 command_says cells command.End words = Ok saying.Nothing
+command_says cells command.Unsupported words = Err kind.UnknownCommand
 command_says cells command.Unknown words = Err kind.UnknownCommand
 command_says cells command.Plain words = Err kind.Shape
 

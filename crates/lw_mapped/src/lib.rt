@@ -39,7 +39,6 @@ mod writing;
 
 pub use certificate::{Certificate, OptClasses, OptMicros};
 pub use closing::Mapped;
-pub use command::Command;
 pub use contents::Contents;
 pub use fault::{MappedFault, MappedKind, Refusal};
 pub use laws::{

@@ -9,11 +9,11 @@ ghost use Rattle.lw_mapped.specs.Parsed.{Says};
 ghost use Rattle.lw_mapped.specs.Limits.{label_units};
 ghost use Rattle.lw_laws.specs.Graphs.{most_classes};
 
-use crate::command::Command;
 use crate::naming::{name_at, names_fault, names_from};
 use crate::ties::{gate_of, ties_fault};
 use crate::{MappedKind, Refusal, Saying};
 use itoa::Buffer;
+use lw_blif_text::Command;
 use lw_fixed::{are_digits, read};
 use lw_frame::read_start;
 use lw_genlib::Library;
@@ -215,10 +215,10 @@ pub(crate) fn parse(
         Command::Outputs => outputs(alloc, words),
         Command::Model => model(alloc, words),
         Command::Latch => latch(alloc, words),
-        Command::InputArrival => input_arrival(alloc, words),
+        Command::Arrival => input_arrival(alloc, words),
         Command::DefaultArrival => default_arrival(words),
         Command::Ignored | Command::End => Ok(Saying::Nothing),
-        Command::Unknown => Err(Refusal::Broken(MappedKind::UnknownCommand)),
+        Command::Unsupported | Command::Unknown => Err(Refusal::Broken(MappedKind::UnknownCommand)),
         Command::Plain => Err(Refusal::Broken(MappedKind::Shape)),
     }
 }

@@ -2,10 +2,10 @@
 ghost use Rattle.std.specs.Prelude.{◌≡◌, ◌++◌, [], ◌∷◌, List, None, Some, OnOk, if◌then◌else◌};
 ghost use Rattle.lw_mapped.specs.LineFaults.{is_row, is_names_command};
 
-use crate::command::Command;
 use crate::contents::Contents;
 use crate::parsing::parse;
 use crate::{MappedKind, Refusal, Saying};
+use lw_blif_text::Command;
 use lw_genlib::Library;
 use lw_words::{Line, Words, is};
 use std::alloc::Global;

@@ -3,7 +3,7 @@ ghost use Rattle.std.specs.Prelude.{◌≡◌, ◌++◌, [], ◌∷◌, List, Er
 ghost use Rattle.lw_mapped.specs.Standing.{fault_of, stop_at};
 
 use crate::closing::Mapped;
-use crate::command::{Command, command_of};
+use crate::command::command_of;
 use crate::parts::Parts;
 use crate::{MappedFault, MappedKind, Refusal};
 use lw_blif_text::Stop;
@@ -28,21 +28,6 @@ fn stop_at(number: u32, refusal: Refusal) -> Stop<MappedKind>
     match refusal {
         Refusal::Broken(kind) => Stop::Broken(number, kind),
         Refusal::Memory => Stop::Memory,
-    }
-}
-
-impl Command {
-    ghost use Rattle.lw_mapped.specs.LineFaults.{ends};
-
-    // Whether the command ends the reading.
-    fn ends(self, first: bool) -> bool
-        ensures { result ≡ ends first self }
-    {
-        match self {
-            Command::End => true,
-            Command::Model => !first,
-            _ => false,
-        }
     }
 }
 

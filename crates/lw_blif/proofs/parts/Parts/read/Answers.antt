@@ -2,30 +2,30 @@ use Rattle.std.proofs.Common.{List, ℕ, ap, sym, ◌∙◌, subst}
 use Rattle.std.proofs.lemmas.Result.{IfOk-weaker}
 use Rattle.lw_words.specs.Lines.{LogicalLine}
 use Rattle.lw_blif.specs.Readers.{row_fault_of}
-use Rattle.lw_blif.specs.declared.command.Command.TheVariants as asks
+use Rattle.lw_blif_text.specs.declared.command.Command.TheVariants as asks
 use Rattle.lw_blif.specs.Keeping.{AddsRow, ReadsNames, ReadsArrival, names_fault, arrival_fault}
 use Rattle.lw_blif.proofs.Keeping.{fault-long}
-use Rattle.lw_blif.proofs.Reading.{row-fault, row-keeps, names-fault, names-keeps, ignored-fault, ignored-keeps, unknown-fault, unsupported-fault, names-left, arrival-fault, arrival-keeps}
+use Rattle.lw_blif.proofs.Reading.{row-fault, row-keeps, names-fault, names-keeps, ignored-fault, ignored-keeps, unknown-fault, unsupported-fault, gate-fault, certificate-fault, names-left, arrival-fault, arrival-keeps}
 use Rattle.lw_blif.proofs.parts.Parts.read.Goals as goal
 
 pub returns-then-line-clause-fault : goal.returns-then-line-clause-fault
 returns-then-line-clause-fault c = λ lines k.
     sym (fault-long lines c.args.line.now (sym (ap (λ (l : LogicalLine). l.long) c.line.view_is) ∙ c.if-line.true))
 
-pub returns-in-Row-clause-fault : goal.returns-in-Row-clause-fault
-returns-in-Row-clause-fault c = λ lines k.
+pub returns-in-Plain-clause-fault : goal.returns-in-Plain-clause-fault
+returns-in-Plain-clause-fault c = λ lines k.
     let words = ap (λ (l : LogicalLine). l.words) c.line.view_is in
     let short = sym (ap (λ (l : LogicalLine). l.long) c.line.view_is) ∙ c.if-line.false in
     IfOk-weaker c.read_row.result _ _
-    (λ fault is. row-fault c.args.self.now lines c.args.line.now fault (sym c.in-Row.is ∙ c.requires.asked) short (is.fault ∙ ap (row_fault_of c.args.self.now.node) words) k)
+    (λ fault is. row-fault c.args.self.now lines c.args.line.now fault (sym c.in-Plain.is ∙ c.requires.asked) short (is.fault ∙ ap (row_fault_of c.args.self.now.node) words) k)
     c.read_row.ensures
 
-pub returns-in-Row-clause-keeps : goal.returns-in-Row-clause-keeps
-returns-in-Row-clause-keeps c = λ lines k.
+pub returns-in-Plain-clause-keeps : goal.returns-in-Plain-clause-keeps
+returns-in-Plain-clause-keeps c = λ lines k.
     let words = ap (λ (l : LogicalLine). l.words) c.line.view_is in
     IfOk-weaker c.read_row.result _ _
     (λ fault is none.
-    row-keeps c.args.self.now c.read_row.new.self lines c.args.line.now (sym c.in-Row.is ∙ c.requires.asked)
+    row-keeps c.args.self.now c.read_row.new.self lines c.args.line.now (sym c.in-Plain.is ∙ c.requires.asked)
     (sym none ∙ (is.fault ∙ ap (row_fault_of c.args.self.now.node) words))
     (subst (λ (ws : List (List ℕ)). AddsRow c.args.self.now ws c.read_row.new.self) words (is.row none)) k)
     c.read_row.ensures
@@ -37,6 +37,14 @@ returns-in-Unknown-clause-fault c = λ lines k.
 pub returns-in-Unsupported-clause-fault : goal.returns-in-Unsupported-clause-fault
 returns-in-Unsupported-clause-fault c = λ lines k.
     unsupported-fault lines c.args.line.now (sym c.in-Unsupported.is ∙ c.requires.asked) (sym (ap (λ (l : LogicalLine). l.long) c.line.view_is) ∙ c.if-line.false)
+
+pub returns-in-Gate-clause-fault : goal.returns-in-Gate-clause-fault
+returns-in-Gate-clause-fault c = λ lines k.
+    gate-fault lines c.args.line.now (sym c.in-Gate.is ∙ c.requires.asked) (sym (ap (λ (l : LogicalLine). l.long) c.line.view_is) ∙ c.if-line.false)
+
+pub returns-in-Certificate-clause-fault : goal.returns-in-Certificate-clause-fault
+returns-in-Certificate-clause-fault c = λ lines k.
+    certificate-fault lines c.args.line.now (sym c.in-Certificate.is ∙ c.requires.asked) (sym (ap (λ (l : LogicalLine). l.long) c.line.view_is) ∙ c.if-line.false)
 
 pub returns-in-Ignored-clause-fault : goal.returns-in-Ignored-clause-fault
 returns-in-Ignored-clause-fault c = λ lines k.
@@ -50,7 +58,7 @@ pub returns-in_default-clause-fault : goal.returns-in_default-clause-fault
 returns-in_default-clause-fault c = λ lines k.
     let words = ap (λ (l : LogicalLine). l.words) c.line.view_is in
     let short = sym (ap (λ (l : LogicalLine). l.long) c.line.view_is) ∙ c.if-line.false in
-    let names = names-left c.args.asked c.in_default.not-End c.in_default.not-Ignored c.in_default.not-Unsupported c.in_default.not-Unknown c.in_default.not-Row c.in_default.not-Arrival c.in_default.not-DefaultArrival in
+    let names = names-left c.args.asked c.in_default.not-End c.in_default.not-Ignored c.in_default.not-Gate c.in_default.not-Certificate c.in_default.not-Unsupported c.in_default.not-Unknown c.in_default.not-Plain c.in_default.not-Arrival c.in_default.not-DefaultArrival in
     IfOk-weaker c.read_names.result _ _
     (λ fault is. names-fault c.args.self.now lines c.args.line.now c.args.asked fault names c.requires.asked short (is.fault ∙ ap (names_fault c.args.self.now c.args.asked) words) k)
     c.read_names.ensures
@@ -58,7 +66,7 @@ returns-in_default-clause-fault c = λ lines k.
 pub returns-in_default-clause-keeps : goal.returns-in_default-clause-keeps
 returns-in_default-clause-keeps c = λ lines k.
     let words = ap (λ (l : LogicalLine). l.words) c.line.view_is in
-    let names = names-left c.args.asked c.in_default.not-End c.in_default.not-Ignored c.in_default.not-Unsupported c.in_default.not-Unknown c.in_default.not-Row c.in_default.not-Arrival c.in_default.not-DefaultArrival in
+    let names = names-left c.args.asked c.in_default.not-End c.in_default.not-Ignored c.in_default.not-Gate c.in_default.not-Certificate c.in_default.not-Unsupported c.in_default.not-Unknown c.in_default.not-Plain c.in_default.not-Arrival c.in_default.not-DefaultArrival in
     IfOk-weaker c.read_names.result _ _
     (λ fault reads none.
     names-keeps c.args.self.now c.read_names.new.self lines c.args.line.now c.args.asked names c.requires.asked

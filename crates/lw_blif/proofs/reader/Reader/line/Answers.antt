@@ -1,8 +1,9 @@
 use Rattle.std.proofs.Common.{◌≡◌, ◌++◌, ◌∷◌, [], true, false, not, Some, None, Err, ap, sym, ◌∙◌, subst}
 use Rattle.lw_words.specs.Lines.{LogicalLine}
 use Rattle.lw_blif.specs.declared.fault.BlifFault.{BlifFault}
-use Rattle.lw_blif.specs.Commands.{command_of}
-use Rattle.lw_blif.specs.LineFaults.{command, first_fault, lines_read, ends}
+use Rattle.lw_blif.specs.LineFaults.{command_of}
+use Rattle.lw_blif.specs.LineFaults.{command, first_fault, lines_read}
+use Rattle.lw_blif_text.specs.Commands.{ends}
 use Rattle.lw_blif.specs.Standing.{Tells}
 use Rattle.lw_blif_text.proofs.StandingFor.{stands-stopped, answer-ended, stands-ended, is-open, answer-end, stands-end, answer-read, stands-read, stands-broken}
 use Rattle.lw_blif.proofs.StandingFor.{tells-stopped, some-more}

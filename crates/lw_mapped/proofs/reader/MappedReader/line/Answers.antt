@@ -2,7 +2,8 @@ use Rattle.std.proofs.Common.{◌≡◌, ◌++◌, ◌∷◌, [], true, false, n
 use Rattle.lw_words.specs.Lines.{LogicalLine}
 use Rattle.lw_mapped.specs.declared.fault.MappedFault.{MappedFault}
 use Rattle.lw_mapped.specs.Commands.{command_of}
-use Rattle.lw_mapped.specs.LineFaults.{command, first_fault, lines_read, ends}
+use Rattle.lw_mapped.specs.LineFaults.{command, first_fault, lines_read}
+use Rattle.lw_blif_text.specs.Commands.{ends}
 use Rattle.lw_mapped.specs.Standing.{Tells}
 use Rattle.lw_words.proofs.Shared.{first_word-get}
 use Rattle.lw_blif_text.proofs.StandingFor.{stands-stopped, answer-ended, stands-ended, is-open, answer-end, stands-end, answer-read, stands-read}
