@@ -67,7 +67,7 @@ use Rattle.lw_words.specs.Words.{IsSignalName}
 use Rattle.lw_pool.specs.Numbers.{numbers, net_number}
 use Rattle.lw_net.specs.Ports.{output_port, ports_of}
 use Rattle.lw_assoc.proofs.Built.{pairs_bound}
-use Rattle.lw_frame.proofs.Each.{each-of}
+use Rattle.lw_blif_text.proofs.Each.{each-of}
 
 -- Lists beside each other.
 

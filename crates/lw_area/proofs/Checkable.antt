@@ -33,7 +33,7 @@ use Rattle.lw_net.specs.Ports.{output_port, ports_of}
 use Rattle.lw_net.proofs.Rise.{in_order}
 use Rattle.lw_frame.specs.Frames.{Fits}
 use Rattle.lw_frame.specs.Starts.{StartsFit}
-use Rattle.lw_frame.proofs.Each.{each-of}
+use Rattle.lw_blif_text.proofs.Each.{each-of}
 use Rattle.lw_blif.specs.declared.parsed.Parsed.{Parsed}
 use Rattle.lw_genlib.specs.Cells.{CellParts, IsListed, IsLibrary}
 use Rattle.lw_genlib.specs.Tables.{cell_delays, delays_of_cells, millionths, timing_of, truth_of_cells}

@@ -16,7 +16,7 @@ use Rattle.lw_fixed.specs.declared.micro.Micro.{Micro}
 use Rattle.lw_fixed.specs.declared.fault.DecimalFault.{DecimalFault}
 use Rattle.lw_fixed.specs.declared.fault.DecimalFault.TheVariants.{Shape}
 use Rattle.lw_frame.specs.Starts.{start_said}
-use Rattle.lw_frame.specs.Ending.{lines_until, has_end}
+use Rattle.lw_blif_text.specs.Commands.{lines_until, has_end}
 use Rattle.lw_blif_text.specs.FirstFaults as faults
 use Rattle.lw_blif_text.specs.FirstFaults.{first_fault_by}
 use Rattle.lw_words.specs.Words.{is_among, first_word, has_point, front, is_name}

@@ -1,8 +1,8 @@
 -- One more line is given.
 use Rattle.std.proofs.Common.{◌≡◌, Bool, true, false, List, [], ◌∷◌, ◌++◌, Option, Some, None, refl, ap, sym, ◌∙◌}
 use Rattle.lw_words.specs.Lines.{LogicalLine}
-use Rattle.lw_frame.specs.Ending.{lines_until, has_end, is_first}
-use Rattle.lw_frame.proofs.Ending.{end-more, until-all, until-end, until-ended}
+use Rattle.lw_blif_text.specs.Commands.{lines_until, has_end, is_first}
+use Rattle.lw_blif_text.proofs.Ending.{end-more, until-all, until-end, until-ended}
 use Rattle.lw_blif_text.specs.declared.stop.Stop.{Stop}
 use Rattle.lw_blif_text.specs.declared.stop.Stop.TheVariants as stop
 use Rattle.lw_blif_text.specs.FirstFaults.{FaultAt, fault_or, first_fault_by}

@@ -1,3 +1,7 @@
 pub mod Appending
+pub mod Each
+pub mod Ending
 pub mod Given
+pub mod GoodWords
 pub mod StandingFor
+pub mod WrittenLines

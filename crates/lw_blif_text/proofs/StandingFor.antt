@@ -2,8 +2,8 @@
 use Rattle.std.proofs.Common.{ℕ, ◌≡◌, Bool, true, false, not, List, [], ◌∷◌, ◌++◌, Option, Some, None, refl, ap, sym, ◌∙◌, subst}
 use Rattle.std.proofs.Math.Bool.{not-not}
 use Rattle.lw_words.specs.Lines.{LogicalLine}
-use Rattle.lw_frame.specs.Ending.{has_end, is_first, lines_until}
-use Rattle.lw_frame.proofs.Ending.{end-more, end-some, end-stays, first-more, until-all, until-end, until-ended}
+use Rattle.lw_blif_text.specs.Commands.{has_end, is_first, lines_until}
+use Rattle.lw_blif_text.proofs.Ending.{end-more, end-some, end-stays, first-more, until-all, until-end, until-ended}
 use Rattle.lw_blif_text.specs.declared.stop.Stop.{Stop}
 use Rattle.lw_blif_text.specs.declared.stop.Stop.TheVariants as stop
 use Rattle.lw_blif_text.specs.FirstFaults.{FaultAt, fault_or, first_fault_by}

@@ -1,3 +1,5 @@
 pub mod Commands
 pub mod FirstFaults
+pub mod Latches
 pub mod Standing
+pub mod Texts

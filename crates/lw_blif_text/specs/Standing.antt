@@ -1,7 +1,7 @@
 -- What a reader keeps of the lines that it was given. Behind a fault it keeps the fault alone.
 use Rattle.std.specs.Prelude.{◌≡◌, Bool, not, List, [], Option, Some, None, ⊤}
 use Rattle.lw_words.specs.Lines.{LogicalLine}
-use Rattle.lw_frame.specs.Ending.{lines_until, has_end, is_first}
+use Rattle.lw_blif_text.specs.Commands.{lines_until, has_end, is_first}
 use Rattle.lw_blif_text.specs.declared.stop.Stop.{Stop}
 use Rattle.lw_blif_text.specs.declared.stop.Stop.TheVariants as stop
 use Rattle.lw_blif_text.specs.FirstFaults.{FaultAt, first_fault_by}

@@ -30,9 +30,9 @@ use Rattle.lw_mapped.proofs.SaidNames.{control-named, model-or-unnamed, once-nam
 use Rattle.lw_files.specs.Sources.{lines_in}
 use Rattle.lw_files.proofs.WordLines.{lines_have_words}
 use Rattle.lw_words.specs.Words.{is_name, IsSignalName}
-use Rattle.lw_frame.specs.Latches.{IsReadableLatch}
-use Rattle.lw_frame.proofs.Ending.{until-each}
-use Rattle.lw_frame.proofs.Each.{each-of, each-append, each-weaker}
+use Rattle.lw_blif_text.specs.Latches.{IsReadableLatch}
+use Rattle.lw_blif_text.proofs.Ending.{until-each}
+use Rattle.lw_blif_text.proofs.Each.{each-of, each-append, each-weaker}
 
 -- Words.
 

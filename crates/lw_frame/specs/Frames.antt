@@ -5,7 +5,6 @@ use Rattle.std.specs.List.{flat_map}
 use Rattle.std.specs.Str.{bytes_eq}
 use Rattle.lw_pool.specs.declared.latch.Latch.{Latch}
 use Rattle.lw_pool.specs.declared.latch.Frame.{Frame}
-use Rattle.lw_words.specs.Texts.{line}
 
 -- each name once, where it stands first
 abbrev pub each_once : List (List ℕ) → List (List ℕ)
@@ -45,7 +44,3 @@ pub record Fits (frame : Frame) (inputs outputs : List (List ℕ)) : Type 0 wher
   pub latch_outputs : drop frame.inputs inputs ≡ map output_of frame.latches
   -- the outputs past the circuit's own are the further roots
   pub roots : outputs ≡ root_names (take frame.outputs outputs) frame.latches
-
--- A latch as a line of a text: what it stores, what it gives, and its further words
-abbrev pub latch_line : Latch → List ℕ
-latch_line latch = line (codes ".latch") (latch.input ∷ latch.output ∷ latch.rest)

@@ -1,7 +1,4 @@
-pub mod Ending
 pub mod Frames
 pub mod Kept
-pub mod Latches
 pub mod Standing
 pub mod Starts
-pub mod Texts

@@ -7,20 +7,16 @@
 //! * `roots`: the outputs, and what each latch reads (`add_roots`);
 //! * `start`: the start that a line gives, in millionths of a unit of time (`read_start`);
 //! * `arrivals`: the starts that lines have given so far, and in the end those of all inputs
-//!   (`Arrivals`);
-//! * `writing`: lines of words, and latches, as they are written.
+//!   (`Arrivals`).
 //!
 //! The definitions to read are `root_names` in `specs/Frames.antt` and `starts_of` in
-//! `specs/Starts.antt`. The readers of `lw_blif` and `lw_mapped` call both, and cite the proofs on
-//! words and latches in lines, which stand here. `lw_mapped` and `lw_lut` write by these.
+//! `specs/Starts.antt`. The readers of `lw_blif` and `lw_mapped` call both.
 #![tactic(auto)]
 
 mod arrivals;
 mod roots;
 mod start;
-mod writing;
 
 pub use arrivals::Arrivals;
 pub use roots::add_roots;
 pub use start::read_start;
-pub use writing::{put_latches, put_line, put_word};

@@ -10,7 +10,7 @@ use Rattle.lw_lut.specs.Cuts.{is_set}
 use Rattle.lw_lut.specs.Nets.{PlainTableNet, net_classes}
 use Rattle.lw_lut.specs.declared.table.Table.{Table}
 use Rattle.lw_words.specs.Texts.{line}
-use Rattle.lw_frame.specs.Latches.{latch_line}
+use Rattle.lw_blif_text.specs.Latches.{latch_line}
 
 -- the name that stands where the class does
 abbrev pub name_at : List ℕ → List (List ℕ) → ℕ → List ℕ

@@ -11,7 +11,7 @@ ghost use Rattle.lw_lut.specs.Texts.{net_name, table_text, tables_text, wire_tex
 use crate::net::TableNet;
 use crate::rows::{SmallTable, put_rows};
 use crate::table::Table;
-use lw_frame::{put_latches, put_line, put_word};
+use lw_blif_text::{put_latches, put_line, put_word};
 use lw_io::{Failed, Sink, Writer};
 use lw_pool::{ClassId, Frame};
 

@@ -22,9 +22,9 @@ use Rattle.lw_lut_text.specs.Said.{draft_said, table_node, wire_nodes}
 use Rattle.lw_lut_text.proofs.LineKinds.{asks_for, asks_model, asks_inputs, asks_outputs, asks_latch, asks_end, IsOfNode, OfNode, lines_of_node, Inner, inner_goes, inner_kept, inner_are}
 use Rattle.lw_lut_text.proofs.NodesSaid.{IsKeptLine, nodes_in, nodes_kept, skip_line, nodes_said}
 use Rattle.lw_lut_text.proofs.TextLines.{Words, latch_words, node_lines, model_words, inputs_words, outputs_words, inner_lines, end_words, lines_said}
-use Rattle.lw_frame.proofs.WrittenLines.{numbered}
+use Rattle.lw_blif_text.proofs.WrittenLines.{numbered}
 use Rattle.lw_words.specs.Words.{first_word, front}
-use Rattle.lw_frame.specs.Ending.{lines_until}
+use Rattle.lw_blif_text.specs.Commands.{lines_until}
 
 -- Lines that are read.
 

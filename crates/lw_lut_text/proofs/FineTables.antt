@@ -25,9 +25,9 @@ use Rattle.lw_lut_text.proofs.NodesSaid.{last_one, before_last}
 use Rattle.lw_lut_text.proofs.SayableNames.{IsFairTable, wire_outputs, names_pass, tables_fair, roots_named, own_inputs, own_outputs, outs, all_differ}
 use Rattle.lw_lut_text.proofs.TextLines.{Words, row_lines, table_head, table_lines, wire_head, wire_row, wire_lines, latch_words, node_lines, model_words, inputs_words, outputs_words, inner_lines}
 use Rattle.lw_lut_text.proofs.Unlimited.{IsNameLine, AreFine, fine_line, fine_node, fine_none, fine_all}
-use Rattle.lw_frame.proofs.WrittenLines.{numbered}
+use Rattle.lw_blif_text.proofs.WrittenLines.{numbered}
 use Rattle.lw_words.specs.Words.{is_among, IsSignalName}
-use Rattle.lw_frame.specs.Latches.{IsReadableLatch}
+use Rattle.lw_blif_text.specs.Latches.{IsReadableLatch}
 
 -- one more name, which is none of those before it
 fresh_one : (defined : List (List ℕ)) (name : List ℕ) (more : List (List ℕ)) → IsDistinct bytes_eq (defined ++ name ∷ more) → (has_twice (name ∷ []) || list_any (is_among defined) (name ∷ [])) ≡ false

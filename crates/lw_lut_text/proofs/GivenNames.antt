@@ -11,7 +11,7 @@ use Rattle.lw_words.specs.Gathering.{IsInk, IsNoHash}
 use Rattle.lw_laws.specs.Names.{numbered_name, free_names, gate_names}
 use Rattle.lw_laws.proofs.Heights.{all_weaker}
 use Rattle.lw_naming.proofs.GivenNames as naming
-use Rattle.lw_frame.proofs.GoodWords.{IsGood, good-bytes, digits-good, numerals, ends_stroke, stroke-behind}
+use Rattle.lw_blif_text.proofs.GoodWords.{IsGood, good-bytes, digits-good, numerals, ends_stroke, stroke-behind}
 use Rattle.lw_words.specs.Words.{IsSignalName}
 
 -- Numbered names.

@@ -19,7 +19,7 @@ use Rattle.lw_lut.specs.Texts.{binary, is_buffer, fanin_names, net_name}
 use Rattle.lw_lut.specs.declared.table.Table.{Table}
 use Rattle.lw_lut_text.proofs.LineKinds.{asks_for, asks_names, IsRowOf, row_value, table_rows_are, wire_is}
 use Rattle.lw_lut_text.proofs.TextLines.{Words, row_words, row_lines_from, off_row, row_lines, table_head, table_lines, wire_head, wire_row, wire_lines, node_lines}
-use Rattle.lw_frame.proofs.WrittenLines.{numbered}
+use Rattle.lw_blif_text.proofs.WrittenLines.{numbered}
 use Rattle.lw_words.specs.Words.{front}
 
 -- Nodes of lines, by their words.

@@ -10,7 +10,7 @@ use Rattle.lw_lut.specs.Texts.{tables_text}
 use Rattle.lw_lut_text.proofs.DraftSaid.{body, lines_are_read, draft_is_said, frame_is_said, starts_are_said}
 use Rattle.lw_lut_text.proofs.FineTables.{lines_fine}
 use Rattle.lw_lut_text.proofs.TextLines.{lines_said, text_said}
-use Rattle.lw_frame.proofs.WrittenLines.{numbered}
+use Rattle.lw_blif_text.proofs.WrittenLines.{numbered}
 use Rattle.lw_lut_text.proofs.WordLines.{lines_again}
 use Rattle.lw_lut_text.proofs.WrittenTables.{lines_written}
 

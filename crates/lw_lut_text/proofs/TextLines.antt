@@ -11,9 +11,9 @@ use Rattle.lw_lut.specs.Cuts.{is_set}
 use Rattle.lw_lut.specs.Nets.{PlainTableNet}
 use Rattle.lw_lut.specs.Texts.{binary, row, rows_from, is_buffer, table_rows, fanin_names, net_name, table_text, wires, tables_text}
 use Rattle.lw_lut.specs.declared.table.Table.{Table}
-use Rattle.lw_frame.proofs.WrittenLines.{line_text, lines_text}
+use Rattle.lw_blif_text.proofs.WrittenLines.{line_text, lines_text}
 use Rattle.lw_words.specs.Texts.{line}
-use Rattle.lw_frame.specs.Latches.{latch_line}
+use Rattle.lw_blif_text.specs.Latches.{latch_line}
 
 -- a line is its words
 abbrev pub Words : Type 0

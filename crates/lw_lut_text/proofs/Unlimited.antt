@@ -20,7 +20,7 @@ use Rattle.lw_blif.proofs.RowsBehind.{differs-value}
 use Rattle.lw_lut_text.specs.Readable.{rules_on, IsUnlimited, AreUnlimited}
 use Rattle.lw_lut_text.proofs.LineKinds.{asks_for, IsRowOf}
 use Rattle.lw_lut_text.proofs.TextLines.{Words}
-use Rattle.lw_frame.proofs.WrittenLines.{numbered}
+use Rattle.lw_blif_text.proofs.WrittenLines.{numbered}
 use Rattle.lw_words.specs.Words.{is_among, is_name}
 use Rattle.std.proofs.Math.Bool.{and-false}
 

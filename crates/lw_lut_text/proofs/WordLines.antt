@@ -4,9 +4,9 @@ use Rattle.std.specs.List.{AllByRecursion as Each}
 use Rattle.lw_words.specs.Gathering.{IsInk, IsNoHash}
 use Rattle.lw_words.specs.Lines.{logical_lines}
 use Rattle.lw_words.proofs.Shared.{before_hash_all}
-use Rattle.lw_frame.proofs.Each.{each-weaker}
-use Rattle.lw_frame.proofs.GoodWords.{EndsWell}
-use Rattle.lw_frame.proofs.WrittenLines.{AreWritten, IsWordOf, LastEndsWell, bytes-each, line_bytes, lines-again, lines_text, numbered}
+use Rattle.lw_blif_text.proofs.Each.{each-weaker}
+use Rattle.lw_blif_text.proofs.GoodWords.{EndsWell}
+use Rattle.lw_blif_text.proofs.WrittenLines.{AreWritten, IsWordOf, LastEndsWell, bytes-each, line_bytes, lines-again, lines_text, numbered}
 
 pub record IsWritten (word : List ℕ) : Type 0 where
   pub some : 0 < length word

@@ -18,7 +18,7 @@ use Rattle.lw_lut_text.proofs.TextLines.{row_words, row_lines_from, off_row, row
 use Rattle.lw_lut_text.proofs.WordLines.{IsWritten, IsWrittenLine}
 use Rattle.lw_lut_text.proofs.WrittenWords.{fixed_word, name_word, binary_word}
 use Rattle.lw_words.specs.Words.{IsSignalName}
-use Rattle.lw_frame.specs.Latches.{IsReadableLatch}
+use Rattle.lw_blif_text.specs.Latches.{IsReadableLatch}
 
 names_written : (names : List (List ℕ)) → Each IsSignalName names → Each IsWritten names
 names_written [] each = tt

@@ -12,7 +12,7 @@ use Rattle.lw_words.specs.Gathering.{IsInk, IsNoHash}
 use Rattle.lw_lut.specs.Texts.{binary}
 use Rattle.lw_lut_text.proofs.WordLines.{IsWritten}
 use Rattle.lw_words.specs.Words.{IsSignalName}
-use Rattle.lw_frame.proofs.GoodWords.{IsGood, is_good, good-byte, good-bytes, ends-good, ends-name, ends_stroke}
+use Rattle.lw_blif_text.proofs.GoodWords.{IsGood, is_good, good-byte, good-bytes, ends-good, ends-name, ends_stroke}
 
 good_word : (word : List ℕ) → 0 < length word → length word ≤ 4095 → Each IsGood word → IsWritten word
 good_word word some few each = record {

@@ -14,7 +14,7 @@ use Rattle.lw_lut.specs.declared.ports.TablePorts.{TablePorts}
 use Rattle.lw_lut.specs.declared.table.Table.{Table}
 use Rattle.lw_words.specs.Words.{IsSignalName}
 use Rattle.lw_pool.specs.Numbers.{numbers}
-use Rattle.lw_frame.specs.Latches.{IsReadableLatch}
+use Rattle.lw_blif_text.specs.Latches.{IsReadableLatch}
 
 -- Reading.
 

@@ -18,7 +18,7 @@ use Rattle.lw_map.specs.Options.{Options}
 use Rattle.lw_words.specs.Words.{IsSignalName}
 use Rattle.lw_pool.specs.Numbers.{numbers}
 use Rattle.lw_net.specs.Ports.{ports_of}
-use Rattle.lw_frame.specs.Latches.{IsReadableLatch}
+use Rattle.lw_blif_text.specs.Latches.{IsReadableLatch}
 
 -- a table has 2 to 6 fan-ins at most
 pub record AreLeaves (most : ℕ) : Type 0 where

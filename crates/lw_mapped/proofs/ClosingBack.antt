@@ -36,7 +36,7 @@ use Rattle.lw_mapped.proofs.Driving.{draft_of, wires_of, each-map, each-at, at-e
 use Rattle.lw_mapped.proofs.Items.{named_gate, port_wire}
 use Rattle.lw_mapped.proofs.Ranked.{AreRising, by_depth-rising}
 use Rattle.lw_pool.specs.Numbers.{net_number}
-use Rattle.lw_frame.proofs.Each.{each-append, each-weaker}
+use Rattle.lw_blif_text.proofs.Each.{each-append, each-weaker}
 
 -- the net of the first output of a name
 abbrev net_of_output : List Port → List ℕ → ℕ

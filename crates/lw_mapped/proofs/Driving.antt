@@ -24,7 +24,7 @@ use Rattle.lw_dag.proofs.Numbering.{number_at}
 use Rattle.lw_mapped.specs.Readable.{ports_of}
 use Rattle.lw_mapped.specs.Texts.{net_name, names_of_inputs, names_of_outputs}
 use Rattle.lw_mapped.proofs.Items.{named_gate, port_wire}
-use Rattle.lw_frame.proofs.Each.{each-of, each-append}
+use Rattle.lw_blif_text.proofs.Each.{each-of, each-append}
 use Rattle.lw_named_netlist.proofs.Found.{contains-among}
 
 -- Names that differ.

@@ -14,8 +14,8 @@ use Rattle.lw_blif_text.specs.Commands.{ends}
 use Rattle.lw_blif_text.specs.FirstFaults.{fault_or, first_fault_by}
 use Rattle.lw_mapped.proofs.ReadingLemmas.{say-last, wire-last, row-says, row-wire, none-wire, none-say}
 use Rattle.lw_words.specs.Words.{first_word, front}
-use Rattle.lw_frame.specs.Ending.{lines_until}
-use Rattle.lw_frame.proofs.WrittenLines.{numbered}
+use Rattle.lw_blif_text.specs.Commands.{lines_until}
+use Rattle.lw_blif_text.proofs.WrittenLines.{numbered}
 
 -- A line, what it says, and whether it is a wire, behind which its row comes.
 pub record Item : Type 0 where

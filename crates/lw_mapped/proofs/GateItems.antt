@@ -27,7 +27,7 @@ use Rattle.lw_mapped.proofs.CellLemmas.{found-at}
 use Rattle.lw_mapped.proofs.GoodWords.{equals-none}
 use Rattle.lw_mapped.proofs.Items.{named_gate}
 use Rattle.lw_words.specs.Words.{is_among, is_name, IsSignalName}
-use Rattle.lw_frame.proofs.Each.{each-append, each-weaker}
+use Rattle.lw_blif_text.proofs.Each.{each-append, each-weaker}
 
 -- A pin or the output, and its net.
 pub record Tie : Type 0 where

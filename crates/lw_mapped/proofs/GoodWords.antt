@@ -12,9 +12,9 @@ use Rattle.lw_mapped.specs.Sayings.{are_names}
 use Rattle.lw_mapped.specs.Texts.{tie}
 use Rattle.lw_words.specs.Limits.{longest_word}
 use Rattle.lw_words.specs.Words.{IsSignalName}
-use Rattle.lw_frame.proofs.Each.{each-of, each-append, each-weaker}
-use Rattle.lw_frame.proofs.GoodWords.{IsGood, EndsWell, ends-behind, ends-name, ends_stroke}
-use Rattle.lw_frame.proofs.WrittenLines.{IsWordOf, LastEndsWell}
+use Rattle.lw_blif_text.proofs.Each.{each-of, each-append, each-weaker}
+use Rattle.lw_blif_text.proofs.GoodWords.{IsGood, EndsWell, ends-behind, ends-name, ends_stroke}
+use Rattle.lw_blif_text.proofs.WrittenLines.{IsWordOf, LastEndsWell}
 
 -- bytes of words
 abbrev pub IsPlainInk : ℕ → Type 0

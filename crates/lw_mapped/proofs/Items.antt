@@ -21,8 +21,8 @@ use Rattle.lw_mapped.specs.Texts.{net_name, gate_words, gate_line, gate_text, wi
 use Rattle.lw_mapped.proofs.Faultless.{Item, lines_of, all_lines, last_line}
 use Rattle.lw_words.specs.Texts.{line}
 use Rattle.lw_netlist.specs.Plain.{port_name}
-use Rattle.lw_frame.specs.Latches.{latch_line}
-use Rattle.lw_frame.proofs.WrittenLines.{line_text, lines_text}
+use Rattle.lw_blif_text.specs.Latches.{latch_line}
+use Rattle.lw_blif_text.proofs.WrittenLines.{line_text, lines_text}
 
 -- the gate by names
 abbrev pub named_gate : List (List ℕ) → Gate → DraftGate

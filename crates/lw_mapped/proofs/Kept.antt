@@ -24,7 +24,7 @@ use Rattle.lw_netlist.specs.Plain.{HasCell, IsOver}
 use Rattle.lw_mapped.proofs.ClosedOnce.{at-most, gate-known, moved, nets-once, out-known, outputs-known, pins-known, ranked}
 use Rattle.lw_mapped.proofs.Driving.{at-each}
 use Rattle.lw_mapped.proofs.Ranked.{AreRising}
-use Rattle.lw_frame.proofs.Each.{each-append, each-weaker}
+use Rattle.lw_blif_text.proofs.Each.{each-append, each-weaker}
 
 -- The order by depth is one.
 module _ (depth : List ℕ → ℕ) where

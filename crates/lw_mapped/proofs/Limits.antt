@@ -30,7 +30,7 @@ use Rattle.lw_mapped.proofs.SaidLines.{arrival-all, certificate-all, default-all
 use Rattle.lw_words.specs.Words.{first_word}
 use Rattle.lw_laws.specs.Graphs.{most_classes}
 use Rattle.lw_frame.proofs.Early.{decimal_below, said_early, starts_early}
-use Rattle.lw_frame.proofs.Each.{each-append, each-weaker}
+use Rattle.lw_blif_text.proofs.Each.{each-append, each-weaker}
 
 -- Classes that are said.
 

@@ -31,7 +31,7 @@ use Rattle.lw_mapped.proofs.Kept.{many-ends, rising-at, sorted}
 use Rattle.lw_mapped.proofs.Places.{one-place}
 use Rattle.lw_words.specs.Words.{IsSignalName}
 use Rattle.lw_pool.specs.Numbers.{net_number}
-use Rattle.lw_frame.proofs.Each.{each-append, each-of}
+use Rattle.lw_blif_text.proofs.Each.{each-append, each-of}
 
 abbrev pub HasName : DraftGate → Type 0
 HasName gate = IsSignalName gate.out

@@ -18,8 +18,8 @@ use Rattle.lw_fixed.specs.Printed.{decimal_text, six_decimals, without_zeros, wi
 use Rattle.lw_words.specs.Limits.{longest_word}
 use Rattle.lw_fixed.proofs.Shapes.{digit_apart, signless}
 use Rattle.lw_fixed.proofs.Texts.{padded}
-use Rattle.lw_frame.proofs.Each.{each-append}
-use Rattle.lw_frame.proofs.GoodWords.{Digits, numerals, digits-good, IsGood, good-bytes}
+use Rattle.lw_blif_text.proofs.Each.{each-append}
+use Rattle.lw_blif_text.proofs.GoodWords.{Digits, numerals, digits-good, IsGood, good-bytes}
 
 first-digit : (d : ℕ) (ds : List ℕ) → Digits (d ∷ ds) → (is_ascii_digit d ≡ true) × Digits ds
 first-digit d ds e = and_parts (is_ascii_digit d) (list_all is_ascii_digit ds) e

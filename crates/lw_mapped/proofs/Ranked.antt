@@ -5,7 +5,7 @@ use Rattle.std.proofs.lemmas.Bool.Decides.{nat_tests}
 use Rattle.lw_named_netlist.specs.declared.draft.DraftGate.{DraftGate}
 use Rattle.lw_named_netlist.specs.Closing.{by_depth, greatest}
 use Rattle.lw_mapped.proofs.ClosedOnce.{ranked, ranked-skip, ranked-none}
-use Rattle.lw_frame.proofs.Each.{each-weaker}
+use Rattle.lw_blif_text.proofs.Each.{each-weaker}
 
 -- no gate stands before one that is less deep
 abbrev pub AreRising : (DraftGate → ℕ) → List DraftGate → Type 0

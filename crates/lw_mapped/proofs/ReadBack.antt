@@ -41,8 +41,8 @@ use Rattle.lw_mapped.proofs.SaidBack.{of_kind, kind-both, no-arrivals, no-latche
 use Rattle.lw_mapped.proofs.Speaking.{items-are, lines-go, lines-written}
 use Rattle.lw_mapped.proofs.WrittenItems.{model-says, model-begins}
 use Rattle.lw_mapped.proofs.WrittenLines.{lines-again}
-use Rattle.lw_frame.proofs.Each.{each-of, each-append}
-use Rattle.lw_frame.proofs.WrittenLines.{numbered}
+use Rattle.lw_blif_text.proofs.Each.{each-of, each-append}
+use Rattle.lw_blif_text.proofs.WrittenLines.{numbered}
 
 -- Parts of lists.
 

@@ -34,8 +34,8 @@ use Rattle.lw_mapped.proofs.TextWords.{HasRight, read-right}
 use Rattle.lw_mapped.proofs.TieLemmas.{IsTied, gives-output, net-has, ties-tied, whole-first}
 use Rattle.lw_words.specs.Limits.{longest_word}
 use Rattle.lw_words.specs.Words.{first_word, is_name, IsSignalName}
-use Rattle.lw_frame.specs.Latches.{IsReadableLatch}
-use Rattle.lw_frame.proofs.Each.{each-append, each-drop, each-of, each-weaker}
+use Rattle.lw_blif_text.specs.Latches.{IsReadableLatch}
+use Rattle.lw_blif_text.proofs.Each.{each-append, each-drop, each-of, each-weaker}
 
 -- Words.
 

@@ -28,7 +28,7 @@ use Rattle.lw_blif_text.specs.Commands.{ends}
 use Rattle.lw_mapped.specs.LineFaults as faults
 use Rattle.lw_mapped.specs.Standing.{word_count}
 use Rattle.lw_words.specs.Words.{first_word, front, is_name}
-use Rattle.lw_frame.specs.Ending.{lines_until}
+use Rattle.lw_blif_text.specs.Commands.{lines_until}
 
 -- how many inputs, outputs, latches and gates are said
 abbrev pub amount : List Saying → ℕ

@@ -27,8 +27,8 @@ use Rattle.lw_mapped.proofs.WrittenItems.{IsSpoken, row-written, end-written, ro
 use Rattle.lw_mapped.proofs.WrittenLines.{IsWritten}
 use Rattle.lw_words.specs.Words.{IsSignalName}
 use Rattle.lw_laws.specs.Graphs.{most_classes}
-use Rattle.lw_frame.specs.Latches.{IsReadableLatch}
-use Rattle.lw_frame.proofs.Each.{each-of, each-append, each-take, each-weaker}
+use Rattle.lw_blif_text.specs.Latches.{IsReadableLatch}
+use Rattle.lw_blif_text.proofs.Each.{each-of, each-append, each-take, each-weaker}
 
 ports-each : (P : List ℕ → Type 0) (ports : List Port) → Each P (map port_name ports) → Each (λ (port : Port). P port.name) ports
 ports-each P [] each = tt

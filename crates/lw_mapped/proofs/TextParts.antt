@@ -8,7 +8,7 @@ use Rattle.lw_pool.specs.declared.id.ClassId.{ClassId}
 use Rattle.lw_pool.specs.declared.id.NetId.{NetId}
 use Rattle.lw_netlist.specs.declared.gate.Gate.{Gate}
 use Rattle.lw_netlist.specs.declared.gate.Port.{Port}
-use Rattle.lw_frame.specs.Texts.{spaced}
+use Rattle.lw_blif_text.specs.Texts.{spaced}
 use Rattle.lw_mapped.specs.Texts.{ties, tie, net_name, optional_arrival, arrival_lines, optional_label, label_lines, optional_net, net_lines, HasNames}
 use Rattle.lw_words.specs.Texts.{ended}
 use Rattle.lw_netlist.specs.Netlists.{NetlistParts, IsNetlist}

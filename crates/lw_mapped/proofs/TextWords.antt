@@ -7,8 +7,8 @@ use Rattle.lw_words.specs.Limits.{longest_word}
 use Rattle.lw_words.specs.Lines.{LogicalLine, Text, is_blank, is_line_feed, has_some, lines_among, physical_lines, before_hash, has_mark, uncommented, before_trimmed, trimmed, is_continued, with_blank, continued_by, text_of, texts_from, words_of, line_of, has_words, lines_of, logical_lines}
 use Rattle.lw_mapped.specs.LineFaults.{ends_on, lines_read}
 use Rattle.lw_mapped.proofs.GoodWords.{IsPlainInk, IsRight, right-of}
-use Rattle.lw_frame.proofs.Ending.{until-each}
-use Rattle.lw_frame.proofs.Each.{each-append, each-drop, each-take, each-weaker}
+use Rattle.lw_blif_text.proofs.Ending.{until-each}
+use Rattle.lw_blif_text.proofs.Each.{each-append, each-drop, each-take, each-weaker}
 
 abbrev IsNoFeed : ℕ → Type 0
 IsNoFeed b = b ≢ 10

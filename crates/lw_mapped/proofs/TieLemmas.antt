@@ -9,7 +9,7 @@ use Rattle.lw_mapped.specs.declared.fault.MappedKind.{MappedKind}
 use Rattle.lw_mapped.specs.declared.fault.MappedKind.TheVariants as kind
 use Rattle.lw_mapped.specs.GateLines.{formal_of, actual_of, is_tie, is_for, is_formal, gives, tie_fault, first_tie_fault, gives_all, or_missing, ties_fault, net_for}
 use Rattle.lw_words.specs.Words.{is_name}
-use Rattle.lw_frame.proofs.Each.{each-weaker}
+use Rattle.lw_blif_text.proofs.Each.{each-weaker}
 
 pub first-some : (cell : CellParts) (before : List (List ℕ)) (word : List ℕ) (words : List (List ℕ)) (k : MappedKind) → tie_fault cell before word ≡ Some k → first_tie_fault cell before (word ∷ words) ≡ Some k
 unfolding first_tie_fault

@@ -33,7 +33,7 @@ use Rattle.lw_mapped.proofs.CellGates.{gates-alone}
 use Rattle.lw_mapped.proofs.DepthLemmas.{no-more-gates}
 use Rattle.lw_mapped.proofs.TieLemmas.{whole-first, tie-whole}
 use Rattle.lw_words.specs.Words.{is_ignored_word, has_point, front}
-use Rattle.lw_frame.specs.Ending.{lines_until}
+use Rattle.lw_blif_text.specs.Commands.{lines_until}
 
 -- The word `.gate`.
 

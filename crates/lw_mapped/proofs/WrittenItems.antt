@@ -37,10 +37,10 @@ use Rattle.lw_mapped.proofs.WrittenLines.{IsWritten}
 use Rattle.lw_words.specs.Limits.{longest_word}
 use Rattle.lw_words.specs.Words.{IsSignalName}
 use Rattle.lw_laws.specs.Graphs.{most_classes}
-use Rattle.lw_frame.specs.Latches.{IsReadableLatch}
-use Rattle.lw_frame.proofs.Each.{each-append, each-weaker}
-use Rattle.lw_frame.proofs.GoodWords.{is_good, good-bytes, ends-good, numerals, digits-good, EndsWell}
-use Rattle.lw_frame.proofs.WrittenLines.{IsWordOf, LastEndsWell}
+use Rattle.lw_blif_text.specs.Latches.{IsReadableLatch}
+use Rattle.lw_blif_text.proofs.Each.{each-append, each-weaker}
+use Rattle.lw_blif_text.proofs.GoodWords.{is_good, good-bytes, ends-good, numerals, digits-good, EndsWell}
+use Rattle.lw_blif_text.proofs.WrittenLines.{IsWordOf, LastEndsWell}
 
 -- What is to be shown of a line and, behind a wire, of its row.
 pub record IsSpoken (cells : List CellParts) (item : Item) : Type 0 where

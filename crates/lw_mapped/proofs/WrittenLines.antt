@@ -5,10 +5,10 @@ use Rattle.std.proofs.lemmas.Bool.Decides.{nat_tests}
 use Rattle.lw_words.specs.Gathering.{IsNoHash}
 use Rattle.lw_words.specs.Lines.{before_hash, is_cut, has_mark, uncommented, logical_lines}
 use Rattle.lw_words.proofs.Shared.{before_hash_all}
-use Rattle.lw_frame.specs.Texts.{spaced}
-use Rattle.lw_frame.proofs.Each.{each-weaker}
-use Rattle.lw_frame.proofs.WrittenLines.{ArePlain, AreWritten, IsWordOf, LastEndsWell, bytes-each, line_bytes, lines_text, numbered, spaced-each}
-use Rattle.lw_frame.proofs.WrittenLines as frame
+use Rattle.lw_blif_text.specs.Texts.{spaced}
+use Rattle.lw_blif_text.proofs.Each.{each-weaker}
+use Rattle.lw_blif_text.proofs.WrittenLines.{ArePlain, AreWritten, IsWordOf, LastEndsWell, bytes-each, line_bytes, lines_text, numbered, spaced-each}
+use Rattle.lw_blif_text.proofs.WrittenLines as frame
 
 -- none but that of a first word `#@`
 abbrev pub ArePlainBehind : List (List ℕ) → Type 0

@@ -15,7 +15,7 @@ use Rattle.lw_blif_text.specs.Commands.{ends}
 use Rattle.lw_mapped.specs.Commands.{command_of}
 use Rattle.lw_mapped.specs.Sayings.{words_say}
 use Rattle.lw_mapped.specs.Said.{label_among, class_among, labels_in, nets_in}
-use Rattle.lw_frame.specs.Ending.{lines_until, has_end}
+use Rattle.lw_blif_text.specs.Commands.{lines_until, has_end}
 use Rattle.lw_blif_text.specs.FirstFaults as faults
 use Rattle.lw_blif_text.specs.FirstFaults.{first_fault_by}
 use Rattle.lw_words.specs.Words.{first_word}

@@ -18,7 +18,7 @@ use Rattle.lw_mapped.specs.Parsed.{IsLabel}
 use Rattle.lw_mapped.specs.Texts.{names_of_inputs, names_of_outputs}
 use Rattle.lw_words.specs.Words.{IsSignalName}
 use Rattle.lw_laws.specs.Graphs.{most_classes}
-use Rattle.lw_frame.specs.Latches.{IsReadableLatch}
+use Rattle.lw_blif_text.specs.Latches.{IsReadableLatch}
 
 -- labels below their limit, at class numbers, and for each gate a class number or none
 pub record IsReadableCertificate (gates : ℕ) (certificate : Certificate) : Type 0 where

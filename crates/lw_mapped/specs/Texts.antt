@@ -16,7 +16,7 @@ use Rattle.lw_netlist.specs.Netlists.{NetlistParts}
 use Rattle.lw_mapped.specs.declared.certificate.Certificate.{Certificate}
 use Rattle.lw_words.specs.Texts.{line}
 use Rattle.lw_netlist.specs.Plain.{IsOver, port_name}
-use Rattle.lw_frame.specs.Latches.{latch_line}
+use Rattle.lw_blif_text.specs.Latches.{latch_line}
 
 -- the sign between a pin or an output and its net
 abbrev pub equals_sign : ℕ

@@ -7,7 +7,7 @@ ghost use Rattle.lw_io.specs.Writers.{Writes};
 use crate::lines::name_of;
 use itoa::Buffer;
 use lw_fixed::{Micro, print};
-use lw_frame::put_word;
+use lw_blif_text::put_word;
 use lw_io::{Sink, Writer};
 use lw_netlist::Gate;
 use lw_pool::{ClassId, Name};

@@ -4,7 +4,7 @@ ghost use Rattle.lw_mapped.specs.Texts.{arrival_line, optional_arrival, arrival_
 ghost use Rattle.lw_io.specs.Writers.{Writes};
 
 use lw_fixed::{Micro, print};
-use lw_frame::put_word;
+use lw_blif_text::put_word;
 use lw_io::{Sink, Writer};
 use lw_pool::Name;
 

@@ -2,12 +2,12 @@
 ghost use Rattle.std.specs.Prelude.{◌≡◌, ◌<◌, Some, length, All};
 ghost use Rattle.std.specs.List.{flat_map};
 ghost use Rattle.lw_netlist.specs.Plain.{HasCell};
-ghost use Rattle.lw_frame.specs.Texts.{spaced};
+ghost use Rattle.lw_blif_text.specs.Texts.{spaced};
 ghost use Rattle.lw_mapped.specs.Texts.{ties, gate_line, gate_text, wire, wire_text, HasNames};
 ghost use Rattle.lw_io.specs.Writers.{Writes};
 
 use crate::lines::{name_of, put_tie};
-use lw_frame::put_word;
+use lw_blif_text::put_word;
 use lw_genlib::{Cell, Library};
 use lw_io::{Sink, Writer};
 use lw_netlist::{Gate, Port};

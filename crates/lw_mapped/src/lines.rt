@@ -1,12 +1,12 @@
 // Lines of words.
 ghost use Rattle.std.specs.Prelude.{◌≡◌, ◌<◌, length, map};
-ghost use Rattle.lw_frame.specs.Texts.{spaced};
+ghost use Rattle.lw_blif_text.specs.Texts.{spaced};
 ghost use Rattle.lw_mapped.specs.Texts.{spaced_word, tie, net_name};
 ghost use Rattle.lw_io.specs.Writers.{Writes};
 ghost use Rattle.lw_words.specs.Texts.{line};
 ghost use Rattle.lw_netlist.specs.Plain.{port_name};
 
-use lw_frame::put_word;
+use lw_blif_text::put_word;
 use lw_io::{Sink, Writer};
 use lw_netlist::Port;
 use lw_pool::{Name, NetId};

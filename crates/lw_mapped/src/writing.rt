@@ -12,7 +12,7 @@ use crate::frames::put_arrivals;
 use crate::gates::{put_gates, put_wires};
 use crate::lines::put_ports;
 use lw_fixed::Micros;
-use lw_frame::{put_latches, put_line, put_word};
+use lw_blif_text::{put_latches, put_line, put_word};
 use lw_genlib::Library;
 use lw_io::{Failed, Sink, Writer};
 use lw_netlist::{Netlist, Port};

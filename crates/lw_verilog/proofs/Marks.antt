@@ -13,7 +13,7 @@ use Rattle.lw_facts.proofs.Lists.{bytes_differ}
 use Rattle.lw_named_netlist.specs.Closing.{is_among}
 use Rattle.lw_verilog.specs.Texts.{instance_name}
 use Rattle.lw_verilog.specs.Windows.{Raises, most_flagged}
-use Rattle.lw_frame.proofs.GoodWords.{numerals}
+use Rattle.lw_blif_text.proofs.GoodWords.{numerals}
 
 pub or-no : (a b : Bool) → b ≡ false → a ≡ (a || b)
 or-no true b e = refl

@@ -33,7 +33,7 @@ use Rattle.lw_verilog.proofs.Spellings.{leads-end}
 use Rattle.lw_verilog.proofs.Stepping.{Leads, Reads, leads-both, reads-both}
 use Rattle.lw_verilog.proofs.Writables.{gates-sayable, ins, ins-good, ins-new, model-good, nets-good, outs, outs-good, outs-new, ports-kept, ports-new, ports-sayable}
 use Rattle.lw_netlist.specs.Plain.{port_name}
-use Rattle.lw_frame.proofs.Each.{each-append}
+use Rattle.lw_blif_text.proofs.Each.{each-append}
 
 regrouped : (a b c d e f g : List ℕ) → (a ++ (b ++ (c ++ (d ++ (e ++ f))))) ++ g ≡ a ++ (b ++ (c ++ (d ++ (e ++ (f ++ g)))))
 regrouped a b c d e f g = simp append_assoc

@@ -22,7 +22,7 @@ use Rattle.lw_verilog.specs.Texts.{escaped, instance_name}
 use Rattle.lw_verilog.specs.Tokens.{is_gap, is_strange, name_of}
 use Rattle.lw_verilog.specs.Windows.{number_limit}
 use Rattle.lw_verilog.proofs.Stepping.{Leads, Reads, leads-both, leads-gap, leads-token, some-piece}
-use Rattle.lw_frame.proofs.GoodWords.{Digits, numerals}
+use Rattle.lw_blif_text.proofs.GoodWords.{Digits, numerals}
 
 drop-front : (xs ys : List ℕ) → drop (length xs) (xs ++ ys) ≡ ys
 drop-front [] ys = refl

@@ -31,7 +31,7 @@ use Rattle.lw_verilog.proofs.Leading.{AreNew, IsGood}
 use Rattle.lw_verilog.proofs.LeadingGates.{IsSayable, IsSayablePort}
 use Rattle.lw_verilog.proofs.Spellings.{IsShown}
 use Rattle.lw_words.specs.Words.{IsSignalName}
-use Rattle.lw_frame.proofs.Each.{each-append, each-drop, each-of, each-take}
+use Rattle.lw_blif_text.proofs.Each.{each-append, each-drop, each-of, each-take}
 use Rattle.lw_mapped.proofs.GateItems.{among-self}
 
 -- Tests that do not fail.

@@ -6,7 +6,7 @@ use Rattle.lw_io.proofs.Putting.{Writes-both}
 use Rattle.lw_lut.specs.Texts.{table_text, wires}
 use Rattle.lw_lut.proofs.Pieces.{header_first}
 use Rattle.lw_lut.proofs.writing.put_text.Goals as goal
-use Rattle.lw_frame.specs.Latches.{latch_line}
+use Rattle.lw_blif_text.specs.Latches.{latch_line}
 
 pub returns : goal.returns
 returns g c =

@@ -1,5 +1,5 @@
 use Rattle.std.proofs.Common.{◌∷◌, ◌++◌, ◌∙◌, ap₂, sym, subst}
-use Rattle.lw_frame.specs.Texts.{spaced}
+use Rattle.lw_blif_text.specs.Texts.{spaced}
 use Rattle.lw_mapped.specs.Texts.{ties, tie, net_name}
 use Rattle.lw_mapped.proofs.TextParts.{ended_with}
 use Rattle.lw_io.specs.Writers.{Writes}

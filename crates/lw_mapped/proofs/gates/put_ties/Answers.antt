@@ -1,6 +1,6 @@
 use Rattle.std.proofs.Common.{ℕ, ◌<◌, ◌≤◌, List, take, [], ◌∷◌, length, sym, ap₂, ◌∙◌, subst, arith}
 use Rattle.std.proofs.lemmas.List.{get_or_default, take_all}
-use Rattle.lw_frame.specs.Texts.{spaced}
+use Rattle.lw_blif_text.specs.Texts.{spaced}
 use Rattle.lw_pool.specs.declared.id.NetId.{NetId}
 use Rattle.lw_mapped.specs.Texts.{tie, ties}
 use Rattle.lw_mapped.proofs.TextParts.{ties_more}

@@ -1,6 +1,6 @@
 use Rattle.std.proofs.Common.{take}
 use Rattle.lw_io.specs.Writers.{Writes}
-use Rattle.lw_frame.specs.Texts.{spaced}
+use Rattle.lw_blif_text.specs.Texts.{spaced}
 use Rattle.lw_mapped.specs.Texts.{ties}
 use Rattle.lw_mapped.proofs.gates.put_ties.Given as goal
 

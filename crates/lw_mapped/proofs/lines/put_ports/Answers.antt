@@ -3,7 +3,7 @@ use Rattle.lw_io.specs.Writers.{Writes}
 use Rattle.lw_io.proofs.Putting.{Writes-both}
 use Rattle.lw_mapped.proofs.lines.put_ports.Goals as goal
 use Rattle.lw_netlist.specs.Plain.{port_name}
-use Rattle.lw_frame.proofs.WrittenLines.{ended_is}
+use Rattle.lw_blif_text.proofs.WrittenLines.{ended_is}
 
 pub returns : goal.returns
 returns g c = subst (λ l. Writes g.S.Sink.taken g.S.Sink.faults c.args.out.now c.put-2.new.self (c.args.first.now ++ l)) (sym (ended_is (map port_name c.args.ports.now))) (Writes-both c.put.ensures (Writes-both c.put_port_words.ensures c.put-2.ensures))

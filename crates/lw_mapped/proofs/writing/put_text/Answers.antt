@@ -8,7 +8,7 @@ use Rattle.lw_io.specs.Writers.{Writes}
 use Rattle.lw_io.proofs.Putting.{Writes-both}
 use Rattle.lw_mapped.proofs.TextParts.{gates_named}
 use Rattle.lw_mapped.proofs.writing.put_text.Goals as goal
-use Rattle.lw_frame.specs.Latches.{latch_line}
+use Rattle.lw_blif_text.specs.Latches.{latch_line}
 
 pub put_header-requires-clause-inputs : goal.put_header-requires-clause-inputs
 put_header-requires-clause-inputs g c = c.requires.framed.inputs

@@ -6,7 +6,7 @@ use Rattle.std.specs.Str.Parse.{digits_value}
 use Rattle.std.proofs.lemmas.Fmt.{digits_decimal, digits_value-decimal}
 use Rattle.lw_facts.proofs.Lists.{bytes_eq_same}
 use Rattle.lw_verilog.proofs.taken.number_in.Goals as goal
-use Rattle.lw_frame.proofs.GoodWords.{numerals}
+use Rattle.lw_blif_text.proofs.GoodWords.{numerals}
 
 pub returns-then-not-are_digits : goal.returns-then-not-are_digits
 returns-then-not-are_digits c = λ k lt same.

@@ -5,7 +5,7 @@ use Rattle.std.proofs.Math.Bool.{or-false}
 use Rattle.lw_words.specs.Lines.{LogicalLine}
 use Rattle.lw_words.specs.Words.{front}
 use Rattle.lw_words.proofs.Shared.{front_none, front_stop, front_end}
-use Rattle.lw_frame.specs.Ending.{lines_until, has_end, is_first}
+use Rattle.lw_blif_text.specs.Commands.{lines_until, has_end, is_first}
 
 pub first-more : (lines : List LogicalLine) (line : LogicalLine) → is_first (lines ++ line ∷ []) ≡ false
 first-more [] line = refl

@@ -1,9 +1,9 @@
 use Rattle.std.proofs.Common.{◌∷◌, sym, subst}
-use Rattle.lw_frame.specs.Texts.{spaced}
+use Rattle.lw_blif_text.specs.Texts.{spaced}
 use Rattle.lw_io.specs.Writers.{Writes}
 use Rattle.lw_io.proofs.Putting.{Writes-both}
-use Rattle.lw_frame.proofs.writing.put_latch.Goals as goal
-use Rattle.lw_frame.proofs.WrittenLines.{ended_is}
+use Rattle.lw_blif_text.proofs.writing.put_latch.Goals as goal
+use Rattle.lw_blif_text.proofs.WrittenLines.{ended_is}
 
 pub returns : goal.returns
 returns g c =

@@ -3,8 +3,8 @@ ghost use Rattle.std.specs.Prelude.{◌∷◌};
 ghost use Rattle.std.specs.List.{flat_map};
 ghost use Rattle.lw_io.specs.Writers.{Writes};
 ghost use Rattle.lw_words.specs.Texts.{line};
-ghost use Rattle.lw_frame.specs.Latches.{latch_line};
-ghost use Rattle.lw_frame.specs.Texts.{spaced};
+ghost use Rattle.lw_blif_text.specs.Latches.{latch_line};
+ghost use Rattle.lw_blif_text.specs.Texts.{spaced};
 
 use lw_io::{Sink, Writer};
 use lw_pool::{Latch, Name};

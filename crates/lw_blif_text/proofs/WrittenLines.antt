@@ -11,9 +11,9 @@ use Rattle.lw_words.specs.Lines.{LogicalLine, Text, is_blank, is_line_feed, has_
 use Rattle.lw_words.proofs.Trimming.{trimmed-ink, is_continued-last}
 use Rattle.lw_words.specs.Texts.{ended, line}
 use Rattle.lw_words.proofs.Shared.{no_feed, word_some, among_more}
-use Rattle.lw_frame.specs.Texts.{spaced}
-use Rattle.lw_frame.proofs.Each.{each-append, each-weaker}
-use Rattle.lw_frame.proofs.GoodWords.{EndsWell}
+use Rattle.lw_blif_text.specs.Texts.{spaced}
+use Rattle.lw_blif_text.proofs.Each.{each-append, each-weaker}
+use Rattle.lw_blif_text.proofs.GoodWords.{EndsWell}
 
 -- The texts of lines of words.
 

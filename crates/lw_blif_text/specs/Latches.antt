@@ -1,8 +1,12 @@
 -- Latches as lines of a text.
-use Rattle.std.specs.Prelude.{◌≤◌, length, All}
+use Rattle.std.specs.Prelude.{ℕ, ◌≤◌, List, ◌∷◌, length, All, codes}
 use Rattle.lw_pool.specs.declared.latch.Latch.{Latch}
+use Rattle.lw_words.specs.Texts.{line}
 use Rattle.lw_words.specs.Words.{IsSignalName}
-pub use Rattle.lw_frame.specs.Frames.{latch_line}
+
+-- what the latch stores, what it gives, and its further words
+abbrev pub latch_line : Latch → List ℕ
+latch_line latch = line (codes ".latch") (latch.input ∷ latch.output ∷ latch.rest)
 
 -- two names, and up to three further ones
 pub record IsReadableLatch (latch : Latch) : Type 0 where

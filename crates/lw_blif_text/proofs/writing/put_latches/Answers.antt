@@ -2,8 +2,8 @@ use Rattle.std.proofs.Common.{subst}
 use Rattle.lw_pool.specs.declared.latch.Latch.{Latch}
 use Rattle.lw_io.specs.Writers.{Writes}
 use Rattle.lw_io.proofs.Putting.{Writes-more}
-use Rattle.lw_frame.proofs.writing.put_latches.Goals as goal
-use Rattle.lw_frame.specs.Latches.{latch_line}
+use Rattle.lw_blif_text.proofs.writing.put_latches.Goals as goal
+use Rattle.lw_blif_text.specs.Latches.{latch_line}
 
 pub loop-latch-preserved : goal.loop-latch-preserved
 loop-latch-preserved g c =
