@@ -9,6 +9,7 @@ failing() { # CASE
     trade_of_one_wide_node) echo '7.2 s, 1.3 GB' ;;
     names_that_collide) echo '12 s' ;;
     names_of_networks_that_collide) echo '1.1 s' ;;
+    cells_with_one_beginning) echo '4.8 s' ;;
     equal_of_a_million_gates | equal_of_100000_gates | equal_of_most_signals) echo '2.7 s for 30,000 gates, and by the square' ;;
     equal_of_long_carries) echo '1.3 s for 4,000 bits, and by the square' ;;
     equal_of_ands_in_two_orders) echo '0.8 s for 2,000 inputs, and by the square' ;;
