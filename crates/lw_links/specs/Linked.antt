@@ -16,7 +16,8 @@ CarryInputs v inputs x = (i : ℕ) → i < inputs → v (i + 1) ≡ x i
 -- The literal has the value of a base form, wherever the nodes of the inputs have the values of the inputs.
 pub record HasBaseValue (gates : List Gate) (forms : NumberedForms) (b : ℕ) (l : Literal) : Type 0 where
   pub within : IsBelow (length gates) l
-  pub always : (v x value : ℕ → Bool) → AreNodeValues gates v → CarryInputs v forms.inputs x → AreNumberedValues forms x value → literal_value v l ≡ value (2 * b)
+  pub always : (v x value : ℕ → Bool) → AreNodeValues gates v → CarryInputs v forms.inputs x
+      → AreNumberedValues forms x value → literal_value v l ≡ value (2 * b)
 
 -- By base form, from the first on, a literal that has its value; the graph has the inputs first.
 pub record StandFor (gates : List Gate) (forms : NumberedForms) (literals : List Literal) : Type 0 where
@@ -38,7 +39,8 @@ signed_literal literals f =
 
 -- Two base forms whose literals are of one node have one value there, each as it is or by its complement.
 pub record TellPairs (forms : NumberedForms) (literals : List Literal) : Type 0 where
-  pub each : (a b : ℕ) (l m : Literal) → slice_get literals a ≡ Some l → slice_get literals b ≡ Some m → node_of l ≡ node_of m → HaveOneValue forms (2 * a + l.0 % 2) (2 * b + m.0 % 2)
+  pub each : (a b : ℕ) (l m : Literal) → slice_get literals a ≡ Some l → slice_get literals b ≡ Some m
+      → node_of l ≡ node_of m → HaveOneValue forms (2 * a + l.0 % 2) (2 * b + m.0 % 2)
 
 -- The same list of base forms with further pairs, which each have one value.
 pub record IsLinked (old new : NumberedForms) : Type 0 where

@@ -93,8 +93,8 @@ fn work_of(sweep: &Sweep) -> Counts {
     }
 }
 
-/// Adds a pair for each base form that has the value of an earlier one, or of its complement, as far
-/// as these limits allow to find out.
+/// Adds a pair for each base form that has the value of an earlier one, or of its complement, as
+/// far as these limits allow to find out.
 ///
 /// Which pairs are found is not promised. Each pair has one value under every assignment. It is of
 /// the first base form with the value of a node, and of a later one.
