@@ -67,7 +67,7 @@ use Rattle.lw_map.proofs.PortNames.{few_outputs, port_list, port_names}
 use Rattle.lw_map.proofs.Ranges.{label_below, unfolds_low}
 use Rattle.lw_answers.specs.Checked.{AreApart}
 use Rattle.lw_answers.proofs.FormGraphs.{form_graph}
-use Rattle.lw_answers.proofs.NetNames.{nets-named}
+use Rattle.lw_top.proofs.NetNames.{nets-named}
 use Rattle.lw_area.specs.Recovered.{IsCertificateOver, IsRecovered, class_number}
 use Rattle.lw_area.specs.Words.{Settings}
 
