@@ -4,9 +4,11 @@ pub mod DrawOne
 pub mod VerilogOne
 pub mod One
 pub mod Uncovered
+pub mod Untraded
+pub mod Unsayable
 pub mod FormGraphs
-pub mod NetNames
 pub mod MappedChecks
 pub mod Accepted
+pub mod ReadsBack
 pub mod Writable
 pub mod ComesBack

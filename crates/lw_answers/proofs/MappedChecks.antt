@@ -1,8 +1,7 @@
 -- A mapped netlist with its certificate can be written and read back, and a check of it says yes.
-use Rattle.std.proofs.Common.{ℕ, suc, ◌+◌, ◌*◌, ◌^◌, ◌<◌, ◌≤◌, ◌≡◌, List, [], ◌∷◌, ◌++◌, length, map, All, Option, Some, None, slice_get, slice_index_or, refl, ap, ap₂, sym, ◌∙◌, subst, subst₂, arith, mul-le-mul_right, length-append}
+use Rattle.std.proofs.Common.{ℕ, suc, ◌+◌, ◌*◌, ◌^◌, ◌<◌, ◌≤◌, ◌≡◌, Bool, true, false, List, [], ◌∷◌, length, map, All, Option, Some, None, slice_get, slice_index_or, refl, ap, sym, ◌∙◌, subst, subst₂, arith, mul-le-mul_right}
 use Rattle.std.specs.Prelude.{option_map, IfSome}
-use Rattle.std.specs.List.{AllZip, AllByRecursion as Each}
-use Rattle.std.proofs.lemmas.List.{length-map, length-take-le, get_or_default}
+use Rattle.std.proofs.lemmas.List.{length-map, get_or_default}
 use Rattle.std.proofs.lemmas.List.Elements.{All-nil, All-cons}
 use Rattle.std.proofs.lemmas.Option.{get_or_from_slice_get, slice_get_within}
 use Rattle.std.proofs.lemmas.Slice.Zip.{AllZip-long}
@@ -13,18 +12,13 @@ use Rattle.lw_laws.specs.Costs.{Cost}
 use Rattle.lw_laws.specs.Covers.{Pattern, Timing, tree_of}
 use Rattle.lw_laws.specs.Delays.{delay_cost}
 use Rattle.lw_laws.specs.Graphs.{Graph, most_classes}
-use Rattle.lw_laws.specs.Headline.{Port as PlainPort}
 use Rattle.lw_laws.specs.Mapped.{root_class}
 use Rattle.lw_laws.specs.MappedNetlists.{root_classes}
 use Rattle.lw_laws.specs.Matches.{IsLeastCover}
-use Rattle.lw_laws.specs.Netlists.{AreByDepth}
 use Rattle.lw_laws.specs.Networks.{Network}
 use Rattle.lw_laws.specs.Rounds.{labels_in}
 use Rattle.lw_laws.proofs.Lists.{slice_get_some}
-use Rattle.lw_laws.proofs.MappedDepths.{extracted_by_depth}
-use Rattle.lw_laws.proofs.NetlistOf.{netlist_leaf_labels}
 use Rattle.lw_laws.proofs.Numbers.{slice_get_map, slice_get_map_back}
-use Rattle.lw_net.specs.Networks.{NetworkParts, input_names, output_names, name_in}
 use Rattle.lw_net.specs.Plain as network
 use Rattle.lw_net.proofs.Rise.{in_order}
 use Rattle.lw_frame.specs.Frames.{Fits}
@@ -37,13 +31,12 @@ use Rattle.lw_pattern.specs.Libraries.{library_patterns}
 use Rattle.lw_label.specs.Delays.{most_time}
 use Rattle.lw_label.proofs.CellLaws.{timing_up}
 use Rattle.lw_netlist.specs.declared.gate.Gate.{Gate}
-use Rattle.lw_netlist.specs.declared.gate.Port.{Port}
 use Rattle.lw_netlist.specs.Netlists.{NetlistParts}
 use Rattle.lw_netlist.specs.Plain as netlist
-use Rattle.lw_netlist.specs.Plain.{HasCell, IsOver, plain_port, port_name}
+use Rattle.lw_netlist.specs.Plain.{HasCell, IsOver}
 use Rattle.lw_mapped.specs.declared.certificate.Certificate.{Certificate}
 use Rattle.lw_mapped.specs.Parsed.{IsLabel}
-use Rattle.lw_mapped.specs.Readable.{IsReadable, IsReadableCertificate, read_of}
+use Rattle.lw_mapped.specs.Readable.{IsReadable, IsReadableCertificate, HasReadableCertificate, read_of}
 use Rattle.lw_mapped.specs.Standing.{AreLabels}
 use Rattle.lw_check.specs.declared.verdict.Verdict.TheVariants as verdict
 use Rattle.lw_check.specs.Claims.{Claim}
@@ -53,34 +46,17 @@ use Rattle.lw_check.proofs.Accepting.{mapping_accepted}
 use Rattle.lw_map.specs.Options.{Options, IsWide}
 use Rattle.lw_map.specs.Mapped.{IsMappedNetlist, IsWithinLimits}
 use Rattle.lw_map.proofs.CellLaws.{delay_patterns}
-use Rattle.lw_map.proofs.Names.{mapped_has_names}
-use Rattle.lw_map.proofs.PortNames.{few_outputs}
 use Rattle.lw_map.proofs.Ranges.{unfolds_low, label_below}
-use Rattle.lw_top.specs.Maps.{HasCertificate}
+use Rattle.lw_top.specs.Maps.{HasCertificate, IsAskedFor}
 use Rattle.lw_top.specs.Checks.{HasVerdict}
 use Rattle.lw_answers.specs.Checked.{AreApart}
 use Rattle.lw_answers.proofs.FormGraphs.{form_graph}
-use Rattle.lw_answers.proofs.NetNames.{nets-named}
+use Rattle.lw_top.proofs.MappedNames.{inputs_count, outputs_same, mapped_named}
 use Rattle.lw_files.proofs.SignalNames.{IsNamed}
 use Rattle.lw_files.proofs.Kept.{AreKept}
-use Rattle.lw_words.specs.Words.{IsSignalName}
 use Rattle.lw_pool.specs.Numbers.{numbers, net_number}
 use Rattle.lw_net.specs.Ports.{output_port, ports_of}
 use Rattle.lw_assoc.proofs.Built.{pairs_bound}
-use Rattle.lw_frame.proofs.Each.{each-of}
-
--- Lists beside each other.
-
--- the names of outputs side by side
-names_beside : (R : PlainPort → PlainPort → Type 0) (net : NetworkParts) (outputs : List NetId) (ports : List Port) → AllZip (λ p q. (p.name ≡ q.name) × R p q) (map (output_port net) outputs) (map plain_port ports) → map port_name ports ≡ map (name_in net) outputs
-names_beside R net [] [] z = refl
-names_beside R net [] (q ∷ ports) z = absurd z
-names_beside R net (o ∷ outputs) [] z = absurd z
-names_beside R net (o ∷ outputs) (q ∷ ports) ((e, r), z) = ap₂ (λ n ns. n ∷ ns) (sym e) (names_beside R net outputs ports z)
-
-port_names : (net : NetworkParts) (outputs : List NetId) → map (λ (p : PlainPort). p.name) (map (output_port net) outputs) ≡ map (name_in net) outputs
-port_names net [] = refl
-port_names net (o ∷ outputs) = ap (λ ns. name_in net o ∷ ns) (port_names net outputs)
 
 -- Classes as numbers.
 
@@ -184,40 +160,27 @@ module _ (options : Options) (cells : List CellParts) (model : Parsed) (wide : I
             pins = sym nets_of_gate ∙ (nets_of_match ∙ (sym one_delay ∙ (sym delays_of_cell ∙ listed.kept.delays)));
           }
 
-  by_depth : AreByDepth (netlist.plain n)
-  by_depth =
-      extracted_by_depth g cost pats (labels_in is.is.labels) is.is.heights is.is.height (root_classes options.width net g (ports_of model.network).outputs) is.is.gates (netlist.plain n) is.is.gate_classes is.is.extracted
-      (netlist_leaf_labels options.mode options.width net (ports_of model.network) pats timing most_time (netlist.plain n) n.names _ wide.least (delay_patterns cells lib) is.is)
-
-  -- Names.
-
-  inputs_count : n.inputs ≡ model.network.inputs
-  inputs_count = is.is.extracted.inputs ∙ is.is.is_graph.written.leaf_count
-
-  outputs_same : map port_name n.outputs ≡ output_names model.network
-  outputs_same = names_beside _ model.network model.network.outputs n.outputs is.is.outputs
-
-  room : 1 + (length is.is.gates + length (input_names model.network ++ map (λ (p : PlainPort). p.name) (ports_of model.network).outputs)) < 2 ^ 64
-  room =
-      let a = length-map n.gates netlist.plain_gate in
-      let b = is.kept.few in
-      let c = is.kept.named in
-      let d = kept.network.named in
-      let e = kept.network.few in
-      let f = length-take-le model.network.inputs model.network.names (omega arith) in
-      let h = few_outputs model.network kept.network kept.fits.outputs in
-      let i = length-append (input_names model.network) (map (λ (p : PlainPort). p.name) (ports_of model.network).outputs) in
-      let j = ap length (port_names model.network model.network.outputs) in
-      let k = length-map model.network.outputs (name_in model.network) in
-      let l = is.is.extracted.one_each in
-      omega arith
-
   module _ (named : IsNamed model) where
-    net_names : All IsSignalName n.names
-    net_names =
-        subst (All IsSignalName) (sym is.is.names_are)
-        (nets-named (input_names model.network) (map (λ (p : PlainPort). p.name) (ports_of model.network).outputs) (root_classes options.width net g (ports_of model.network).outputs) is.is.gates room (each-of IsSignalName (input_names model.network) named.inputs)
-        (subst (Each IsSignalName) (sym (port_names model.network model.network.outputs)) (each-of IsSignalName (output_names model.network) named.outputs)))
+    -- The text.
+
+    readable_by : (certificate : Option Certificate) → HasReadableCertificate (length n.gates) certificate → AreApart cells → IsReadable cells n model.frame model.starts certificate
+    readable_by certificate can_be_read apart =
+        let names = mapped_named options cells model wide kept lib n is named in
+        record {
+          library = lib;
+          apart = apart;
+          netlist = is.kept;
+          over = over;
+          by_depth = names.by_depth;
+          model = names.model;
+          signals = names.signals;
+          outputs = names.outputs;
+          names = names.names;
+          frame_fits = subst₂ (λ ins outs. Fits model.frame ins outs) (sym is.is.input_names) (sym (outputs_same options cells model wide kept lib n is)) kept.fits.frame;
+          starts_fit = subst (λ k. StartsFit model.frame k model.starts) (sym (inputs_count options cells model wide kept lib n is)) kept.fits.starts;
+          latches = named.latches;
+          has_certificate = can_be_read;
+        }
 
     module _ (certificate : Certificate) (asked : HasCertificate options cells model.network model.starts n is certificate) where
       -- The certificate.
@@ -244,24 +207,8 @@ module _ (options : Options) (cells : List CellParts) (model : Parsed) (wide : I
           by_label k None e = tt
           by_label k (Some label) e = label_small k label.0 (label_said k label e)
 
-      -- The text.
-
       pub readable : AreApart cells → IsReadable cells n model.frame model.starts (Some certificate)
-      readable apart = record {
-        library = lib;
-        apart = apart;
-        netlist = is.kept;
-        over = over;
-        by_depth = by_depth;
-        model = subst IsSignalName (sym is.model_name) named.model;
-        signals = net_names;
-        outputs = subst (All IsSignalName) (sym outputs_same) named.outputs;
-        names = mapped_has_names options cells model.network model.starts wide kept.network kept.names_differ kept.fits.inputs kept.fits.outputs n is;
-        frame_fits = subst₂ (λ ins outs. Fits model.frame ins outs) (sym is.is.input_names) (sym outputs_same) kept.fits.frame;
-        starts_fit = subst (λ k. StartsFit model.frame k model.starts) (sym inputs_count) kept.fits.starts;
-        latches = named.latches;
-        has_certificate = readable_certificate;
-      }
+      readable = readable_by (Some certificate) readable_certificate
 
       -- The verdict.
 
@@ -306,3 +253,10 @@ module _ (options : Options) (cells : List CellParts) (model : Parsed) (wide : I
         roots_are = class_ids roots;
         is = mapping_accepted options.mode options.width own own_kept own_graph own_mapping;
       }
+
+    -- with the certificate that was asked for, or without one
+    pub readable_asked : (certified : Bool) (certificate : Option Certificate) → IsAskedFor options cells model.network model.starts n is certified certificate → AreApart cells → IsReadable cells n model.frame model.starts certificate
+    readable_asked false None asked = readable_by None tt
+    readable_asked false (Some certificate) asked = absurd asked
+    readable_asked true None asked = absurd asked
+    readable_asked true (Some certificate) asked = readable_by (Some certificate) (readable_certificate certificate asked)

@@ -1,5 +1,5 @@
 -- There is no cover for the answer exactly where some root has none.
-use Rattle.std.proofs.Common.{◌≡◌, ◌↔◌, inl, inr, ℕ, Bool, List, Option, Some, Result, Ok, Err, Contains, slice_get, refl, sym, ◌∙◌, subst, arith}
+use Rattle.std.proofs.Common.{◌≡◌, ◌↔◌, inl, inr, ℕ, Bool, List, Some, Result, Ok, Err, Contains, slice_get, refl, sym, ◌∙◌, subst, arith}
 use Rattle.std.proofs.lemmas.Option.{get_or_from_slice_get, slice_get_within}
 use Rattle.lw_pool.specs.declared.id.NetId.{NetId}
 use Rattle.lw_laws.proofs.Lists.{slice_get_some}
@@ -11,20 +11,20 @@ use Rattle.lw_files.specs.Steps.{Files}
 use Rattle.lw_map.specs.Options.{Options}
 use Rattle.lw_map.specs.Mapped.{IsWithinLimits, IsUncovered}
 use Rattle.lw_map.proofs.Once.{covered}
-use Rattle.lw_top.specs.Words.{Command, mapping, command_of}
+use Rattle.lw_top.specs.Words.{Command, mapping}
 use Rattle.lw_top.specs.Maps.{Maps}
 use Rattle.lw_top.specs.Mappings.{AreRead}
-use Rattle.lw_top.specs.Answers.{asked_for, IsMappingAnswer, IsCommandAnswer, IsAnswer, status_in}
+use Rattle.lw_top.specs.Answers.{IsMappingAnswer, IsAnswer, status_in}
 use Rattle.lw_top.proofs.InRange.{command_in_range}
 use Rattle.lw_files.proofs.Kept.{cells_kept, model_kept}
-use Rattle.lw_top.proofs.Sound.{asked_some}
+use Rattle.lw_top.proofs.Asked.{asked_answer}
 use Rattle.lw_answers.proofs.One.{library_one, model_read_one}
 use Rattle.lw_top.proofs.MapAnswers.{Lack, of_forms, of_splits, of_cover, by_lack}
 
-contained : (outputs : List NetId) (place : ℕ) (root : NetId) → slice_get outputs place ≡ Some root → Contains outputs root
+pub contained : (outputs : List NetId) (place : ℕ) (root : NetId) → slice_get outputs place ≡ Some root → Contains outputs root
 contained outputs place root at = (place, slice_get_within outputs place root at, get_or_from_slice_get outputs place root root at)
 
-at_place : (outputs : List NetId) (root : NetId) → Contains outputs root → (place : ℕ) × (slice_get outputs place ≡ Some root)
+pub at_place : (outputs : List NetId) (root : NetId) → Contains outputs root → (place : ℕ) × (slice_get outputs place ≡ Some root)
 at_place outputs root (place, lt, is) =
     let (other, at) = slice_get_some outputs place lt in
     let same : other ≡ root = sym (get_or_from_slice_get outputs place other root at) ∙ is in
@@ -50,13 +50,7 @@ module _ (words : List (List ℕ)) (files : Files) (options : Options) (certifie
       cc
 
   answer-maps : (a : Result (List ℕ) Refusal) → IsAnswer words files a → Maps options certified cells model files a
-  answer-maps a (inl (c, is, comes)) =
-      let both : Some c ≡ Some own = sym (asked_some (command_of words) c is) ∙ read.form in
-      let same : c ≡ own = cc in
-      maps-mapping a (subst (λ (d : Command). IsCommandAnswer d files a) same comes)
-  answer-maps a (inr (e, refused, is)) =
-      let no : ◌≡◌ {A = Result Command Refusal} (Ok own) (Err e) = subst (λ (o : Option Command). ◌≡◌ {A = Result Command Refusal} (asked_for o) (Err e)) read.form refused in
-      cc
+  answer-maps a answer = maps-mapping a (asked_answer words files own a read.form answer)
 
   abbrev HasLack : Type 0
   HasLack = (root : NetId) × Contains model.network.outputs root × IsUncovered options cells model.network model.starts root

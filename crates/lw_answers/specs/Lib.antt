@@ -1,2 +1,4 @@
 pub mod Checked
 pub mod Backs
+pub mod Trades
+pub mod ReadsBack

@@ -1,15 +1,23 @@
 //! Laws over definitions: functions with empty bodies, whose clauses are the laws.
-ghost use Rattle.std.specs.Prelude.{◌≡◌, ◌↔◌, ℕ, Bool, List, Result, Ok, Contains};
+ghost use Rattle.std.specs.Prelude.{◌≡◌, ◌⊎◌, ◌↔◌, ℕ, Bool, List, Option, None, Result, Ok};
+ghost use Rattle.std.specs.Prelude.{Contains};
+ghost use Rattle.lw_fixed.specs.declared.micro.Micro.{Micro};
 ghost use Rattle.lw_pool.specs.declared.id.NetId.{NetId};
 ghost use Rattle.lw_genlib.specs.Cells.{CellParts};
 ghost use Rattle.lw_blif.specs.declared.parsed.Parsed.{Parsed};
 ghost use Rattle.lw_files.specs.Steps.{Files};
 ghost use Rattle.lw_map.specs.Options.{Options};
 ghost use Rattle.lw_map.specs.Mapped.{IsWithinLimits, IsUncovered};
+ghost use Rattle.lw_map.specs.Mapped.{HasTooManyForms, HasTooManySplits};
 ghost use Rattle.lw_top.specs.Answers.{AreAlike, IsAnswer, status_in};
 ghost use Rattle.lw_answers.specs.Backs.{IsBackOf, ComesBack};
 ghost use Rattle.lw_top.specs.Checks.{yes_text};
 ghost use Rattle.lw_answers.specs.Checked.{IsCheckOf};
+ghost use Rattle.lw_answers.specs.Trades.{AreReadToTrade};
+ghost use Rattle.lw_answers.specs.ReadsBack.{ReadsBack};
+ghost use Rattle.lw_top.specs.Translated.{AsksForVerilog, LacksVerilog};
+ghost use Rattle.lw_verilog.specs.declared.reason.NoVerilog.{NoVerilog};
+ghost use Rattle.lw_top.specs.Trades.{LacksPoints};
 ghost use Rattle.lw_top.specs.Mappings.{AsksForMapping, AsksForTables, AreRead, IsMappingText};
 ghost use Rattle.lw_top.specs.Traded.{AsksForTrade, IsTrade};
 ghost use Rattle.lw_top.specs.declared.refusal.Refusal.{Refusal};
@@ -50,12 +58,54 @@ pub fn uncovered_roots_are_refused()
         IsUncovered options cells model.network model.starts root) }
 {}
 
+/// Where the words ask for the least area by a deadline, or without one, the answer is that there
+/// is no cover exactly where some root has none, if the network is within the limits. A limit is
+/// passed exactly where there are too many forms, or else splits, or where each root has a cover
+/// and up to the deadline the classes have too many points.
+pub fn trades_are_refused()
+    ensures cover { (words : List (List ℕ)) (files : Files) (deadline : Option Micro)
+        (options : Options) (cells : List CellParts) (model : Parsed)
+        (a : Result (List ℕ) Refusal) →
+        AreReadToTrade words files deadline options cells model →
+        IsWithinLimits options model.network → IsAnswer words files a
+        → (status_in a ≡ 6) ↔ ((root : NetId) × Contains model.network.outputs root ×
+        IsUncovered options cells model.network model.starts root) }
+    ensures limit { (words : List (List ℕ)) (files : Files) (deadline : Option Micro)
+        (options : Options) (cells : List CellParts) (model : Parsed)
+        (a : Result (List ℕ) Refusal) →
+        AreReadToTrade words files deadline options cells model → IsAnswer words files a
+        → (status_in a ≡ 5) ↔ (HasTooManyForms options model.network
+        ⊎ (HasTooManySplits options model.network
+        ⊎ LacksPoints options cells model.network model.starts deadline)) }
+{}
+
 /// What a mapping wrote with its certificate is accepted by a check over the same library and
 /// network, by the same options.
 pub fn written_mappings_are_accepted()
     ensures { (words checks : List (List ℕ)) (files others : Files) (text : List ℕ)
         → IsCheckOf words files text checks others → IsAnswer words files (Ok text) →
         IsAnswer checks others (Ok yes_text) }
+{}
+
+/// What a mapping or a trade wrote reads back: where no cell of the library has an output with the
+/// name of one of its pins, each file with the text is read as the netlist that it was written of,
+/// with its latches, its starts and its certificate.
+pub fn written_netlists_read_back()
+    ensures mapping { (words : List (List ℕ)) (files : Files) (text : List ℕ) →
+        AsksForMapping words → IsAnswer words files (Ok text)
+        → (is : IsMappingText words files text) ×
+        ReadsBack is.cells is.netlist is.model.frame is.model.starts is.certificate text }
+    ensures trade { (words : List (List ℕ)) (files : Files) (text : List ℕ)
+        → (is : IsTrade words files text) →
+        ReadsBack is.cells is.netlist is.model.frame is.model.starts None text }
+{}
+
+/// Where a mapped netlist is asked for in Verilog, status 11 is that of the netlist that was read
+/// and that one of the tests refuses, and only of such a one.
+pub fn unsayable_netlists_are_refused()
+    ensures { (words : List (List ℕ)) (files : Files) (a : Result (List ℕ) Refusal) →
+        AsksForVerilog words → IsAnswer words files a
+        → (status_in a ≡ 11) ↔ ((why : NoVerilog) × LacksVerilog words files why) }
 {}
 
 /// What was written in Verilog is read back: where a text in Verilog was written of a mapped

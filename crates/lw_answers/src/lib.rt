@@ -9,7 +9,8 @@
 mod laws;
 
 pub use laws::{
-    answers_are_mappings, answers_are_one, answers_are_trades, uncovered_roots_are_refused,
-    verilog_reads_back, written_mappings_are_accepted,
+    answers_are_mappings, answers_are_one, answers_are_trades, trades_are_refused,
+    uncovered_roots_are_refused, unsayable_netlists_are_refused, verilog_reads_back,
+    written_mappings_are_accepted, written_netlists_read_back,
 };
 pub use lw_top::answers_are_tables;

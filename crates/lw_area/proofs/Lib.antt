@@ -1,7 +1,11 @@
 mod Options
 mod Steps
+mod Further
+mod Reading
 mod Serving
 mod Endings
+mod Complete
+mod Timely
 mod Fastest
 mod First
 mod Passed
@@ -9,11 +13,10 @@ mod Looking
 mod Certificates
 mod Cases
 mod Smaller
-mod Made
-mod Complete
-mod Uncovered
-mod Nodes
 mod Attaining
+mod Made
+mod Judging
+mod Accepted
 mod CertifiedWords
 mod Checkable
-mod Accepted
+mod Uncovered

@@ -10,8 +10,8 @@ use Rattle.lw_backtrace.specs.declared.trail.Trail.{Trail}
 use Rattle.lw_backtrace.specs.declared.wants.Plan.{Plan}
 use Rattle.lw_backtrace.specs.declared.wants.Want.{Want}
 use Rattle.lw_backtrace.specs.declared.wants.Demand.{Demand}
-use Rattle.lw_choices.specs.declared.choices.Gate.{Gate}
-use Rattle.lw_choices.specs.declared.choices.Stand.TheVariants as stand
+use Rattle.lw_choices.specs.declared.rows.Gate.{Gate}
+use Rattle.lw_choices.specs.declared.rows.Stand.TheVariants as stand
 use Rattle.std.specs.Global.{Vec}
 use Rattle.lw_genlib.specs.Cells.{CellParts}
 use Rattle.lw_choices.specs.Areas.{most_area}

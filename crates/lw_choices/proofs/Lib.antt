@@ -1,7 +1,9 @@
+pub mod Alike
 pub mod Linking
 pub mod Listing
 pub mod Lists
 pub mod Members
+pub mod Moving
 pub mod Parts
 pub mod Storing
 pub mod Using

@@ -1,5 +1,6 @@
 -- What may stand at the classes of a graph: the inputs, and the matches of the patterns.
-use Rattle.std.specs.Prelude.{ℕ, ◌≡◌, ◌<◌, List, length, Some, slice_get, slice_index_or}
+use Rattle.std.specs.Prelude.{ℕ, ◌≡◌, ◌<◌, List, length, Some, slice_get, slice_index_or, zip}
+use Rattle.std.specs.List.Sorted.{IsPermutation}
 use Rattle.lw_laws.specs.Matches.{IsMatchAt}
 use Rattle.lw_laws.specs.Covers.{delays_of, HasPins}
 use Rattle.lw_genlib.specs.Cells.{CellParts}
@@ -22,12 +23,31 @@ abbrev pub MayStand : Task → ℕ → Part → Type 0
 MayStand s c (input i) = slice_get s.graph.leaves i ≡ Some c
 MayStand s c (gate cell ps) = IsMatchAt s.graph (area_cost s.cells).pin_counts s.patterns c cell ps
 
--- each that may stand at a class of the graph, and no other
+-- the pins of a cell, each with its delay and its class
+abbrev pub uses_of : List CellParts → ℕ → List ℕ → List (ℕ × ℕ)
+uses_of cells cell ps = zip (delays_of (delays_of_cells cells) cell) ps
+
+-- the same input, or the same cell with as many pins of each class and delay
+abbrev pub AreAlike : List CellParts → Part → Part → Type 0
+AreAlike cells (input i) (input j) = i ≡ j
+AreAlike cells (gate cell ps) (gate other qs) =
+    (cell ≡ other) × IsPermutation (uses_of cells cell ps) (uses_of cells cell qs)
+AreAlike cells (input i) (gate other qs) = ⊥
+AreAlike cells (gate cell ps) (input j) = ⊥
+
+-- one that is alike is listed for the class
+pub record IsListedLike (cells : List CellParts) (choices : List Choice) (c : ℕ) (part : Part) : Type 0 where
+  pub number : ℕ
+  pub other : Part
+  pub at : slice_get choices number ≡ Some (record { class = c; part = other })
+  pub alike : AreAlike cells part other
+
+-- what may stand at the classes of the graph and nothing else; of those that are alike not each one need be listed
 pub record AreListedChoices (s : Task) (choices : List Choice) : Type 0 where
   pub each : (n : ℕ) (x : Choice) → slice_get choices n ≡ Some x → MayStand s x.class x.part
   pub within : (n : ℕ) (x : Choice) → slice_get choices n ≡ Some x → x.class < length s.graph.pairs
   pub all : (c : ℕ) (part : Part) → c < length s.graph.pairs → MayStand s c part
-      → (n : ℕ) × (slice_get choices n ≡ Some (record { class = c; part = part }))
+      → IsListedLike s.cells choices c part
 
 -- the pin with this number has the class
 abbrev pub HasPinAt : Part → ℕ → ℕ → Type 0

@@ -4,5 +4,6 @@ pub mod Chains
 pub mod Choices
 pub mod GroupChoices
 pub mod PinGroups
+pub mod PinUses
 pub mod Rows
 pub mod Tasks

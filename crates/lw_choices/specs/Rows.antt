@@ -1,20 +1,22 @@
 -- What may stand at classes, as the code lists it.
-use Rattle.std.specs.Prelude.{ℕ, ◌+◌, ◌<◌, ◌≡◌, All, List, [], ◌∷◌, ◌++◌, length, map, Some, slice_get}
+use Rattle.std.specs.Prelude.{ℕ, ◌+◌, ◌<◌, ◌≤◌, ◌≡◌, ◌⊎◌, All, List, [], ◌∷◌, ◌++◌, length, map, Some, slice_get}
 use Rattle.lw_fixed.specs.declared.micro.Micro.{Micro}
 use Rattle.lw_genlib.specs.Cells.{CellParts}
 use Rattle.lw_laws.specs.Covers.{Pattern}
 use Rattle.lw_laws.specs.Graphs.{Graph}
 use Rattle.lw_cost.specs.Least.{AreOfCells}
 use Rattle.lw_settle.specs.Stores.{Stored, IsStoreOf}
-use Rattle.lw_pool.specs.declared.id.CellId.{CellId}
 use Rattle.lw_pool.specs.declared.id.ClassId.{ClassId}
 use Rattle.lw_choices.specs.Areas.{area_cost}
-use Rattle.lw_choices.specs.declared.choices.ListedChoice.{ListedChoice}
-use Rattle.lw_choices.specs.declared.choices.Stand.{Stand}
-use Rattle.lw_choices.specs.declared.choices.Stand.TheVariants.{Input, Gate}
-use Rattle.lw_choices.specs.Choices.{Part, Choice, AreListedChoices, MayStand, IsPartFor}
+use Rattle.lw_choices.specs.declared.listed.Listed.{Listed}
+use Rattle.lw_choices.specs.declared.rows.Gate.{Gate as GateOfMatch}
+use Rattle.lw_choices.specs.declared.rows.ListedChoice.{ListedChoice}
+use Rattle.lw_choices.specs.declared.rows.Stand.{Stand}
+use Rattle.lw_choices.specs.declared.rows.Stand.TheVariants.{Input, Gate}
+use Rattle.lw_choices.specs.Choices.{Part, Choice, AreListedChoices, IsListedLike, MayStand, IsPartFor}
 use Rattle.lw_choices.specs.Choices.Part.{input, gate}
 use Rattle.lw_choices.specs.Chains.{number_count}
+use Rattle.lw_choices.specs.PinUses.{bucket_count}
 use Rattle.lw_choices.specs.Tasks.{Task, task}
 use Rattle.lw_pool.specs.Numbers.{numbers}
 
@@ -46,40 +48,68 @@ pub record AreRowsFor (cells : List CellParts) (classes : ℕ) (rows : List List
 abbrev pub IsAmong : List Choice → ℕ → Part → Type 0
 IsAmong choices c part = (n : ℕ) × (slice_get choices n ≡ Some (record { class = c; part = part }))
 
--- the first inputs, and the matches at the first classes, each of which may stand at its class
-pub record IsListing (s : Task) (inputs classes : ℕ) (choices : List Choice) : Type 0 where
+-- what may stand: the inputs from a number on, and for each match at the classes from one on one that is alike
+pub record IsListing (s : Task) (first class : ℕ) (choices : List Choice) : Type 0 where
   pub each : (n : ℕ) (x : Choice) → slice_get choices n ≡ Some x → MayStand s x.class x.part
   pub within : (n : ℕ) (x : Choice) → slice_get choices n ≡ Some x → x.class < length s.graph.pairs
-  pub inputs_are : (i c : ℕ) → i < inputs → slice_get s.graph.leaves i ≡ Some c → IsAmong choices c (input i)
-  pub gates_are : (c cell : ℕ) (ps : List ℕ) → c < classes → MayStand s c (gate cell ps)
-      → IsAmong choices c (gate cell ps)
+  pub inputs_are : (i c : ℕ) → first ≤ i → slice_get s.graph.leaves i ≡ Some c → IsAmong choices c (input i)
+  pub gates_are : (c cell : ℕ) (ps : List ℕ) → class ≤ c → c < length s.graph.pairs → MayStand s c (gate cell ps)
+      → IsListedLike s.cells choices c (gate cell ps)
 
--- a cell at a class more
-abbrev pub IsGatePushed : List ListedChoice → List ListedChoice → ClassId → CellId → List ClassId → Type 0
-IsGatePushed old new class cell pins =
-    plain_rows new ≡ plain_rows old ++ record { class = class.0; part = gate cell.0 (numbers pins) } ∷ []
+-- a match is listed, or one that is alike was
+pub record IsGateAdded (cells : List CellParts) (old new : List Choice) (x : Choice) : Type 0 where
+  pub only : (new ≡ old) ⊎ (new ≡ old ++ x ∷ [])
+  pub like : IsListedLike cells new x.class x.part
 
--- the matches at a class more, by cells of any library that the patterns are of
-abbrev pub IsClassListed : Graph → List Pattern → ℕ → List ListedChoice → List ListedChoice → Type 0
-IsClassListed g pats c old new =
-    (cells : List CellParts) (starts : List Micro) → AreOfCells (area_cost cells).pin_counts pats
-    → IsListing (task g pats cells starts) (length g.leaves) c (plain_rows old)
-    → IsListing (task g pats cells starts) (length g.leaves) (c + 1) (plain_rows new)
+abbrev pub choice_of : ClassId → GateOfMatch → Choice
+choice_of class g = record { class = class.0; part = gate g.cell.0 (numbers g.pins) }
 
--- so are those at all classes, behind the inputs
-abbrev pub AreMatchesListed : Graph → List Pattern → List ListedChoice → List ListedChoice → Type 0
-AreMatchesListed g pats old new =
-    (cells : List CellParts) (starts : List Micro) → AreOfCells (area_cost cells).pin_counts pats
-    → IsListing (task g pats cells starts) (length g.leaves) 0 (plain_rows old)
-    → AreListedChoices (task g pats cells starts) (plain_rows new)
+-- a list under way, by the cells of a library, with the links of its hashes
+pub record IsUnderWay (cells : List CellParts) (to : Listed) : Type 0 where
+  pub count : to.chains.count ≡ bucket_count
+  pub lib : to.lib.now ≡ cells
+
+-- so it is where a match was added to such a list
+pub record IsListedMore (old new : Listed) (x : Choice) : Type 0 where
+  pub way : (cells : List CellParts) → IsUnderWay cells old → IsUnderWay cells new
+  pub added : (cells : List CellParts) → IsUnderWay cells old
+      → IsGateAdded cells (plain_rows old.rows.items) (plain_rows new.rows.items) x
+
+-- nothing is listed yet
+pub record IsNoneListed (cells : List CellParts) (to : Listed) : Type 0 where
+  pub way : IsUnderWay cells to
+  pub none : to.rows.items ≡ []
+
+-- the matches from one class on are listed, by cells that the patterns are of
+abbrev pub AreListedFrom : Graph → List Pattern → List CellParts → ℕ → List ListedChoice → Type 0
+AreListedFrom g pats cells class rows =
+    (starts : List Micro) → AreOfCells (area_cost cells).pin_counts pats
+    → IsListing (task g pats cells starts) (length g.leaves) class (plain_rows rows)
+
+-- those at one class more are listed
+pub record IsClassListed (g : Graph) (pats : List Pattern) (class : ℕ) (old new : Listed) : Type 0 where
+  pub way : (cells : List CellParts) → IsUnderWay cells old → IsUnderWay cells new
+  pub listed : (cells : List CellParts) → IsUnderWay cells old
+      → AreListedFrom g pats cells (class + 1) old.rows.items → AreListedFrom g pats cells class new.rows.items
+
+-- those at all classes are listed
+abbrev pub AreMatchesListed : Graph → List Pattern → List CellParts → List ListedChoice → Type 0
+AreMatchesListed g pats cells rows = AreListedFrom g pats cells 0 rows
 
 -- so are those of a store, whatever graph and patterns it is of
-abbrev pub AreStoredListed : List (List Stored) → List ListedChoice → List ListedChoice → Type 0
-AreStoredListed lists old new =
-    (g : Graph) (pats : List Pattern) → IsStoreOf g pats lists → AreMatchesListed g pats old new
+abbrev pub AreStoredListed : List (List Stored) → List CellParts → List ListedChoice → Type 0
+AreStoredListed lists cells rows =
+    (g : Graph) (pats : List Pattern) → IsStoreOf g pats lists → AreMatchesListed g pats cells rows
 
--- all that may stand at the classes, by cells of any library that the patterns are of, and they can be numbered
-pub record AreAllChoices (g : Graph) (pats : List Pattern) (rows : List ListedChoice) : Type 0 where
+-- the inputs are listed too
+abbrev pub AreInputsListed : Graph → List ListedChoice → List ListedChoice → Type 0
+AreInputsListed g old new =
+    (pats : List Pattern) (cells : List CellParts) (starts : List Micro)
+    → IsListing (task g pats cells starts) (length g.leaves) 0 (plain_rows old)
+    → IsListing (task g pats cells starts) 0 0 (plain_rows new)
+
+-- what may stand at the classes, by the cells of a library that the patterns are of, and they can be numbered
+pub record AreAllChoices (g : Graph) (pats : List Pattern) (cells : List CellParts) (rows : List ListedChoice) : Type 0 where
   pub few : length rows < number_count
-  pub choices : (cells : List CellParts) (starts : List Micro) → AreOfCells (area_cost cells).pin_counts pats
+  pub choices : (starts : List Micro) → AreOfCells (area_cost cells).pin_counts pats
       → AreListedChoices (task g pats cells starts) (plain_rows rows)

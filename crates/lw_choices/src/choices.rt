@@ -1,144 +1,158 @@
 // The inputs and the matches that may stand at classes.
-ghost use Rattle.std.specs.Prelude.{◌≡◌, ◌<◌, List, IfOk, OnOk, length};
-ghost use Rattle.lw_genlib.specs.Cells.{CellParts};
-ghost use Rattle.lw_fixed.specs.declared.micro.Micro.{Micro as MicroOf};
-ghost use Rattle.lw_choices.specs.Tasks.{task};
-ghost use Rattle.lw_choices.specs.Rows.{AreAllChoices, AreMatchesListed, AreStoredListed};
-ghost use Rattle.lw_choices.specs.Rows.{IsClassListed, IsGatePushed, IsListing, plain_rows};
+ghost use Rattle.std.specs.Prelude.{◌≡◌, ◌<◌, ◌+◌, IfOk, OnOk, length, map};
+ghost use Rattle.lw_cost.specs.Coming.{AreMatches};
+ghost use Rattle.lw_cost.specs.Values.{plain_match};
+ghost use Rattle.lw_choices.specs.PinUses.{bucket_count};
+ghost use Rattle.lw_choices.specs.Rows.{AreAllChoices, AreInputsListed, AreMatchesListed};
+ghost use Rattle.lw_choices.specs.Rows.{AreStoredListed, IsClassListed};
 
-use lw_cost::Pins;
+use crate::listed::{Listed, add_gate, none_listed};
+use crate::rows::{Gate, ListedChoice, Stand};
+use lw_cost::Match;
 use lw_cursor::Cursor;
+use lw_genlib::Library;
 use lw_graph::Graph;
 use lw_pattern::Patterns;
-use lw_pool::{CellId, ClassId};
+use lw_pool::ClassId;
 use lw_settle::{Store, StoreFault, store_matches};
 use std::alloc::{AllocError, Global};
 
-/// A cell with the classes of its pins.
-#[derive(Drop)]
-pub struct Gate {
-    pub cell: CellId,
-    pub pins: Pins,
-}
-
-/// What may stand at a class: an input, or a cell by a match.
-#[derive(Drop)]
-pub enum Stand {
-    Input(u32),
-    Gate(Gate),
-}
-
-/// What may stand at which class.
-#[derive(Drop)]
-pub struct ListedChoice {
-    pub class: ClassId,
-    pub stand: Stand,
-}
-
-/// All that may stand at the classes of a graph: the inputs, and then the matches, class by class.
-/// Where there are 2^32 of them or more, it says that memory is out.
+/// What may stand at the classes of a graph: the inputs, and then the matches, class by class. Of
+/// matches that are alike, of one cell with as many pins of each class and delay, the last one is
+/// listed. Where there are 2^32 of them or more, it says that memory is out.
 pub fn list_choices(
     alloc: Global,
     graph: &Graph,
     pats: &Patterns,
+    lib: &Library,
 ) -> Result<Vec<ListedChoice>, AllocError>
-    ensures { IfOk result (λ rows. AreAllChoices graph.now pats.now rows.items) }
+    ensures { IfOk result (λ rows. AreAllChoices graph.now pats.now lib.now rows.items) }
 {
-    let mut rows = list_inputs(alloc, graph)?;
-    list_matches(alloc, graph, pats, &mut rows)?;
+    let mut rows = list_matches(alloc, graph, pats, lib)?;
+    list_inputs(graph, &mut rows)?;
     if rows.len() >= 4_294_967_296 {
         return Err(AllocError);
     }
+    rows.reverse();
     Ok(rows)
 }
 
-// The inputs as choices at their classes.
-fn list_inputs(alloc: Global, graph: &Graph) -> Result<Vec<ListedChoice>, AllocError>
-    ensures { IfOk result (λ rows. (pats : _) (cells : List CellParts) (starts : List MicroOf) →
-        IsListing (task graph.now pats cells starts)
-        (length graph.now.leaves) 0 (plain_rows rows.items)) }
+// Appends the inputs at their classes, the last one first.
+fn list_inputs(graph: &Graph, rows: &mut Vec<ListedChoice>) -> Result<(), AllocError>
+    ensures { OnOk result (AreInputsListed graph.now rows.old.items rows.new.items) }
 {
-    let mut rows = Vec::new(alloc);
     let _ = graph.classes();
-    for input in 0..graph.inputs() {
+    let mut input = graph.inputs();
+    while input > 0 {
+        input -= 1;
         rows.push(ListedChoice {
             class: graph.leaf(input),
             stand: Stand::Input(input),
         })?;
     }
-    Ok(rows)
-}
-
-// Appends a cell by a match at a class to the choices.
-fn push_gate(
-    to: &mut Vec<ListedChoice>,
-    class: ClassId,
-    cell: CellId,
-    pins: Pins,
-) -> Result<(), AllocError>
-    ensures { OnOk result (IsGatePushed to.old.items to.new.items class cell pins) }
-{
-    let stand = Stand::Gate(Gate { cell, pins });
-    to.push(ListedChoice { class, stand })?;
     Ok(())
 }
 
-// Appends the matches at a class, which a search finds.
-fn list_class(
+// The matches at a class, which a search finds.
+fn matches_at(
+    alloc: Global,
     graph: &Graph,
     pats: &Patterns,
     class: ClassId,
-    rows: &mut Vec<ListedChoice>,
-) -> Result<(), AllocError>
-    requires class { class.0 < length graph.now.pairs }
-    ensures { OnOk result (IsClassListed graph.now pats.now class.0 rows.old.items rows.new.items) }
+) -> Result<Vec<Match>, AllocError>
+    requires { class.0 < length graph.now.pairs }
+    ensures { IfOk result (λ found. AreMatches graph.now pats.now class.0
+        (map plain_match found.items)) }
 {
     let _ = graph.classes();
+    let mut list = Vec::new(alloc);
     let mut cursor = Cursor::new(class);
     while let Some(found) = cursor.next(graph, pats) {
-        push_gate(rows, class, pats.get(found.pat).cell, found.pins)?;
+        list.push(found)?;
     }
-    Ok(())
+    Ok(list)
 }
 
-// Appends the matches of a store, in its order.
-fn list_stored(store: &mut Store, rows: &mut Vec<ListedChoice>) -> Result<(), AllocError>
-    requires { store.old.done ≡ 0 }
-    ensures { OnOk result (AreStoredListed store.old.lists rows.old.items rows.new.items) }
-{
-    for place in 0..store.matches() {
-        let found = store.read(place);
-        push_gate(rows, found.class, found.cell, found.pins)?;
-    }
-    Ok(())
-}
-
-// Appends the matches by a search at each class, where there are too many for a store.
-fn list_sought(
+// Lists the matches at a class, which a search finds, the last one first.
+fn list_class(
+    alloc: Global,
     graph: &Graph,
     pats: &Patterns,
-    rows: &mut Vec<ListedChoice>,
+    class: ClassId,
+    to: &mut Listed,
 ) -> Result<(), AllocError>
-    ensures { OnOk result (AreMatchesListed graph.now pats.now rows.old.items rows.new.items) }
+    requires class { class.0 < length graph.now.pairs }
+    requires count { to.old.chains.count ≡ bucket_count }
+    ensures { OnOk result (IsClassListed graph.now pats.now class.0 to.old to.new) }
 {
-    for class in 0..graph.classes() {
-        list_class(graph, pats, ClassId(class), rows)?;
+    let mut list = matches_at(alloc, graph, pats, class)?;
+    while let Some(found) = list.pop() {
+        let cell = pats.get(found.pat).cell;
+        add_gate(
+            to,
+            class,
+            Gate {
+                cell,
+                pins: found.pins,
+            },
+        )?;
     }
     Ok(())
 }
 
-// Appends the matches, by a store if that can hold them.
+// Lists the matches of a store, the last one first.
+fn list_stored(
+    alloc: Global,
+    store: &mut Store,
+    lib: &Library,
+) -> Result<Vec<ListedChoice>, AllocError>
+    requires { store.old.done ≡ 0 }
+    ensures { IfOk result (λ rows. AreStoredListed store.old.lists lib.now rows.items) }
+{
+    let mut to = none_listed(alloc, lib)?;
+    let mut place = store.matches();
+    while place > 0 {
+        place -= 1;
+        let found = store.read(place);
+        let gate = Gate {
+            cell: found.cell,
+            pins: found.pins,
+        };
+        add_gate(&mut to, found.class, gate)?;
+    }
+    Ok(to.rows)
+}
+
+// Lists the matches by a search at each class, where there are too many for a store.
+fn list_sought(
+    alloc: Global,
+    graph: &Graph,
+    pats: &Patterns,
+    lib: &Library,
+) -> Result<Vec<ListedChoice>, AllocError>
+    ensures { IfOk result (λ rows. AreMatchesListed graph.now pats.now lib.now rows.items) }
+{
+    let mut to = none_listed(alloc, lib)?;
+    let mut class = graph.classes();
+    while class > 0 {
+        class -= 1;
+        list_class(alloc, graph, pats, ClassId(class), &mut to)?;
+    }
+    Ok(to.rows)
+}
+
+// Lists the matches, by a store if that can hold them, the last one first.
 fn list_matches(
     alloc: Global,
     graph: &Graph,
     pats: &Patterns,
-    rows: &mut Vec<ListedChoice>,
-) -> Result<(), AllocError>
-    ensures { OnOk result (AreMatchesListed graph.now pats.now rows.old.items rows.new.items) }
+    lib: &Library,
+) -> Result<Vec<ListedChoice>, AllocError>
+    ensures { IfOk result (λ rows. AreMatchesListed graph.now pats.now lib.now rows.items) }
 {
     match store_matches(alloc, graph, pats) {
-        Ok(mut store) => list_stored(&mut store, rows),
-        Err(StoreFault::TooMany) => list_sought(graph, pats, rows),
+        Ok(mut store) => list_stored(alloc, &mut store, lib),
+        Err(StoreFault::TooMany) => list_sought(alloc, graph, pats, lib),
         Err(StoreFault::Memory) => Err(AllocError),
     }
 }

@@ -8,8 +8,8 @@ ghost use Rattle.lw_choices.specs.PinGroups.{IsChoiceAdded, IsFirstAdded, IsGrou
 ghost use Rattle.lw_choices.specs.PinGroups.{IsPinAdded};
 
 use crate::chains::Chains;
-use crate::choices::{ListedChoice, Stand};
 use crate::group_choices::{GroupChoices, choices_by_group, no_group_choices};
+use crate::rows::{ListedChoice, Stand};
 use lw_fixed::Micro;
 use lw_genlib::Library;
 use lw_pool::ClassId;

@@ -5,7 +5,7 @@ use Rattle.std.specs.List.Sorted.{IsPermutation}
 use Rattle.std.proofs.lemmas.List.Sorted.{Contains-permutation, IsPermutation-sym, length_permutation}
 use Rattle.std.proofs.lemmas.Option.{same_Some, slice_get-map, slice_get_within}
 use Rattle.std.proofs.lemmas.Bool.{cases_lt}
-use Rattle.lw_choices.specs.declared.choices.ListedChoice.{ListedChoice}
+use Rattle.lw_choices.specs.declared.rows.ListedChoice.{ListedChoice}
 use Rattle.lw_choices.specs.Areas.{total}
 use Rattle.lw_choices.specs.Chains.{IsLast}
 use Rattle.lw_queue.specs.Queues.{Item, IsTaken, Queued, Waits}

@@ -16,10 +16,11 @@ use Rattle.lw_curves.specs.declared.point.Point.{Point}
 use Rattle.lw_choices.specs.Areas.{most_area, area_at, total, area_cost}
 use Rattle.lw_choices.specs.Tasks.{Task, timing, IsCoverBy, area_of, IsLeastAreaBy}
 use Rattle.lw_curves.specs.Points.{IsPoint}
-use Rattle.lw_choices.specs.Choices.{Choice, AreListedChoices}
+use Rattle.lw_choices.specs.Choices.{AreAlike, AreListedChoices, Choice, Part}
 use Rattle.lw_choices.specs.Choices.Part.{input, gate}
 use Rattle.lw_curves.specs.Settling.{Spot, spot, Has, HasAtMost, AreApart, IsSpotOf, times, areas, time_in, area_in, joint_cost, IsReached, AreSettled}
 use Rattle.lw_graph.specs.Graphs.{IsGraph}
+use Rattle.lw_curves.proofs.Alike.{points_moved}
 use Rattle.lw_curves.proofs.InRange.{cost_in}
 use Rattle.lw_curves.proofs.Joint.{joint_time, joint_area, joint_cover_time, joint_cover_area}
 
@@ -35,15 +36,32 @@ module _ (s : Task) (is_graph : IsGraph s.graph) (choices : List Choice) (are : 
   more : (c t a t' a' : ℕ) → t ≤ t' → a ≤ a' → HasAtMost spots c t a → HasAtMost spots c t' a'
   more c t a t' a' lt la (k, has, e, kt, ka) = (k, has, e, omega arith, omega arith)
 
+  -- what an input would give is given by one that is alike
+  input_had : (c n i : ℕ) (other : Part) → slice_get choices n ≡ Some (record { class = c; part = other }) → AreAlike s.cells (input i) other → start_of (timing s).starts i ≤ now → HasAtMost spots c (start_of (timing s).starts i) 0
+  input_had c n i (input j) at same le =
+      settled.given n (start_of (timing s).starts i) 0 (record { class = c; part = input j }) at (ap (start_of (timing s).starts) same, refl) le
+  input_had c n i (gate cell ps) at alike le = absurd alike
+
+  -- and what a cell would give with points of its pins
+  gate_had : (c n cell : ℕ) (ps : List ℕ) (js : List Spot) (other : Part) → slice_get choices n ≡ Some (record { class = c; part = other }) → AreAlike s.cells (gate cell ps) other → length (delays_of (timing s).delays cell) ≡ length ps → AllZip (IsSpotOf spots) ps js → latest (delays_of (timing s).delays cell) (times js) ≤ now → HasAtMost spots c (latest (delays_of (timing s).delays cell) (times js)) (min most_area (area_at s.cells cell + total (areas js)))
+  gate_had c n cell ps js (input i) at alike len zip le = absurd alike
+  gate_had c n cell ps js (gate other qs) at (same, perm) len zip le =
+      let ds = delays_of (timing s).delays cell in
+      let at' = subst (λ k. slice_get choices n ≡ Some (record { class = c; part = gate k qs })) (sym same) at in
+      let may = are.each n (record { class = c; part = gate cell qs }) at' in
+      let (ks, zip', lt, la) = points_moved spots ds ps qs js len (length-delays_of (timing s).delays cell (length qs) may.pins) perm zip in
+      let given = settled.given n (latest ds (times ks)) (min most_area (area_at s.cells cell + total (areas ks))) (record { class = c; part = gate cell qs }) at' (ks, zip', refl, refl) (omega (arith, lt, le)) in
+      more c (latest ds (times ks)) (min most_area (area_at s.cells cell + total (areas ks))) (latest ds (times js)) (min most_area (area_at s.cells cell + total (areas js))) lt (omega arith) given
+
   mutual
     all_had : {c d : ℕ} → HasCost (choices_of s.graph (area_cost s.cells).pin_counts s.patterns) (joint_cost s) c d → time_in d ≤ now → HasAtMost spots c (time_in d) (area_in d)
     all_had (by_wire {c = c} {i = i} h) le =
         let start = start_of (timing s).starts i in
-        let (n, at) = are.all c (input i) (cost_in s.graph is_graph (area_cost s.cells).pin_counts s.patterns (joint_cost s) (by_wire h)) h in
+        let like = are.all c (input i) (cost_in s.graph is_graph (area_cost s.cells).pin_counts s.patterns (joint_cost s) (by_wire h)) h in
         let t = joint_time start 0 (omega arith) in
         let a = joint_area start 0 (omega arith) in
         let le' : start ≤ now = subst (λ x. x ≤ now) t le in
-        subst₂ (λ x y. HasAtMost spots c x y) (sym t) (sym a) (settled.given n start 0 (record { class = c; part = input i }) at (refl, refl) le')
+        subst₂ (λ x y. HasAtMost spots c x y) (sym t) (sym a) (input_had c like.number i like.other like.at like.alike le')
     all_had (by_gate {c = c} {cell = cell} {ps = ps} {ds = es} m ks) le =
         let ds = delays_of (timing s).delays cell in
         let time = latest ds (map time_in es) in
@@ -51,9 +69,10 @@ module _ (s : Task) (is_graph : IsGraph s.graph) (choices : List Choice) (are : 
         let t = joint_time time area (omega arith) in
         let a = joint_area time area (omega arith) in
         let le' : time ≤ now = subst (λ x. x ≤ now) t le in
-        let (n, at) = are.all c (gate cell ps) (cost_in s.graph is_graph (area_cost s.cells).pin_counts s.patterns (joint_cost s) (by_gate m ks)) m in
-        let (js, zip, lt, la) = pins_had ds ks (length-delays_of (timing s).delays cell (length ps) m.pins) le' in
-        let given = settled.given n (latest ds (times js)) (min most_area (area_at s.cells cell + total (areas js))) (record { class = c; part = gate cell ps }) at (js, zip, refl, refl) (omega arith) in
+        let like = are.all c (gate cell ps) (cost_in s.graph is_graph (area_cost s.cells).pin_counts s.patterns (joint_cost s) (by_gate m ks)) m in
+        let len = length-delays_of (timing s).delays cell (length ps) m.pins in
+        let (js, zip, lt, la) = pins_had ds ks len le' in
+        let given = gate_had c like.number cell ps js like.other like.at like.alike len zip (omega arith) in
         subst₂ (λ x y. HasAtMost spots c x y) (sym t) (sym a) (more c (latest ds (times js)) (min most_area (area_at s.cells cell + total (areas js))) time area lt (omega arith) given)
 
     pins_had : (ds : List ℕ) {ps es : List ℕ} → HaveCosts (choices_of s.graph (area_cost s.cells).pin_counts s.patterns) (joint_cost s) ps es → length ds ≡ length ps → latest ds (map time_in es) ≤ now → Below ds ps es

@@ -7,7 +7,7 @@ use Rattle.lw_facts.proofs.Lists.{index_at}
 use Rattle.lw_laws.specs.Covers.{delays_of}
 use Rattle.lw_genlib.specs.Cells.{CellParts}
 use Rattle.lw_genlib.specs.Tables.{delays_of_cells}
-use Rattle.lw_choices.specs.declared.choices.ListedChoice.{ListedChoice}
+use Rattle.lw_choices.specs.declared.rows.ListedChoice.{ListedChoice}
 use Rattle.lw_curves.specs.declared.tallies.Tally.{Tally}
 use Rattle.lw_choices.specs.declared.pin_groups.PinGroups.{PinGroups}
 use Rattle.lw_choices.specs.Choices.{Part, Choice}

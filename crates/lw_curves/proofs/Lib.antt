@@ -1,4 +1,5 @@
 pub mod Adding
+pub mod Alike
 pub mod Backed
 pub mod Bisected
 pub mod Cells

@@ -7,7 +7,7 @@ use Rattle.lw_laws.specs.Flip.{flip}
 use Rattle.lw_laws.specs.Graphs.{Graph, Pair, HoldsPair, Stands}
 use Rattle.lw_laws.specs.Trees.{Tree, leaf, const_one, const_zero, inv, nand, HasLeaf}
 use Rattle.lw_cost.specs.Least.{AreOfCells}
-use Rattle.lw_choices.specs.declared.choices.ListedChoice.{ListedChoice}
+use Rattle.lw_choices.specs.declared.rows.ListedChoice.{ListedChoice}
 use Rattle.lw_choices.specs.Areas.{area_cost}
 use Rattle.lw_choices.specs.Choices.{Part, MayStand, AreListedChoices, IsWithin, IsOfLibrary}
 use Rattle.lw_choices.specs.Choices.Part.{input, gate}

@@ -9,8 +9,8 @@ use Rattle.lw_curves.specs.Fronts.{FrontState}
 use Rattle.lw_curves.specs.Lasts.{ArePointsRising}
 use Rattle.lw_choices.specs.Tasks.{Task}
 use Rattle.lw_curves.specs.Settling.{AreApart, Spot, spot, Has}
-use Rattle.lw_choices.specs.declared.choices.Stand.{Stand}
-use Rattle.lw_choices.specs.declared.choices.Stand.TheVariants as stand
+use Rattle.lw_choices.specs.declared.rows.Stand.{Stand}
+use Rattle.lw_choices.specs.declared.rows.Stand.TheVariants as stand
 use Rattle.lw_choices.specs.Rows.{plain_part}
 
 abbrev pub point_of : Spot → Point

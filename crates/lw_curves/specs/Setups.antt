@@ -5,7 +5,7 @@ use Rattle.lw_genlib.specs.Cells.{CellParts}
 use Rattle.lw_laws.specs.Covers.{Pattern}
 use Rattle.lw_laws.specs.Graphs.{Graph}
 use Rattle.lw_pool.specs.declared.id.ClassId.{ClassId}
-use Rattle.lw_choices.specs.declared.choices.ListedChoice.{ListedChoice}
+use Rattle.lw_choices.specs.declared.rows.ListedChoice.{ListedChoice}
 use Rattle.lw_curves.specs.declared.setup.Setup.{Setup}
 use Rattle.lw_curves.specs.declared.waking.View.{View}
 use Rattle.lw_curves.specs.declared.point.CurveFault.{CurveFault}

@@ -46,7 +46,7 @@ pub fn curves(
     ensures ways { IfOk result (HaveWays (task graph.now pats.now lib.now starts.now)) }
     ensures why { IfErr result (IsWhy (task graph.now pats.now lib.now starts.now) horizon.0) }
 {
-    let rows = list_choices(alloc, graph, pats)?;
+    let rows = list_choices(alloc, graph, pats, lib)?;
     let classes = graph.classes();
     let starts = starts.as_slice();
     let fronts = settle_rows(alloc, &rows, lib, starts, classes, horizon.0)?;

@@ -29,7 +29,21 @@ const NO_SEARCH: Limits = Limits {
     tries: 0,
     conflicts: 0,
     steps: 0,
+    sums: false,
 };
+
+// Nothing is looked for at a point.
+const NO_EFFORT: Effort = Effort {
+    tries: 0,
+    conflicts: 0,
+};
+
+// What a sweep came to, and whether one with sums in one form may come to more.
+#[derive(Drop)]
+struct Attempt {
+    outcome: Outcome,
+    wants_sums: bool,
+}
 
 // No work on so many points.
 fn no_work(points: usize) -> Counts {
@@ -62,6 +76,21 @@ fn effort_of(limits: &Limits) -> Effort {
     Effort {
         tries,
         conflicts: limits.conflicts.saturating_add(u64::from(tries)),
+    }
+}
+
+// The same, or no effort where sums are to be brought to one form first.
+fn effort_in(sweep: &Sweep, effort: Effort) -> Effort {
+    if sweep.wants_sums() { NO_EFFORT } else { effort }
+}
+
+// The same limits, with sums in one form.
+fn with_sums(limits: Limits) -> Limits {
+    Limits {
+        tries: limits.tries,
+        conflicts: limits.conflicts,
+        steps: limits.steps,
+        sums: true,
     }
 }
 
@@ -110,6 +139,7 @@ fn solve_in(
         left: &left,
         right: &right,
     };
+    let effort = effort_in(sweep, effort);
     decide_all(sweep, alloc, &case, pairs, effort)
 }
 
@@ -121,27 +151,30 @@ fn solve_within(
     more: &[Side],
     pairs: &[Pair],
     limits: Limits,
-) -> Result<Outcome, AllocError>
+) -> Result<Attempt, AllocError>
     requires known { IsKnown one.now }
     requires other { IsSide other.now }
     requires more { All IsSide more.now }
     requires pairs { All (IsPair one.now.side.now other.now) pairs.now }
     requires some { 0 < length pairs.now }
     requires few { length one.now.inputs.keys < 2 ^ 31 }
-    ensures { IfOk result (λ outcome.
-        Settles one.now.side.now other.now pairs.now outcome.answer) }
+    ensures { IfOk result (λ attempt.
+        Settles one.now.side.now other.now pairs.now attempt.outcome.answer) }
 {
     let inputs = one.inputs.len();
     let mut sweep = Sweep::new(alloc, inputs as u32, limits)?;
     let effort = effort_of(&limits);
     let answer = solve_in(&mut sweep, alloc, one, other, more, pairs, effort)?;
-    Ok(Outcome {
-        answer,
-        counts: work_of(&sweep, pairs.len()),
+    let open = matches!(&answer, Answer::Undecided(_));
+    let counts = work_of(&sweep, pairs.len());
+    Ok(Attempt {
+        outcome: Outcome { answer, counts },
+        wants_sums: open && sweep.wants_sums(),
     })
 }
 
-// Decides each pair: by patterns alone, where they tell a pair apart, and else with searches.
+// Decides each pair: by patterns alone, where they tell a pair apart, and else with searches, in
+// the end with sums in one form.
 fn solve(
     alloc: Global,
     one: &Known,
@@ -171,11 +204,17 @@ fn solve(
         });
     }
     let seen = solve_within(alloc, one, other, &[], pairs, NO_SEARCH)?;
-    if let Answer::Differ(_) = &seen.answer {
-        return Ok(seen);
+    if let Answer::Differ(_) = &seen.outcome.answer {
+        return Ok(seen.outcome);
     }
     drop(seen);
-    solve_within(alloc, one, other, more, pairs, limits)
+    let first = solve_within(alloc, one, other, more, pairs, limits)?;
+    if !first.wants_sums {
+        return Ok(first.outcome);
+    }
+    drop(first);
+    let last = solve_within(alloc, one, other, more, pairs, with_sums(limits))?;
+    Ok(last.outcome)
 }
 
 /// Compares two sides at each output, and at what each latch reads, within these limits; `more` may

@@ -47,6 +47,7 @@ pub fn compare_sources(
         tries,
         conflicts: ALL_CONFLICTS,
         steps: ALL_STEPS,
+        sums: false,
     };
     let sides = sides(alloc, library, sources)?;
     let outcome = compare(alloc, &sides[0], &sides[1], &sides[2..], limits)?;

@@ -4,6 +4,7 @@ use Rattle.std.specs.List.{AllZip, IsDistinct}
 use Rattle.std.specs.Str.{bytes_eq}
 use Rattle.std.proofs.lemmas.List.{length-map, length-take-le, take_at}
 use Rattle.std.proofs.lemmas.Option.{get_or_from_slice_get, slice_get_within}
+use Rattle.lw_facts.proofs.Lists.{at_contained, contained_at, contained_in_map}
 use Rattle.lw_naming.proofs.GivenNames.{own_names}
 use Rattle.lw_pool.specs.declared.id.NetId.{NetId}
 use Rattle.lw_pool.specs.declared.id.ClassId.{ClassId}
@@ -57,7 +58,9 @@ use Rattle.lw_extract.proofs.PortLists.{port_name, zip_outputs}
 use Rattle.lw_map.proofs.NetNames.{names_tell}
 use Rattle.lw_map.proofs.PortNames.{port_list, port_names, few_outputs}
 use Rattle.lw_map.proofs.Traded.{IsBest, StandsFor-cost, best_area, best_values, tree_back}
+use Rattle.lw_map.proofs.NeededGates.{zip_place, gates_needed}
 use Rattle.lw_map.proofs.Once.{zip_at}
+use Rattle.lw_trade.specs.Traded.{output_nets, port_net}
 use Rattle.lw_pool.specs.Numbers.{numbers}
 use Rattle.lw_net.specs.Ports.{output_port, ports_of}
 use Rattle.lw_netlist.specs.Plain.{plain_port, mapped_ports}
@@ -259,7 +262,17 @@ module _ (net : NetworkParts) (starts : List Micro) (c : Choices) (cells : List 
     names = names_apart own;
     own_names = λ name in'. own_names (input_names net) (output_names net) (numbers ports.roots) gates (room outs own) name (subst (λ (ns : List (List ℕ)). Contains ns name) net_names_are in');
     by_depth = by_depth;
+    needed = gates_needed c.graph (area_cost cells) (library_patterns cells) (labels marks) (heights marks) (numbers ports.roots) gates is.gate_classes
+        (distinct_leaves (plain_options c.options).mode (plain_options c.options).width (network.plain net) c.graph are.wide.least are.graph) (netlist.plain cover.netlist) is.extracted (output_nets cover.netlist) rooted;
   }
     where
+      -- the net of a root's class is an output's
+      rooted : (d : ℕ) → Contains (numbers ports.roots) d → (m : ℕ) × IsNetOf c.graph gates d m × Contains (output_nets cover.netlist) m
+      rooted d held =
+          let (root, in', same) = contained_in_map (λ (r : ClassId). r.0) ports.roots d held in
+          let (k, at) = contained_at ports.roots root in' in
+          let (port, port_at, net_of) = zip_place (λ (r : ClassId) (q : Port). IsNetOf c.graph gates r.0 q.net.0) ports.roots cover.netlist.outputs k root is.outputs at in
+          (port.net.0, subst (λ e. IsNetOf c.graph gates e port.net.0) same net_of, at_contained (output_nets cover.netlist) k port.net.0 (slice_get_map port_net cover.netlist.outputs k port port_at))
+
       in_gates : (k m : ℕ) → IsNetOf c.graph gates k m → m < cover.netlist.inputs + length cover.netlist.gates
       in_gates k m at = let lt = nets_low k m at in let count = length-map cover.netlist.gates netlist.plain_gate in omega (arith, lt, count)

@@ -37,7 +37,7 @@ use Rattle.lw_extract.specs.Choosing.{heights}
 use Rattle.lw_extract.specs.Covers.{AreFit, IsFirstUncovered, IsExtractedCover}
 use Rattle.lw_map.specs.declared.choices.Choices.{Choices}
 use Rattle.lw_map.specs.Options.{Options, plain_options}
-use Rattle.lw_map.specs.Mapped.{IsUncovered, LacksCover}
+use Rattle.lw_map.specs.Mapped.{IsCovered, IsUncovered, LacksCover}
 use Rattle.lw_map.specs.Choices.{AreChoicesOf}
 use Rattle.lw_map.specs.Ports.{ArePortsOf}
 use Rattle.lw_map.specs.Mappings.{IsMappingOf}
@@ -154,12 +154,13 @@ module _ (net : NetworkParts) (starts : List Micro) (c : Choices) (ports : Ports
         no by by_is (subst (Unfolds c.graph (tree_of by)) (sym same) ((graph_trees options.mode options.width (network.plain net) c.graph are.wide.least are.graph (sop_at (signals_of options.width (network.plain net)) o.0) (tree_of by) (sop_occurs options.width are.wide.least (network.plain net) o.0 (in_nets o lt))).1 tree))
 
     -- an output whose class has a mark has one
-    some_mark : (o : NetId) (k : ℕ) (m : Mark) → o.0 < length net.names → k ≡ class_of_output o → slice_index_or marks k None ≡ Some m → IsUncovered options cells net starts o → ⊥
-    some_mark o k m lt same some lacks =
+    some_mark : (o : NetId) (k : ℕ) (m : Mark) → o.0 < length net.names → k ≡ class_of_output o → slice_index_or marks k None ≡ Some m → IsCovered options cells net o
+    some_mark o k m lt same some =
         let label : labels_in (costs_of marks) k ≡ Some m.cost = label_at marks k ∙ ap (λ (n : Option Mark). option_map (λ (p : PlainMark). p.cost) (option_map plain_mark n)) some in
         let is : IsLeastCover c.graph (library_patterns cells) (time_cost cells starts) k (Some m.cost) = subst (IsLeastCover c.graph (library_patterns cells) (time_cost cells starts) k) label (own_least.least k) in
         let (by, by_is, u, cost) = is.0 in
-        lacks by by_is ((graph_trees options.mode options.width (network.plain net) c.graph are.wide.least are.graph (sop_at (signals_of options.width (network.plain net)) o.0) (tree_of by) (sop_occurs options.width are.wide.least (network.plain net) o.0 (in_nets o lt))).0 (subst (Unfolds c.graph (tree_of by)) same u))
+        let tree = (graph_trees options.mode options.width (network.plain net) c.graph are.wide.least are.graph (sop_at (signals_of options.width (network.plain net)) o.0) (tree_of by) (sop_occurs options.width are.wide.least (network.plain net) o.0 (in_nets o lt))).0 (subst (Unfolds c.graph (tree_of by)) same u) in
+        (by, record { is_cover = by_is; has_tree = tree })
 
     -- the first root without a mark is that of the first output without a cover
     pub first_lack : (k : ℕ) → IsFirstUncovered marks ports.roots k → (o : NetId) × (slice_get net.outputs k ≡ Some o) × LacksCover options cells net starts (name_in net o)
@@ -174,10 +175,10 @@ module _ (net : NetworkParts) (starts : List Micro) (c : Choices) (ports : Ports
             at = at;
             named = refl;
             lacks = no_mark o is.root.0 lt same is.uncovered;
-            first = λ i other below e lacks.
+            first = λ i other below e.
                 let (root, f, is_root) = root_at i other e in
                 let (m, marked) = is.first i root below f in
-                some_mark other root.0 m (in_names other i e) is_root marked lacks;
+                some_mark other root.0 m (in_names other i e) is_root marked;
           },
         )
 

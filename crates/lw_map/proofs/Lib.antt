@@ -16,6 +16,7 @@ mod GateCount
 pub mod Composed
 pub mod Leaves
 mod Traded
+mod NeededGates
 mod AnyTime
 mod Deadlines
 mod TradedNames

@@ -43,8 +43,8 @@ module _ (options : Options) (cells : List CellParts) (net : NetworkParts) (star
   lack_once name other a b = by_place (dec_lt a.place b.place) (dec_lt b.place a.place)
     where
       by_place : Dec (a.place < b.place) → Dec (b.place < a.place) → name ≡ other
-      by_place (yes less) d = absurd (b.first a.place a.output less a.at a.lacks)
-      by_place (no more) (yes less) = absurd (a.first b.place b.output less b.at b.lacks)
+      by_place (yes less) d = let (k, is) = b.first a.place a.output less a.at in absurd (a.lacks k is.is_cover is.has_tree)
+      by_place (no more) (yes less) = let (k, is) = a.first b.place b.output less b.at in absurd (b.lacks k is.is_cover is.has_tree)
       by_place (no more) (no not) =
           let place : a.place ≡ b.place = omega arith in
           let at : slice_get net.outputs b.place ≡ Some a.output = subst (λ k. slice_get net.outputs k ≡ Some a.output) place a.at in

@@ -154,4 +154,5 @@ module _ (net : NetworkParts) (starts : List Micro) (c : Choices) (cells : List 
       names = λ differ inputs_differ outs. traded_names differ inputs_differ;
       own_names = traded_own_names;
       by_depth = is.by_depth;
+      needed = is.needed;
     }

@@ -1,5 +1,5 @@
 -- The netlist of least area under a deadline that a network comes to.
-use Rattle.std.specs.Prelude.{ℕ, ◌^◌, ◌<◌, ◌≤◌, ◌≡◌, ◌⊎◌, Contains, max, Bool, List, [], ◌∷◌, map, length, Option, Some}
+use Rattle.std.specs.Prelude.{ℕ, ◌+◌, ◌^◌, ◌<◌, ◌≤◌, ◌≡◌, ◌⊎◌, Contains, max, Bool, List, [], ◌∷◌, map, length, Option, Some}
 use Rattle.std.specs.Prelude.{None, slice_get, slice_index_or}
 use Rattle.std.specs.List.{AllZip, IsDistinct}
 use Rattle.std.specs.Str.{bytes_eq}
@@ -7,42 +7,34 @@ use Rattle.lw_pool.specs.declared.id.ClassId.{ClassId}
 use Rattle.lw_pool.specs.declared.id.NetId.{NetId}
 use Rattle.lw_fixed.specs.declared.micro.Micro.{Micro}
 use Rattle.lw_laws.specs.Networks.{AreValues}
-use Rattle.lw_laws.specs.Signals.{sop_at, signals_of}
-use Rattle.lw_laws.specs.Decompositions.{HasTree}
 use Rattle.lw_laws.specs.Listings.{listing_of}
-use Rattle.lw_laws.specs.Covers.{Cover, tree_of, IsCover, time_of}
+use Rattle.lw_laws.specs.Covers.{Cover, time_of}
 use Rattle.lw_laws.specs.Costs.{cost_of}
 use Rattle.lw_laws.specs.Graphs.{Graph}
 use Rattle.lw_laws.specs.Classes.{IsGraphOf}
 use Rattle.lw_laws.specs.Headline.{HasLeastArrival}
 use Rattle.lw_laws.specs.MappedNetlists.{AreNetNames}
 use Rattle.lw_laws.specs.Names.{numbered_name}
-use Rattle.lw_laws.specs.Netlists.{AreByDepth, AreArrivals, AreNetCosts, AreNetlistValues, StandsFor}
+use Rattle.lw_laws.specs.Netlists.{Gate, IsGate, AreByDepth, AreArrivals, AreNetCosts, AreNetlistValues, StandsFor}
 use Rattle.lw_net.specs.Networks.{NetworkParts, input_names, output_names}
 use Rattle.lw_net.specs.Plain.{plain}
 use Rattle.lw_genlib.specs.Cells.{CellParts}
-use Rattle.lw_genlib.specs.Tables.{delays_of_cells, timing_of, truth_of_cells}
+use Rattle.lw_genlib.specs.Tables.{timing_of, truth_of_cells}
 use Rattle.lw_pattern.specs.Libraries.{library_patterns}
 use Rattle.lw_netlist.specs.Netlists.{NetlistParts, IsNetlist}
 use Rattle.lw_netlist.specs.Plain as netlist
 use Rattle.lw_choices.specs.Areas.{area_cost}
 use Rattle.lw_choices.specs.Tasks.{task}
 use Rattle.lw_curves.specs.Points.{AreTooMany}
+use Rattle.lw_trade.specs.Traded.{IsNeeded, output_nets}
 use Rattle.lw_cost.specs.declared.mark.Mark.{Mark}
 use Rattle.lw_extract.specs.declared.fault.ExtractFault.{ExtractFault}
 use Rattle.lw_extract.specs.declared.fault.ExtractFault.TheVariants.{NoCover, Memory}
 use Rattle.lw_extract.specs.Covers.{IsFirstUncovered}
 use Rattle.lw_map.specs.Options.{Options}
-use Rattle.lw_map.specs.Mapped.{IsWithinLimits}
+use Rattle.lw_map.specs.Mapped.{IsCoverOf, IsWithinLimits}
 use Rattle.lw_net.specs.Ports.{ports_of}
 use Rattle.lw_netlist.specs.Plain.{mapped_ports}
-
--- the cover is one by the library's cells of a tree that the rules derive for the net's sum of products
-pub record IsCoverOf (options : Options) (cells : List CellParts) (net : NetworkParts) (s : ℕ)
-    (k : Cover) : Type 0 where
-  pub is_cover : IsCover (map length (delays_of_cells cells)) (library_patterns cells) k
-  pub has_tree : HasTree options.mode options.width (signals_of options.width (plain net))
-      (sop_at (signals_of options.width (plain net)) s) (tree_of k)
 
 -- the time is no later than the deadline, or than the least one where that is later; without a deadline each time will
 -- do
@@ -69,8 +61,9 @@ pub record HasLeastArea (options : Options) (cells : List CellParts) (net : Netw
 
 -- A netlist of the library's cells with the network's model, inputs and outputs by name. It computes each output for
 -- all values of the inputs, and each output has the least area of all covers of all trees that the rules derive for it,
--- of those that are in time. Its gates stand by depth. The names of its nets differ, and an output's net owns its name,
--- where the names of the network's nets, inputs and outputs differ, as those of each network do that is read.
+-- of those that are in time. Each gate is needed for an output, and the gates stand by depth. The names of its nets
+-- differ, and an output's net owns its name, where the names of the network's nets, inputs and outputs differ, as those
+-- of each network do that is read.
 pub record IsTradedNetlist (options : Options) (cells : List CellParts) (net : NetworkParts) (starts : List Micro)
     (deadline : Option Micro) (n : NetlistParts) : Type 0 where
   pub kept : IsNetlist n
@@ -92,6 +85,8 @@ pub record IsTradedNetlist (options : Options) (cells : List CellParts) (net : N
       → Contains (input_names net) name
       ⊎ (Contains (output_names net) name ⊎ ((k : ℕ) × (k < 2 ^ 64) × (name ≡ numbered_name k)))
   pub by_depth : AreByDepth (netlist.plain n)
+  pub needed : (j : ℕ) (g : Gate) → IsGate (netlist.plain n) j g
+      → IsNeeded (output_nets n) (netlist.plain n) (n.inputs + j)
 
 -- Limits.
 

@@ -35,9 +35,10 @@
 //! The definitions to read are `IsLeastMatch` in `specs/Least.antt` of `lw_cost`, and `IsOutcome`
 //! in `specs/Hunts.antt`. `lw_label` calls `better_within`, `better_without_nands` and
 //! `lower_within`, `lw_extract` calls `least_before`, and `lw_check` calls `least_within`. `least`
-//! and `least_below` are the same without a table, and tests compare them. What matches are and
-//! what they cost stands in `lw_cost`, the table in `lw_bounds`, and the search by one pattern in
-//! `lw_branch`. What a caller needs of these and of `lw_cursor` is given on here.
+//! is for callers of the library: it reads no table, no command calls it, and tests compare it with
+//! all matches. What matches are and what they cost stands in `lw_cost`, the table in `lw_bounds`,
+//! and the search by one pattern in `lw_branch`. What a caller needs of these and of `lw_cursor` is
+//! given on here.
 #![tactic(auto)]
 
 mod choosing;
@@ -53,7 +54,7 @@ mod tops;
 mod want;
 
 pub use choosing::least_before;
-pub use finding::{least, least_below, least_within};
+pub use finding::{least, least_within};
 pub use improving::{Outcome, better_within, better_without_nands, lower_within};
 pub use lw_bounds::{Bounds, HeightBounds, bounds_of_fewer, settled_bounds_are_bounds};
 pub use lw_cost::{

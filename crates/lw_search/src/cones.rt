@@ -5,10 +5,12 @@ use std::alloc::{AllocError, Global};
 
 #[derive(Debug, Drop)]
 pub(crate) struct Cones {
-    // By node: the last query that it was in.
+    // By node: twice the last query that it was in, and one more where the query stops at it.
     stamps: Vec<u32>,
     query: u32,
     nodes: Vec<u32>,
+    // How many of the nodes the query stops at, which come first.
+    stops: usize,
     // By node of the query: where the conjunctions begin and end that it goes to.
     first: Vec<u32>,
     last: Vec<u32>,
@@ -21,6 +23,7 @@ impl Cones {
             stamps: Vec::new(alloc),
             query: 0,
             nodes: Vec::new(alloc),
+            stops: 0,
             first: Vec::new(alloc),
             last: Vec::new(alloc),
             outs: Vec::new(alloc),
@@ -34,7 +37,16 @@ impl Cones {
 
     #[inline]
     pub(crate) fn has(&self, node: u32) -> bool {
-        self.stamps.get(node as usize).copied() == Some(self.query)
+        match self.stamps.get(node as usize) {
+            Some(stamp) => *stamp / 2 == self.query,
+            None => false,
+        }
+    }
+
+    // Whether a node is one of the query, and not one that it stops at.
+    #[inline]
+    pub(crate) fn goes_on(&self, node: u32) -> bool {
+        self.stamps.get(node as usize).copied() == Some(self.query.wrapping_mul(2))
     }
 
     // The conjunctions that a node of the query goes to.
@@ -45,8 +57,13 @@ impl Cones {
         self.outs.get(first..last).unwrap_or(&[])
     }
 
-    // Takes the cones of both roots.
-    pub(crate) fn enter(&mut self, gates: &[Gate], roots: [u32; 2]) -> Result<(), AllocError> {
+    // Takes the cones of both roots, down to some nodes.
+    pub(crate) fn enter(
+        &mut self,
+        gates: &[Gate],
+        roots: [u32; 2],
+        stops: &[u32],
+    ) -> Result<(), AllocError> {
         if self.stamps.len() < gates.len() {
             self.stamps.resize(gates.len(), 0)?;
             self.first.resize(gates.len(), 0)?;
@@ -54,6 +71,7 @@ impl Cones {
         }
         self.query = self.query.wrapping_add(1);
         self.nodes.clear();
+        self.stop_at(stops)?;
         self.reach(roots[0], 0)?;
         self.reach(roots[1], 0)?;
         let sides = self.collect(gates)?;
@@ -65,10 +83,21 @@ impl Cones {
         Ok(())
     }
 
+    // Takes the nodes that the query stops at.
+    fn stop_at(&mut self, stops: &[u32]) -> Result<(), AllocError> {
+        let stamp = self.query.wrapping_mul(2).wrapping_add(1);
+        for node in stops {
+            self.reach(*node, 0)?;
+            set(&mut self.stamps, *node, stamp);
+        }
+        self.stops = self.nodes.len();
+        Ok(())
+    }
+
     // Takes a node, which goes to so many more conjunctions.
     fn reach(&mut self, node: u32, times: u32) -> Result<(), AllocError> {
         if !self.has(node) {
-            set(&mut self.stamps, node, self.query);
+            set(&mut self.stamps, node, self.query.wrapping_mul(2));
             set(&mut self.last, node, 0);
             self.nodes.push(node)?;
         }
@@ -80,7 +109,7 @@ impl Cones {
     // Takes all nodes below those that were taken: how many sides they have.
     fn collect(&mut self, gates: &[Gate]) -> Result<usize, AllocError> {
         let mut sides = 0usize;
-        for place in 0..gates.len() {
+        for place in self.stops..gates.len() {
             let Some(node) = self.nodes.get(place).copied() else {
                 break;
             };
@@ -106,7 +135,7 @@ impl Cones {
 
     // Writes the conjunctions at their places.
     fn fill(&mut self, gates: &[Gate]) {
-        for node in &self.nodes {
+        for node in self.nodes.get(self.stops..).unwrap_or(&[]) {
             if let Some(Gate::And(a, b)) = gates.get(*node as usize) {
                 for side in [*a, *b] {
                     let place = at(&self.last, side.node());

@@ -12,7 +12,7 @@ fn open_sides(
     gates: &[Gate],
     literal: Literal,
 ) -> Option<(Literal, Literal)> {
-    if literal.0 % 2 == 0 || !cones.has(literal.node()) {
+    if literal.0 % 2 == 0 || !cones.goes_on(literal.node()) {
         return None;
     }
     match gates.get(literal.node() as usize) {

@@ -100,12 +100,14 @@ impl Search {
     }
 
     /// Whether two literals have one value under every assignment, with so many conflicts both ways
-    /// at most. After `Apart` the search has values, of inputs too, that may tell them apart.
+    /// at most. The search goes down to the nodes `stops` alone, which it takes to be free. After
+    /// `Apart` it has values, of inputs too, that may tell the literals apart.
     pub fn compare(
         &mut self,
         alloc: Global,
         left: Literal,
         right: Literal,
+        stops: &[u32],
         tries: u32,
     ) -> Result<Found, AllocError>
         ensures kept { self.new ≡ self.old }
@@ -115,7 +117,7 @@ impl Search {
         if spent {
             return Ok(Found::Open);
         }
-        self.enter(alloc, left, right)?;
+        self.enter(alloc, left, right, stops)?;
         let there = self.run(&[left, right.flip()], tries)?;
         let Found::Equal = there else {
             return Ok(there);
@@ -125,7 +127,13 @@ impl Search {
     }
 
     // Begins a query.
-    fn enter(&mut self, alloc: Global, left: Literal, right: Literal) -> Result<(), AllocError>
+    fn enter(
+        &mut self,
+        alloc: Global,
+        left: Literal,
+        right: Literal,
+        stops: &[u32],
+    ) -> Result<(), AllocError>
         ensures { self.new ≡ self.old }
     {
         self.trail.clear();
@@ -137,8 +145,8 @@ impl Search {
             self.clauses.forget(alloc, self.clauses.len() / 2)?;
             self.watches.renew(&self.clauses)?;
         }
-        self.cones
-            .enter(self.clauses.aig().gates(), [left.node(), right.node()])
+        let roots = [left.node(), right.node()];
+        self.cones.enter(self.clauses.aig().gates(), roots, stops)
     }
 
     // Begins a search: what is known without an assignment.

@@ -69,10 +69,12 @@ fn spread_gates(
     gates: &[Gate],
     literal: Literal,
 ) -> Option<Cause> {
-    if let Some(Gate::And(a, b)) = gates.get(literal.node() as usize) {
-        let failed = spread_down(trail, literal, *a, *b);
-        if failed.is_some() {
-            return failed;
+    if cones.goes_on(literal.node()) {
+        if let Some(Gate::And(a, b)) = gates.get(literal.node() as usize) {
+            let failed = spread_down(trail, literal, *a, *b);
+            if failed.is_some() {
+                return failed;
+            }
         }
     }
     for out in cones.outs(literal.node()) {

@@ -12,6 +12,7 @@ pub mod Rising
 pub mod Taking
 pub mod Tiling
 pub mod Steps
+pub mod FewReads
 pub mod Walking
 pub mod Rooted
 pub mod Telling

@@ -1,5 +1,5 @@
 //! Theorems: functions with empty bodies, whose clauses are the theorems.
-ghost use Rattle.std.specs.Prelude.{◌≡◌, ℕ, List, Option, Some, slice_get};
+ghost use Rattle.std.specs.Prelude.{◌≡◌, ◌≤◌, ◌+◌, ℕ, List, Option, Some, length, slice_get};
 ghost use Rattle.lw_graph.specs.Graphs.{IsGraph};
 ghost use Rattle.lw_laws.specs.Costs.{Cost, IsCost};
 ghost use Rattle.lw_laws.specs.Covers.{Pattern};
@@ -9,9 +9,9 @@ ghost use Rattle.lw_cost.specs.declared.mark.Mark.{Mark};
 ghost use Rattle.lw_cost.specs.Least.{AreOfCells};
 ghost use Rattle.lw_cost.specs.Values.{marks_in};
 ghost use Rattle.lw_cost.specs.Labels.{AreLeastMarks};
-ghost use Rattle.lw_settle.specs.Settled.{AreSettledMarks, HaveLeafCosts};
+ghost use Rattle.lw_settle.specs.Settled.{AreSettledMarks, HaveLeafCosts, settle_steps};
 ghost use Rattle.lw_settle.specs.Steps.{AreSteps};
-ghost use Rattle.lw_settle.specs.Stores.{AreOfStoredCells, IsStoreOf, Stored};
+ghost use Rattle.lw_settle.specs.Stores.{AreOfStoredCells, IsStoreOf, Stored, pin_total, placed};
 ghost use Rattle.lw_laws.specs.Choices.{Labels};
 
 /// Marks that are settled by a store of a graph and patterns are the least marks of these.
@@ -51,4 +51,10 @@ pub fn steps_are_one()
     ensures { (g : Graph) (pats : List Pattern) (labels : Labels) (steps others : Option ℕ) →
         AreSteps g pats labels steps →
         AreSteps g pats labels others → steps ≡ others }
+{}
+
+/// Settling reads a store no more often than its matches have pins, and once more for each match.
+pub fn steps_are_few()
+    ensures { (labels : Labels) (lists : List (List Stored)) →
+        settle_steps labels lists ≤ pin_total (placed lists) + length (placed lists) }
 {}

@@ -53,8 +53,8 @@ mod walk;
 
 pub use fault::StoreFault;
 pub use laws::{
-    leaf_costs_are_least, least_marks_are_one, settled_marks_are_least, steps_are_one,
-    stores_are_of_cells,
+    leaf_costs_are_least, least_marks_are_one, settled_marks_are_least, steps_are_few,
+    steps_are_one, stores_are_of_cells,
 };
 pub use listing::store_matches;
 pub use settling::settle;

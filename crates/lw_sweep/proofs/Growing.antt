@@ -17,15 +17,15 @@ extended_push gates gate =
     let size = length_push gates gate in
     record { kept = λ n g e. get_left gates (gate ∷ []) n g e; longer = omega arith }
 
--- one gate is appended, and then none
-pub grown : (old middle new : List Gate) (gate : Gate) → middle ≡ old ++ gate ∷ [] → new ≡ middle → IsExtended old new
-grown old middle new gate e f = subst (IsExtended old) (sym (f ∙ e)) (extended_push old gate)
-
 pub extended_both : (old middle new : List Gate) → IsExtended old middle → IsExtended middle new → IsExtended old new
 extended_both old middle new first second =
     let a = first.longer in
     let b = second.longer in
     record { kept = λ n gate e. second.kept n gate (first.kept n gate e); longer = omega arith }
+
+-- one gate is appended, and then more
+pub grown : (old middle new : List Gate) (gate : Gate) → middle ≡ old ++ gate ∷ [] → IsExtended middle new → IsExtended old new
+grown old middle new gate e extended = extended_both old middle new (subst (IsExtended old) (sym e) (extended_push old gate)) extended
 
 -- the values of the nodes of a longer graph are right for the shorter one
 pub values_before : (old new : List Gate) (v : ℕ → Bool) → IsExtended old new → AreNodeValues new v → AreNodeValues old v
@@ -45,9 +45,13 @@ stands_conjunction gates n a b l at stands = record {
 }
 
 -- the gate at the end is the last
-pub pushed_conjunction : (gates new : List Gate) (n : ℕ) (a b l : Literal) → new ≡ gates ++ And a b ∷ [] → n ≡ length gates → StandsFor new n l → IsConjunction new a b l
-pushed_conjunction gates new n a b l e at stands =
-    stands_conjunction new n a b l (ap (λ gs. slice_get gs n) e ∙ (ap (slice_get (gates ++ And a b ∷ [])) at ∙ get_last gates (And a b))) stands
+last_gate : (gates new : List Gate) (n : ℕ) (gate : Gate) → new ≡ gates ++ gate ∷ [] → n ≡ length gates → slice_get new n ≡ Some gate
+last_gate gates new n gate e at = ap (λ gs. slice_get gs n) e ∙ (ap (slice_get (gates ++ gate ∷ [])) at ∙ get_last gates gate)
+
+-- it still is its conjunction where the graph has grown on
+pub pushed_conjunction : (gates middle new : List Gate) (n : ℕ) (a b l : Literal) → middle ≡ gates ++ And a b ∷ [] → n ≡ length gates → IsExtended middle new → StandsFor new n l → IsConjunction new a b l
+pushed_conjunction gates middle new n a b l e at extended stands =
+    stands_conjunction new n a b l (extended.kept n (And a b) (last_gate gates middle n (And a b) e at)) stands
 
 and_turned : (a b : Bool) → (a && b) ≡ (b && a)
 and_turned true true = refl

@@ -1,3 +1,4 @@
+pub mod Equals
 pub mod Growing
 pub mod Simple
 pub mod Standing

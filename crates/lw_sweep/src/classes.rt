@@ -68,19 +68,23 @@ impl Classes {
         }
     }
 
-    // Takes the next node, in a class of its signature or in none.
-    pub(crate) fn push(&mut self, alloc: Global, signature: Option<u64>) -> Result<(), AllocError> {
+    // Takes the next node, in no class.
+    pub(crate) fn push(&mut self, alloc: Global) -> Result<(), AllocError> {
         if self.nodes >= self.slots.len() {
             self.grow(alloc)?;
         }
-        let node = u32::try_from(self.nodes).unwrap_or(NONE);
         self.nodes = self.nodes.wrapping_add(1);
         self.before.push(NONE)?;
-        self.signatures.push(signature.unwrap_or(0))?;
-        if let Some(signature) = signature {
-            self.chain(node, signature);
-        }
+        self.signatures.push(0)?;
         Ok(())
+    }
+
+    // Takes a node into the class of its signature.
+    pub(crate) fn enter(&mut self, node: u32, signature: u64) {
+        if let Some(place) = self.signatures.get_mut(node as usize) {
+            *place = signature;
+        }
+        self.chain(node, signature);
     }
 
     // Takes twice as many slots, and chains anew what stands in classes.

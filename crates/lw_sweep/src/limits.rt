@@ -7,6 +7,9 @@ pub struct Limits {
     pub conflicts: u64,
     /// How many values all comparisons may spread.
     pub steps: u64,
+    /// Whether sums of inputs modulo 2 are brought to one form. Without it, the sweep searches no
+    /// more once the comparison of such a sum was left open.
+    pub sums: bool,
 }
 
 /// How many comparisons there were, and what came of them.

@@ -109,6 +109,19 @@ impl Patterns {
         Ok(())
     }
 
+    // A word that a conjunction would have from the start.
+    #[inline]
+    pub(crate) fn conjunction(&self, left: Literal, right: Literal, k: usize) -> u64 {
+        let a = word(&self.base, place(left.node(), k)) ^ sign(left);
+        let b = word(&self.base, place(right.node(), k)) ^ sign(right);
+        a & b
+    }
+
+    // Whether a literal is true in the first pattern.
+    pub(crate) fn is_true(&self, literal: Literal) -> bool {
+        self.is_turned(literal.node()) == (literal.0 % 2 == 0)
+    }
+
     // Whether a node is true in the first pattern: its complement stands in its class.
     pub(crate) fn is_turned(&self, node: u32) -> bool {
         word(&self.base, place(node, 0)) & 1 == 1

@@ -4,6 +4,8 @@ ghost use Rattle.lw_aig.specs.Aigs.{IsAig};
 ghost use Rattle.lw_sweep.specs.Sweeps.{AreStanding, inputs_alone};
 
 use crate::classes::Classes;
+use crate::forms::Forms;
+use crate::parity::Parity;
 use crate::patterns::Patterns;
 use lw_aig::{Aig, Gate, Literal};
 use std::alloc::{AllocError, Global};
@@ -37,10 +39,28 @@ pub(crate) fn candidates(alloc: Global, inputs: u32) -> Result<(Patterns, Classe
     let mut patterns = Patterns::new(alloc);
     let mut classes = Classes::new(alloc)?;
     patterns.push_zero()?;
-    classes.push(alloc, Some(patterns.signature(0)))?;
+    classes.push(alloc)?;
+    classes.enter(0, patterns.signature(0));
     for input in 0..inputs {
         patterns.push_input()?;
-        classes.push(alloc, Some(patterns.signature(input.wrapping_add(1))))?;
+        let node = input.wrapping_add(1);
+        classes.push(alloc)?;
+        classes.enter(node, patterns.signature(node));
     }
     Ok((patterns, classes))
+}
+
+// The inputs as sums.
+pub(crate) fn input_sums(
+    alloc: Global,
+    inputs: u32,
+    patterns: &Patterns,
+) -> Result<(Parity, Forms), AllocError> {
+    let mut parity = Parity::new(alloc, inputs)?;
+    let mut forms = Forms::new(alloc);
+    for input in 0..inputs {
+        parity.push_input(patterns, input.wrapping_add(1))?;
+        forms.push_input(input)?;
+    }
+    Ok((parity, forms))
 }

@@ -1,9 +1,12 @@
-ghost use Rattle.std.specs.Prelude.{◌≡◌, ◌+◌, ◌^◌, ◌<◌, ◌++◌, [], ◌∷◌, length, IfOk, IfSome, MatchResult};
+ghost use Rattle.std.specs.Prelude.{◌≡◌, ◌+◌, ◌^◌, ◌<◌, ◌++◌, [], ◌∷◌, length};
+ghost use Rattle.std.specs.Prelude.{IfOk, IfSome, IsTrue, MatchResult};
 
 use crate::classes::Classes;
+use crate::forms::Forms;
+use crate::parity::Parity;
 use crate::patterns::{Pattern, Patterns, input_words};
 use crate::simplifying::simple;
-use crate::starting::{candidates, graph_of_inputs, themselves};
+use crate::starting::{candidates, graph_of_inputs, input_sums, themselves};
 use crate::{Counts, Limits};
 use lw_aig::{Aig, Literal};
 use lw_search::{Found, Search};
@@ -15,16 +18,23 @@ const MOST_LOOKS: usize = 64;
 
 const MOST_COMPARED: u32 = 8;
 
+// How many conflicts the comparison of a sum may have each way, before that is brought to one form.
+const FEW_TRIES: u32 = 30;
+
 /// An and-inverter graph whose conjunctions are swept.
 #[derive(Debug, Drop)]
 pub struct Sweep {
-    search: Search,
+    pub(crate) search: Search,
     // By node, the literal that stands for it.
     stands: Vec<Literal>,
-    patterns: Patterns,
+    pub(crate) patterns: Patterns,
     classes: Classes,
+    pub(crate) parity: Parity,
+    pub(crate) forms: Forms,
     inputs: u32,
     limits: Limits,
+    // Whether the comparison of a sum was left open.
+    wants_sums: bool,
     counts: Counts,
 }
 
@@ -54,13 +64,17 @@ impl Sweep {
         let aig = graph_of_inputs(alloc, inputs)?;
         let stands = themselves(alloc, aig.gates())?;
         let (patterns, classes) = candidates(alloc, inputs)?;
+        let (parity, forms) = input_sums(alloc, inputs, &patterns)?;
         Ok(Sweep {
             search: Search::new(alloc, aig, limits.steps),
             stands,
             patterns,
             classes,
+            parity,
+            forms,
             inputs,
             limits,
+            wants_sums: false,
             counts: Counts {
                 equal: 0,
                 apart: 0,
@@ -79,6 +93,11 @@ impl Sweep {
     /// How many comparisons there were.
     pub fn counts(&self) -> Counts {
         self.counts
+    }
+
+    /// Whether it searches no more, because sums of inputs are not brought to one form.
+    pub fn wants_sums(&self) -> bool {
+        self.wants_sums
     }
 
     /// How many conflicts there were.
@@ -101,7 +120,7 @@ impl Sweep {
         if left == right {
             return Ok(Found::Equal);
         }
-        let found = self.search.compare(alloc, left, right, tries)?;
+        let found = self.search.compare(alloc, left, right, &[], tries)?;
         Ok(found)
     }
 
@@ -135,6 +154,65 @@ impl Sweep {
         ensures { self.new ≡ self.old }
     {
         self.stands[node as usize] = literal;
+    }
+
+    // The literal that stands for a literal.
+    pub(crate) fn stand_of(&self, literal: Literal) -> Literal
+        ensures { AreEqual self.now result literal }
+    {
+        if literal.node() as usize >= self.search.aig().gates().len() {
+            return literal;
+        }
+        let stand = self.stand(literal.node());
+        if literal.0 % 2 == 1 {
+            return stand.flip();
+        }
+        stand
+    }
+
+    // Lets a literal stand for another, if both are of nodes of the graph.
+    pub(crate) fn let_equal(&mut self, literal: Literal, stand: Literal)
+        requires { AreEqual self.old stand literal }
+        ensures { self.new ≡ self.old }
+    {
+        let nodes = self.search.aig().gates().len();
+        if literal.node() as usize >= nodes || stand.node() as usize >= nodes {
+            return;
+        }
+        if literal.0 % 2 == 1 {
+            return self.let_stand(literal.node(), stand.flip());
+        }
+        self.let_stand(literal.node(), stand)
+    }
+
+    // Whether the search finds two literals to be equal above some nodes.
+    pub(crate) fn are_same(
+        &mut self,
+        alloc: Global,
+        left: Literal,
+        right: Literal,
+        stops: &[u32],
+    ) -> Result<bool, AllocError>
+        ensures kept { self.new ≡ self.old }
+        ensures same { IfOk result (λ yes. IsTrue yes → AreEqual self.old left right) }
+    {
+        if left == right {
+            return Ok(true);
+        }
+        if self.search.conflicts() >= self.limits.conflicts {
+            return Ok(false);
+        }
+        let tries = self.limits.tries;
+        match self.search.compare(alloc, left, right, stops, tries)? {
+            Found::Equal => {
+                self.counts.equal = self.counts.equal.saturating_add(1);
+                Ok(true)
+            }
+            _ => {
+                self.counts.open = self.counts.open.saturating_add(1);
+                Ok(false)
+            }
+        }
     }
 
     /// The conjunction of two literals, or none where there is no room for a node. The graph grows
@@ -196,31 +274,76 @@ impl Sweep {
         Ok(literal)
     }
 
-    // Finds what stands for the last node, which is in a class where that is itself.
+    // Finds what stands for the last node. The graph may grow.
     fn settle(&mut self, alloc: Global, node: u32) -> Result<Literal, AllocError>
         requires { node < length self.old }
-        ensures kept { self.new ≡ self.old }
-        ensures stands { IfOk result (StandsFor self.old node) }
+        ensures grows { IsExtended self.old self.new }
+        ensures stands { IfOk result (StandsFor self.new node) }
     {
-        let literal = self.seek(alloc, node)?;
-        self.let_stand(node, literal);
-        self.classify(alloc, node, literal.node() == node)?;
-        Ok(literal)
+        let own = Literal(node.wrapping_mul(2));
+        if self.limits.sums && self.parity.is_sum(&self.patterns, own, own) {
+            return self.settle_by_form(alloc, node);
+        }
+        if self.settle_by_class(alloc, node, self.limits.tries)? {
+            self.classify(node);
+        }
+        Ok(self.stand(node))
     }
 
-    // Takes the last node into its class, or into none.
-    fn classify(&mut self, alloc: Global, node: u32, itself: bool) -> Result<(), AllocError>
+    // The same for a node that looks like a sum: brought to the form, it stays in its class.
+    fn settle_by_form(&mut self, alloc: Global, node: u32) -> Result<Literal, AllocError>
+        requires { node < length self.old }
+        ensures grows { IsExtended self.old self.new }
+        ensures stands { IfOk result (StandsFor self.new node) }
+    {
+        if !self.settle_by_class(alloc, node, FEW_TRIES)? {
+            return Ok(self.stand(node));
+        }
+        let known = self.settle_sum(alloc, node)?;
+        self.settle_last(alloc, node, known)?;
+        Ok(self.stand(node))
+    }
+
+    // Takes a node into its class, and looks there for what stands for it, if that is not known.
+    fn settle_last(&mut self, alloc: Global, node: u32, known: bool) -> Result<(), AllocError>
+        requires { node < length self.old }
         ensures { self.new ≡ self.old }
     {
-        if itself {
-            let signature = self.patterns.signature(node);
-            return self.classes.push(alloc, Some(signature));
+        if !known {
+            self.settle_by_class(alloc, node, self.limits.tries)?;
         }
-        self.classes.push(alloc, None)
+        self.classify(node);
+        Ok(())
+    }
+
+    // Lets what stands for an earlier node of its class stand for a node, if both are found to be
+    // equal. Whether the node stands for itself then.
+    fn settle_by_class(&mut self, alloc: Global, node: u32, tries: u32) -> Result<bool, AllocError>
+        requires { node < length self.old }
+        ensures { self.new ≡ self.old }
+    {
+        let _ = self.search.aig().gates();
+        let literal = self.seek(alloc, node, tries)?;
+        let stand = self.stand_of(literal);
+        self.let_equal(Literal::of(node), stand);
+        Ok(stand.node() == node)
+    }
+
+    // Takes a node into the class of its signature.
+    fn classify(&mut self, node: u32)
+        ensures { self.new ≡ self.old }
+    {
+        let signature = self.patterns.signature(node);
+        self.classes.enter(node, signature);
     }
 
     // Appends a conjunction, which stands for itself. If memory runs out, nothing is changed.
-    fn push(&mut self, alloc: Global, left: Literal, right: Literal) -> Result<(), AllocError>
+    pub(crate) fn push(
+        &mut self,
+        alloc: Global,
+        left: Literal,
+        right: Literal,
+    ) -> Result<(), AllocError>
         requires room { length self.old < most_nodes }
         requires left { IsBelow (length self.old) left }
         requires right { IsBelow (length self.old) right }
@@ -230,6 +353,7 @@ impl Sweep {
         let node = self.search.aig().gates().len() as u32;
         self.stands.reserve(1)?;
         self.patterns.conjoin(left, right)?;
+        self.classes.push(alloc)?;
         self.search.push_and(alloc, left, right)?;
         self.stands.push_reserved(Literal::of(node));
         Ok(())
@@ -237,7 +361,7 @@ impl Sweep {
 
     // A literal that stands for a node: that of an earlier node with its patterns, if they are found
     // to be equal, or else its own.
-    fn seek(&mut self, alloc: Global, node: u32) -> Result<Literal, AllocError>
+    fn seek(&mut self, alloc: Global, node: u32, tries: u32) -> Result<Literal, AllocError>
         requires { node < length self.old }
         ensures kept { self.new ≡ self.old }
         ensures stands { IfOk result (StandsFor self.old node) }
@@ -251,7 +375,7 @@ impl Sweep {
             };
             if left > 0 && self.patterns.are_alike(other, node) {
                 left -= 1;
-                if let Some(literal) = self.compare(alloc, node, other)? {
+                if let Some(literal) = self.compare(alloc, node, other, tries)? {
                     return Ok(literal);
                 }
             }
@@ -276,6 +400,7 @@ impl Sweep {
         alloc: Global,
         node: u32,
         other: u32,
+        tries: u32,
     ) -> Result<Option<Literal>, AllocError>
         requires { node < length self.old }
         ensures kept { self.new ≡ self.old }
@@ -287,11 +412,8 @@ impl Sweep {
             return Ok(None);
         }
         let literal = self.phased(node, other);
-        let tries = self.limits.tries;
-        match self
-            .search
-            .compare(alloc, literal, Literal::of(node), tries)?
-        {
+        let own = Literal::of(node);
+        match self.search.compare(alloc, literal, own, &[], tries)? {
             Found::Equal => {
                 self.counts.equal = self.counts.equal.saturating_add(1);
                 return Ok(Some(literal));
@@ -300,9 +422,20 @@ impl Sweep {
                 self.counts.apart = self.counts.apart.saturating_add(1);
                 self.refine(alloc)?;
             }
-            Found::Open => self.counts.open = self.counts.open.saturating_add(1),
+            Found::Open => self.leave_open(own),
         }
         Ok(None)
+    }
+
+    // Leaves a comparison of a node open. If it looks like a sum, that is to be brought to the form.
+    fn leave_open(&mut self, own: Literal)
+        ensures { self.new ≡ self.old }
+    {
+        self.counts.open = self.counts.open.saturating_add(1);
+        if !self.limits.sums && self.parity.is_sum(&self.patterns, own, own) {
+            self.wants_sums = true;
+            self.limits.conflicts = 0;
+        }
     }
 
     // The literal of an earlier node that has the patterns of a node.

@@ -14,7 +14,7 @@ use crate::plain::{
 use lw_fixed::Micros;
 use lw_graph::Graph;
 use lw_label::{DelayCost, relabel};
-use lw_match::{Best, Mark, Match, least, least_below};
+use lw_match::{Best, Mark, Match, least};
 use lw_pool::ClassId;
 use std::alloc::{AllocError, Global};
 use std::process::Abort;
@@ -57,52 +57,6 @@ fn is_found(found: &Option<Best>, wanted: Option<(Mark, &Match)>) -> bool {
     }
 }
 
-// Bounds about a mark: the mark, one that is greater by its height, one that is greater by its
-// cost, and one far off.
-fn bounds_about(mark: Mark) -> [Mark; 4] {
-    [
-        mark,
-        Mark {
-            cost: mark.cost,
-            height: mark.height.saturating_add(1),
-        },
-        Mark {
-            cost: mark.cost.saturating_add(1),
-            height: 0,
-        },
-        Mark {
-            cost: 1_000_000,
-            height: 1,
-        },
-    ]
-}
-
-// Looks for the least match below some bounds: it is found where its mark is before the bound.
-fn check_below(
-    rt: &impl Abort,
-    case: &Case<'_>,
-    marks: &[Option<Mark>],
-    class: ClassId,
-    wanted: Option<(Mark, &Match)>,
-)
-    requires of_cells { Fits case.now.cells.lib.now case.now.cells.pats.now }
-    requires class { class.0 < length case.now.graph.now.pairs }
-    requires one_each { length marks.now ≡ length case.now.graph.now.pairs }
-    requires in_range { AreInRange most_time marks.now }
-{
-    let mark = match wanted {
-        Some((mark, _found)) => mark,
-        None => Mark { cost: 0, height: 0 },
-    };
-    let cost = DelayCost::new(case.cells.lib, case.starts);
-    for bound in bounds_about(mark) {
-        let found = least_below(case.graph, case.cells.pats, marks, class, &cost, bound);
-        let before = (mark.cost, mark.height) < (bound.cost, bound.height);
-        let below = if before { wanted } else { None };
-        assert!(rt; is_found(&found, below), "class {class:?} below {bound:?}");
-    }
-}
-
 // Looks for the least match at a class, and compares it with the least of the list of all matches.
 fn check_class(
     rt: &impl Abort,
@@ -120,7 +74,6 @@ fn check_class(
     let cost = DelayCost::new(case.cells.lib, case.starts);
     let found = least(case.graph, case.cells.pats, marks, class, &cost);
     assert!(rt; is_found(&found, wanted), "class {class:?}");
-    check_below(rt, case, marks, class, wanted);
 }
 
 fn check_classes(rt: &impl Abort, case: &Case<'_>, marks: &[Option<Mark>])

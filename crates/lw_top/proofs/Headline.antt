@@ -6,7 +6,6 @@ use Rattle.lw_blif.specs.declared.parsed.Parsed.{Parsed}
 use Rattle.lw_genlib.specs.Cells.{CellParts}
 use Rattle.lw_map.specs.Options.{Options}
 use Rattle.lw_map.proofs.Mappings.{mapped_is_mapping}
-use Rattle.lw_map.proofs.Names.{mapped_has_names}
 use Rattle.lw_top.specs.declared.refusal.Refusal.{Refusal}
 use Rattle.lw_top.specs.declared.refusal.Refusal.TheVariants.{NoCover, Faulty}
 use Rattle.lw_top.specs.declared.outcome.Outcome.{Outcome}
@@ -35,6 +34,7 @@ use Rattle.lw_top.proofs.Sound.{asked_some}
 use Rattle.lw_top.proofs.FaultStatuses.{fault_is_not_done, fault_names_no_output}
 use Rattle.lw_top.proofs.Asked.{names_read}
 use Rattle.lw_top.proofs.MapWords.{map_asked}
+use Rattle.lw_top.proofs.MappedNames.{mapped_named}
 use Rattle.lw_top.proofs.TradedNames.{traded_named}
 
 -- no step before the mapping refuses for want of a cover
@@ -73,11 +73,11 @@ read-bytes name files bytes e = by_file (files name) e
         by_length false le e = cc
 
 -- what is read is what the texts say
-says-library : (name : List ℕ) (files : Files) (cells : List CellParts) → ReadsLibrary name files (Ok cells) → SaysLibrary name files cells
+pub says-library : (name : List ℕ) (files : Files) (cells : List CellParts) → ReadsLibrary name files (Ok cells) → SaysLibrary name files cells
 says-library name files cells (inl (bytes, there, says)) = let (at, few) = read-bytes name files bytes there in (bytes, at, few, says)
 says-library name files cells (inr (e, refused, is)) = cc
 
-says-model : (name : List ℕ) (files : Files) (model : Parsed) → ReadsModel name files (Ok model) → SaysModel name files model
+pub says-model : (name : List ℕ) (files : Files) (model : Parsed) → ReadsModel name files (Ok model) → SaysModel name files model
 says-model name files model (inl (bytes, there, says)) = let (at, few) = read-bytes name files bytes there in (bytes, at, few, by_fault (first_fault [] (lines_read (lines_in bytes))) says)
   where
     by_fault : (f : Option FaultAt) → ComesTo f (lines_read (lines_in bytes)) (Ok model) → IsModelOf (lines_read (lines_in bytes)) model
@@ -86,30 +86,31 @@ says-model name files model (inl (bytes, there, says)) = let (at, few) = read-by
 says-model name files model (inr (e, refused, is)) = cc
 
 module _ (words : List (List ℕ)) (files : Files) (asks : AsksForMapping words) where
-  abbrev options : Options
+  abbrev pub options : Options
   options = asks.options
 
-  abbrev certified : Bool
+  abbrev pub certified : Bool
   certified = asks.certified
 
-  abbrev library : List ℕ
+  abbrev pub library : List ℕ
   library = asks.library
 
-  abbrev network : List ℕ
+  abbrev pub network : List ℕ
   network = asks.network
 
-  form : command_of words ≡ Some (mapping options certified library network)
+  pub form : command_of words ≡ Some (mapping options certified library network)
   form = map_asked words (mapping options certified library network) asks.form
 
   -- the library and the network were read
-  abbrev IsMapped : Result (List ℕ) Refusal → Type 0
+  abbrev pub IsMapped : Result (List ℕ) Refusal → Type 0
   IsMapped a = IsLast (ReadsLibrary library) (ReadsModel network) (λ (cells : List CellParts) (model : Parsed). Maps options certified cells model) files a
 
-  mapping-text : (text : List ℕ) → IsMapped (Ok text) → IsMappingText words files text
+  unfoldable pub mapping-text : (text : List ℕ) → IsMapped (Ok text) → IsMappingText words files text
   mapping-text text m =
       let wide = command_in_range words (mapping options certified library network) form in
       let kept = model_kept network files m.b m.two in
       let lib = cells_kept library files m.a m.one in
+      let names = names_read network files m.b m.two in
       record {
         asks = asks;
         cells = m.a;
@@ -124,7 +125,8 @@ module _ (words : List (List ℕ)) (files : Files) (asks : AsksForMapping words)
         frame = kept.fits.frame;
         starts = kept.fits.starts;
         mapping_is = mapped_is_mapping options m.a m.b.network m.b.starts wide kept.network kept.fits.starts.early lib m.comes.within.forms m.comes.netlist m.comes.is_mapped;
-        names = mapped_has_names options m.a m.b.network m.b.starts wide kept.network kept.names_differ kept.fits.inputs kept.fits.outputs m.comes.netlist m.comes.is_mapped;
+        named = mapped_named options m.a m.b wide kept lib m.comes.netlist m.comes.is_mapped names;
+        latches = names.latches;
       }
     where
       told_where_asked : (b : Bool) (certificate : Option Certificate) → IsAskedFor options m.a m.b.network m.b.starts m.comes.netlist m.comes.is_mapped b certificate → is_some certificate ≡ b
@@ -141,10 +143,13 @@ module _ (words : List (List ℕ)) (files : Files) (asks : AsksForMapping words)
   own-command c is = let both : Some c ≡ Some (mapping options certified library network) = sym is ∙ form in cc
 
   -- an answer that is a text is that of a mapping
-  pub answer-mapped : (text : List ℕ) → IsAnswer words files (Ok text) → IsMappingText words files text
-  answer-mapped text answer =
+  pub answer-comes : (text : List ℕ) → IsAnswer words files (Ok text) → IsMapped (Ok text)
+  answer-comes text answer =
       let (c, is, comes) = asked-ok words files text answer in
-      mapping-text text (last_ok (ReadsLibrary library) (ReadsModel network) (λ (cells : List CellParts) (model : Parsed). Maps options certified cells model) files text (subst (λ (d : Command). IsCommandAnswer d files (Ok text)) (own-command c is) comes))
+      last_ok (ReadsLibrary library) (ReadsModel network) (λ (cells : List CellParts) (model : Parsed). Maps options certified cells model) files text (subst (λ (d : Command). IsCommandAnswer d files (Ok text)) (own-command c is) comes)
+
+  pub answer-mapped : (text : List ℕ) → IsAnswer words files (Ok text) → IsMappingText words files text
+  answer-mapped text answer = mapping-text text (answer-comes text answer)
 
   -- an answer that names an output is of one without a cover
   pub answer-lacks : (name : List ℕ) → IsAnswer words files (Err (NoCover name)) → LacksOutput words files name
@@ -165,6 +170,7 @@ module _ (words : List (List ℕ)) (files : Files) (asks : AsksForTrade words) w
       let (c, is, comes) = asked-ok words files text answer in
       let m = last_ok (ReadsLibrary asks.library) (ReadsModel asks.network) (λ (cells : List CellParts) (model : Parsed). Trades asks.deadline asks.options cells model) files text (subst (λ (d : Command). IsCommandAnswer d files (Ok text)) (trade-command c is) comes) in
       let kept = model_kept asks.network files m.b m.two in
+      let names = names_read asks.network files m.b m.two in
       record {
         asks = asks;
         cells = m.a;
@@ -176,7 +182,8 @@ module _ (words : List (List ℕ)) (files : Files) (asks : AsksForTrade words) w
         frame = kept.fits.frame;
         starts = kept.fits.starts;
         traded = m.comes.traded;
-        named = traded_named asks.options m.a m.b asks.deadline m.comes.netlist m.comes.traded kept (names_read asks.network files m.b m.two);
+        named = traded_named asks.options m.a m.b asks.deadline m.comes.netlist m.comes.traded kept names;
+        latches = names.latches;
       }
 
   -- an answer that names an output is of one without a cover

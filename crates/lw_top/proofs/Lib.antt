@@ -9,12 +9,15 @@ pub mod Serving
 pub mod Whole
 pub mod Asked
 pub mod MapWords
+pub mod NetNames
+pub mod MappedNames
 pub mod FaultStatuses
 pub mod Headline
 pub mod Sound
 pub mod InRange
 pub mod MapAnswers
 pub mod Checked
+pub mod Translated
 pub mod TableAnswers
 pub mod TradeAnswers
 pub mod TradedNames

@@ -37,11 +37,14 @@ module _ (options : Options) (cells : List CellParts) (model : Parsed) (deadline
   net_named name (inr (inl output)) = among (output_names model.network) name named.outputs output
   net_named name (inr (inr (k, lt, e))) = subst IsSignalName (sym e) (numbered_one k lt)
 
+  pub traded_outputs : map port_name n.outputs ≡ output_names model.network
+  traded_outputs = names_beside model.network model.network.outputs n.outputs is.outputs_named
+
   pub traded_named : IsNamed n
   traded_named = record {
     by_depth = is.by_depth;
     model = subst IsSignalName (sym is.model_name) named.model;
     signals = λ k d lt. net_named (slice_index_or n.names k d) (is.own_names (slice_index_or n.names k d) (k, lt, get_or_default n.names k (slice_index_or n.names k d) d lt));
-    outputs = subst (All IsSignalName) (sym (names_beside model.network model.network.outputs n.outputs is.outputs_named)) named.outputs;
+    outputs = subst (All IsSignalName) (sym traded_outputs) named.outputs;
     names = is.names kept.names_differ kept.fits.inputs kept.fits.outputs;
   }

@@ -19,3 +19,4 @@ pub mod Tables
 pub mod Trades
 pub mod Traded
 pub mod Tabled
+pub mod Translated

@@ -1,10 +1,11 @@
 -- What a text that was written is of, what an output is that has no cover, and what a yes says.
 use Rattle.std.specs.Prelude.{◌≡◌, ◌≤◌, ℕ, Bool, false, List, [], ◌∷◌, length, Option, Some, None, Ok, is_some}
-use Rattle.std.specs.Prelude.{if◌then◌else◌, codes}
+use Rattle.std.specs.Prelude.{if◌then◌else◌, codes, All}
 use Rattle.std.specs.Str.{bytes_eq}
-use Rattle.lw_laws.specs.Headline.{IsMapping, AreNetNames}
+use Rattle.lw_laws.specs.Headline.{IsMapping}
 use Rattle.lw_net.specs.Networks.{plain as plain_network, input_names, output_names, ports_of}
 use Rattle.lw_frame.specs.Frames.{Fits}
+use Rattle.lw_frame.specs.Latches.{IsReadableLatch}
 use Rattle.lw_frame.specs.Starts.{StartsFit}
 use Rattle.lw_blif.specs.declared.parsed.Parsed.{Parsed}
 use Rattle.lw_words.specs.Limits.{most_bytes}
@@ -17,6 +18,7 @@ use Rattle.lw_genlib.specs.Tables.{timing_of, truth_of_cells, library_patterns}
 use Rattle.lw_netlist.specs.Netlists.{NetlistParts, plain as plain_netlist, mapped_ports}
 use Rattle.lw_mapped.specs.declared.certificate.Certificate.{Certificate}
 use Rattle.lw_mapped.specs.declared.closing.Mapped.{Mapped}
+use Rattle.lw_mapped.specs.Readable.{IsNamed}
 use Rattle.lw_mapped.specs.Texts.{mapped_text}
 use Rattle.lw_map.specs.Options.{Options}
 use Rattle.lw_map.specs.Mapped.{LacksCover}
@@ -75,7 +77,8 @@ SaysModel name files model = (bytes : List ℕ) × (files name ≡ Some bytes) �
 -- its inputs, and with a certificate where one is asked for. The inputs of the network are the model's and then the
 -- outputs of the latches; its outputs are the roots: those of the model and then what the latches read. The netlist is
 -- of the library's cells, computes each root for all values of the inputs, and brings it, counted from the starts, at
--- the least time of any cover of any tree that the rules derive for it. The names of its nets differ.
+-- the least time of any cover of any tree that the rules derive for it. The model, the nets and the outputs have names
+-- of the format, which differ, the gates stand by depth, and the words of each latch are names.
 pub record IsMappingText (words : List (List ℕ)) (files : Files) (text : List ℕ) : Type 0 where
   pub asks : AsksForMapping words
   pub cells : List CellParts
@@ -92,7 +95,8 @@ pub record IsMappingText (words : List (List ℕ)) (files : Files) (text : List 
   pub mapping_is : IsMapping asks.options.mode asks.options.width (plain_network model.network) (ports_of model.network)
       (library_patterns cells) (timing_of cells model.starts) (truth_of_cells cells) (plain_netlist netlist)
       (mapped_ports netlist)
-  pub names : AreNetNames (plain_netlist netlist) netlist.names (mapped_ports netlist)
+  pub named : IsNamed netlist
+  pub latches : All IsReadableLatch model.frame.latches
 
 -- The first root of the network that no cover of any tree that the rules derive for it has.
 pub record LacksOutput (words : List (List ℕ)) (files : Files) (name : List ℕ) : Type 0 where

@@ -1,8 +1,9 @@
 -- What a text of a netlist of least area is that was written, and what an output is that has no cover.
-use Rattle.std.specs.Prelude.{◌≡◌, ℕ, List, Option, Some, None, Ok}
+use Rattle.std.specs.Prelude.{◌≡◌, ℕ, List, Option, Some, None, Ok, All}
 use Rattle.lw_fixed.specs.declared.micro.Micro.{Micro}
 use Rattle.lw_net.specs.Networks.{input_names, output_names}
 use Rattle.lw_frame.specs.Frames.{Fits}
+use Rattle.lw_frame.specs.Latches.{IsReadableLatch}
 use Rattle.lw_frame.specs.Starts.{StartsFit}
 use Rattle.lw_blif.specs.declared.parsed.Parsed.{Parsed}
 use Rattle.lw_genlib.specs.Cells.{CellParts}
@@ -29,8 +30,8 @@ pub record AsksForTrade (words : List (List ℕ)) : Type 0 where
 -- its outputs are the roots: those of the model and then what the latches read. The netlist computes each root for all
 -- values of the inputs. Each root arrives by the deadline, or at its least time where that is later, and has the least
 -- area, in which each use of a shared part counts, of all covers of all trees that the rules derive for it, of those
--- that are in time. The model, the nets and the outputs have names of the format, which differ, and the gates stand by
--- depth.
+-- that are in time. The model, the nets and the outputs have names of the format, which differ, the gates stand by
+-- depth, and the words of each latch are names.
 pub record IsTrade (words : List (List ℕ)) (files : Files) (text : List ℕ) : Type 0 where
   pub asks : AsksForTrade words
   pub cells : List CellParts
@@ -43,6 +44,7 @@ pub record IsTrade (words : List (List ℕ)) (files : Files) (text : List ℕ) :
   pub starts : StartsFit model.frame model.network.inputs model.starts
   pub traded : IsTradedNetlist asks.options cells model.network model.starts asks.deadline netlist
   pub named : IsNamed netlist
+  pub latches : All IsReadableLatch model.frame.latches
 
 -- The first root of the network that no cover of any tree that the rules derive for it has.
 pub record LacksTradedOutput (words : List (List ℕ)) (files : Files) (name : List ℕ) : Type 0 where

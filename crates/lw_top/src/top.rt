@@ -13,6 +13,9 @@ ghost use Rattle.lw_top.specs.Mappings.{AsksForMapping, AsksForCheck, AsksForTab
 ghost use Rattle.lw_top.specs.Mappings.{LacksOutput, IsCheckedMapping};
 ghost use Rattle.lw_top.specs.Tabled.{AreTables};
 ghost use Rattle.lw_top.specs.Traded.{AsksForTrade, IsTrade, LacksTradedOutput};
+ghost use Rattle.lw_top.specs.Translated.{AsksForVerilog, AsksForMapped, IsVerilogText};
+ghost use Rattle.lw_top.specs.Translated.{LacksVerilog, IsTextOfVerilog};
+ghost use Rattle.lw_verilog.specs.declared.reason.NoVerilog.{NoVerilog};
 ghost use Rattle.lw_top.specs.Outcome.{IsDone, IsCutShort, Meets, outcome_status};
 ghost use Rattle.lw_top.specs.Telling.{Told, outcome_line, refusal_line};
 ghost use Rattle.lw_top.specs.Complete.{IsComplete};
@@ -98,6 +101,28 @@ pub fn run<F: Shelf, O: Sink, E: Sink>(
         → ((name : List ℕ) × LacksTradedOutput (map string_bytes words.now.items)
         (bytes_of files) name × Told E.taken E.faults err.old err.new
         (refusal_line (command_of (map string_bytes words.now.items)) (Refusal.NoCover name))) }
+
+    // At 0, over known files and where a mapped netlist was asked for in Verilog, that text is the
+    // netlist's, which none of the tests refuses.
+    ensures verilog { (files : List File) → F.files shelf.old ≡ Some files →
+        AsksForVerilog (map string_bytes words.now.items) → result ≡ 0
+        → ((text : List ℕ) × IsVerilogText (map string_bytes words.now.items) (bytes_of files) text
+        × IsDone O.taken O.is_finished out.old out.new text) }
+
+    // At 11, over known files and where it was asked for, the first test that the netlist fails is
+    // reported.
+    ensures no_verilog { (files : List File) → F.files shelf.old ≡ Some files →
+        AsksForVerilog (map string_bytes words.now.items) → result ≡ 11
+        → ((why : NoVerilog) × LacksVerilog (map string_bytes words.now.items) (bytes_of files) why
+        × Told E.taken E.faults err.old err.new
+        (refusal_line (command_of (map string_bytes words.now.items)) (Refusal.NoVerilog why))) }
+
+    // At 0, over known files and where a netlist in Verilog was asked for as a mapped text, that
+    // text is the netlist's, without latches, arrivals and certificate.
+    ensures unverilog { (files : List File) → F.files shelf.old ≡ Some files →
+        AsksForMapped (map string_bytes words.now.items) → result ≡ 0
+        → ((text : List ℕ) × IsTextOfVerilog (map string_bytes words.now.items) (bytes_of files)
+        text × IsDone O.taken O.is_finished out.old out.new text) }
 
     // At 7 the stream failed, and a prefix of the text that 0 would have written went out.
     ensures cut_short { result ≡ 7 →

@@ -1,23 +1,31 @@
-use Rattle.std.proofs.Common.{◌≡◌, ◌+◌, length, sym, subst, arith}
+use Rattle.std.proofs.Common.{◌≡◌, ℕ, ◌+◌, ◌-◌, length, sym, subst, arith}
 use Rattle.lw_choices.specs.Tasks.{task}
 use Rattle.lw_choices.specs.Rows.{IsListing, plain_rows}
-use Rattle.lw_choices.proofs.Listing.{rows_push, none_listed, input_listed}
+use Rattle.lw_choices.proofs.Listing.{rows_push, input_listed}
 use Rattle.lw_choices.proofs.choices.list_inputs.Goals as goal
 
 pub loop-input-init : goal.loop-input-init
-loop-input-init c pats cells starts =
-    subst (λ rows. IsListing (task c.args.graph.now pats cells starts) 0 0 (plain_rows rows)) (sym c.new-rows.ensures.items) (none_listed (task c.args.graph.now pats cells starts))
+loop-input-init c = record {
+  low = omega (arith, c.inputs-input.ensures.inputs);
+  listing = λ pats cells starts is. subst (λ k. IsListing (task c.args.graph.now pats cells starts) k 0 (plain_rows c.args.rows.now.items)) (sym c.inputs-input.ensures.inputs) is;
+}
 
 pub loop-input-preserved : goal.loop-input-preserved
-loop-input-preserved c pats cells starts =
-    let s = task c.args.graph.now pats cells starts in
-    let xs = plain_rows c.loop-input.rows.items in
-    let next = input_listed s c.loop-input.input c.leaf.result.0 xs c.leaf.ensures.class c.leaf.ensures.within (c.loop-input.invariant pats cells starts) in
-    let e = rows_push c.loop-input.rows.items _ in
-    subst (λ rows. IsListing s (c.loop-input.input + 1) 0 (plain_rows rows)) (sym c.in_ok-push.ensures.items) (subst (IsListing s (c.loop-input.input + 1) 0) (sym e) next)
+loop-input-preserved c =
+    let input = c.loop-input.input - 1 in
+    let one : ◌≡◌ {A = ℕ} c.loop-input.input (input + 1) = omega (arith, c.loop-input-test.true) in
+    record {
+      low = omega (arith, c.loop-input.invariant.low);
+      listing = λ pats cells starts is.
+          let s = task c.args.graph.now pats cells starts in
+          let xs = plain_rows c.loop-input.rows.items in
+          let here = subst (λ k. IsListing s k 0 xs) one (c.loop-input.invariant.listing pats cells starts is) in
+          let next = input_listed s input 0 c.leaf.result.0 xs c.leaf.ensures.class c.leaf.ensures.within here in
+          let e = rows_push c.loop-input.rows.items _ in
+          subst (λ rows. IsListing s input 0 (plain_rows rows)) (sym c.in_ok-push.ensures.items) (subst (IsListing s input 0) (sym e) next);
+    }
 
 pub returns : goal.returns
-returns c pats cells starts =
-    let all = c.loop-input.invariant pats cells starts in
-    let n : c.loop-input.input ≡ length c.args.graph.now.leaves = omega (arith, c.loop-input-test.false, c.loop-input.auto.input-end, c.inputs-input-end.ensures.inputs) in
-    subst (λ k. IsListing (task c.args.graph.now pats cells starts) k 0 (plain_rows c.loop-input.rows.items)) n all
+returns c pats cells starts is =
+    let over : ◌≡◌ {A = ℕ} c.loop-input.input 0 = omega (arith, c.loop-input-test.false) in
+    subst (λ k. IsListing (task c.args.graph.now pats cells starts) k 0 (plain_rows c.loop-input.rows.items)) over (c.loop-input.invariant.listing pats cells starts is)

@@ -1,4 +1,4 @@
-use Rattle.std.proofs.Common.{List}
+use Rattle.std.proofs.Common.{◌≤◌, List, length}
 use Rattle.lw_laws.specs.Covers.{Pattern}
 use Rattle.lw_fixed.specs.declared.micro.Micro.{Micro}
 use Rattle.lw_genlib.specs.Cells.{CellParts}
@@ -7,4 +7,10 @@ use Rattle.lw_choices.specs.Rows.{IsListing, plain_rows}
 use Rattle.lw_choices.proofs.choices.list_inputs.Given as goal
 
 abbrev pub invariant-loop-input : goal.invariant-loop-input
-invariant-loop-input l = (pats : List Pattern) (cells : List CellParts) (starts : List Micro) → IsListing (task l.graph pats cells starts) l.input 0 (plain_rows l.rows.items)
+invariant-loop-input l = record {
+  low : l.input ≤ length l.graph.leaves;
+  listing : (pats : List Pattern) (cells : List CellParts) (starts : List Micro) → IsListing (task l.graph pats cells starts) (length l.graph.leaves) 0 (plain_rows l.initial.rows.items) → IsListing (task l.graph pats cells starts) l.input 0 (plain_rows l.rows.items);
+}
+
+abbrev pub decreases-loop-input : goal.decreases-loop-input
+decreases-loop-input l = l.input

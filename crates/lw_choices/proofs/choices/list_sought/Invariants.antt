@@ -1,11 +1,13 @@
-use Rattle.std.proofs.Common.{List, length}
-use Rattle.lw_fixed.specs.declared.micro.Micro.{Micro}
-use Rattle.lw_genlib.specs.Cells.{CellParts}
-use Rattle.lw_cost.specs.Least.{AreOfCells}
-use Rattle.lw_choices.specs.Areas.{area_cost}
-use Rattle.lw_choices.specs.Tasks.{task}
-use Rattle.lw_choices.specs.Rows.{IsListing, plain_rows}
+use Rattle.std.proofs.Common.{◌≤◌, List, length}
+use Rattle.lw_choices.specs.Rows.{AreListedFrom, IsUnderWay}
 use Rattle.lw_choices.proofs.choices.list_sought.Given as goal
 
 abbrev pub invariant-loop-class : goal.invariant-loop-class
-invariant-loop-class l = (cells : List CellParts) (starts : List Micro) → AreOfCells (area_cost cells).pin_counts l.pats → IsListing (task l.graph l.pats cells starts) (length l.graph.leaves) 0 (plain_rows l.initial.rows.items) → IsListing (task l.graph l.pats cells starts) (length l.graph.leaves) l.class (plain_rows l.rows.items)
+invariant-loop-class l = record {
+  low : l.class ≤ length l.graph.pairs;
+  way : IsUnderWay l.lib l.to;
+  listing : AreListedFrom l.graph l.pats l.lib l.class l.to.rows.items;
+}
+
+abbrev pub decreases-loop-class : goal.decreases-loop-class
+decreases-loop-class l = l.class

@@ -3,7 +3,7 @@ use Rattle.std.specs.List.{AllByRecursion}
 use Rattle.std.proofs.lemmas.List.{length-map}
 use Rattle.lw_pool.specs.declared.id.ClassId.{ClassId}
 use Rattle.lw_genlib.specs.Tables.{millionths}
-use Rattle.lw_choices.specs.declared.choices.Stand.{Stand}
+use Rattle.lw_choices.specs.declared.rows.Stand.{Stand}
 use Rattle.lw_choices.specs.Choices.Part.{gate}
 use Rattle.lw_choices.specs.Chains.{ChainState}
 use Rattle.lw_choices.specs.Choices.{IsPartFor}

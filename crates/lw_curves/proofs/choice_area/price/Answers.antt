@@ -2,7 +2,7 @@ use Rattle.std.proofs.Common.{◌<◌, ◌∙◌, Some, None, length, map, sym, 
 use Rattle.std.proofs.lemmas.List.{length-map}
 use Rattle.lw_pool.specs.declared.id.ClassId.{ClassId}
 use Rattle.lw_genlib.specs.Tables.{millionths}
-use Rattle.lw_choices.specs.declared.choices.Stand.{Stand}
+use Rattle.lw_choices.specs.declared.rows.Stand.{Stand}
 use Rattle.lw_choices.specs.Tasks.{task}
 use Rattle.lw_curves.specs.Pricing.{IsBestOfPins}
 use Rattle.lw_choices.specs.Choices.{IsOfLibrary, IsWithin}

@@ -16,7 +16,7 @@ use Rattle.lw_curves.proofs.finding.curves.Goals as goal
 pub settle_rows-requires-clause-rows : goal.settle_rows-requires-clause-rows
 settle_rows-requires-clause-rows c =
     let s = task c.args.graph.now c.args.pats.now c.args.lib.now c.args.starts.now in
-    let are = c.in_ok-rows.ensures.choices c.args.lib.now c.args.starts.now c.requires.of_cells in
+    let are = c.in_ok-rows.ensures.choices c.args.starts.now c.requires.of_cells in
     let rows = rows_for s c.classes-classes.ensures.kept c.requires.of_cells c.in_ok-rows.rows.items are in
     let these : AreRowsFor c.args.lib.now c.classes-classes.result c.in_ok-rows.rows.items = record {
       few = c.in_ok-rows.ensures.few;
@@ -26,12 +26,12 @@ settle_rows-requires-clause-rows c =
 
 pub settle_rows-requires-clause-listed : goal.settle_rows-requires-clause-listed
 settle_rows-requires-clause-listed c =
-    (c.args.graph.now, c.args.pats.now, subst (λ rows. AreListedChoices (task c.args.graph.now c.args.pats.now c.args.lib.now c.as_slice-starts.result.now) (plain_rows rows)) (sym c.deref.ensures.value) (c.in_ok-rows.ensures.choices c.args.lib.now c.as_slice-starts.result.now c.requires.of_cells))
+    (c.args.graph.now, c.args.pats.now, subst (λ rows. AreListedChoices (task c.args.graph.now c.args.pats.now c.args.lib.now c.as_slice-starts.result.now) (plain_rows rows)) (sym c.deref.ensures.value) (c.in_ok-rows.ensures.choices c.as_slice-starts.result.now c.requires.of_cells))
 
 pub returns-in_err-fronts-clause-why : goal.returns-in_err-fronts-clause-why
 returns-in_err-fronts-clause-why c =
     let s = task c.args.graph.now c.args.pats.now c.args.lib.now c.as_slice-starts.result.now in
-    let are = subst (λ rows. AreListedChoices s (plain_rows rows)) (sym c.deref.ensures.value) (c.in_ok-rows.ensures.choices c.args.lib.now c.as_slice-starts.result.now c.requires.of_cells) in
+    let are = subst (λ rows. AreListedChoices s (plain_rows rows)) (sym c.deref.ensures.value) (c.in_ok-rows.ensures.choices c.as_slice-starts.result.now c.requires.of_cells) in
     let stop = c.in_err-fronts.ensures.stop c.args.graph.now c.args.pats.now are in
     let why = why_stopped s c.classes-classes.ensures.kept (plain_rows c.deref.result.now) are (patterns_of_cells (area_cost c.args.lib.now).pin_counts c.args.pats.now c.requires.of_cells) c.args.horizon.0 c.in_err-fronts.field-0.0 stop in
     let why' = subst (λ starts. IsWhy (task c.args.graph.now c.args.pats.now c.args.lib.now starts) c.args.horizon.0 c.in_err-fronts.field-0.0) c.as_slice-starts.ensures why in
@@ -41,7 +41,7 @@ pub returns-clause-curves : goal.returns-clause-curves
 returns-clause-curves c =
     let s = task c.args.graph.now c.args.pats.now c.args.lib.now c.as_slice-starts.result.now in
     let n = c.classes-classes.result in
-    let are = subst (λ rows. AreListedChoices s (plain_rows rows)) (sym c.deref.ensures.value) (c.in_ok-rows.ensures.choices c.args.lib.now c.as_slice-starts.result.now c.requires.of_cells) in
+    let are = subst (λ rows. AreListedChoices s (plain_rows rows)) (sym c.deref.ensures.value) (c.in_ok-rows.ensures.choices c.as_slice-starts.result.now c.requires.of_cells) in
     let settled = c.in_ok-fronts.ensures.settled.settled c.args.graph.now c.args.pats.now are in
     let rows = c.in_ok-curves.ensures.rows in
     let shown = rows_shown c.in_ok-fronts.fronts.held n 0 rows.rows rows.are in
@@ -53,7 +53,7 @@ pub returns-clause-bound : goal.returns-clause-bound
 returns-clause-bound c =
     let s = task c.args.graph.now c.args.pats.now c.args.lib.now c.as_slice-starts.result.now in
     let n = c.classes-classes.result in
-    let are = subst (λ rows. AreListedChoices s (plain_rows rows)) (sym c.deref.ensures.value) (c.in_ok-rows.ensures.choices c.args.lib.now c.as_slice-starts.result.now c.requires.of_cells) in
+    let are = subst (λ rows. AreListedChoices s (plain_rows rows)) (sym c.deref.ensures.value) (c.in_ok-rows.ensures.choices c.as_slice-starts.result.now c.requires.of_cells) in
     let settled = c.in_ok-fronts.ensures.settled.settled c.args.graph.now c.args.pats.now are in
     let rows = c.in_ok-curves.ensures.rows in
     let shown = rows_shown c.in_ok-fronts.fronts.held n 0 rows.rows rows.are in
@@ -64,7 +64,7 @@ returns-clause-bound c =
 pub returns-clause-ways : goal.returns-clause-ways
 returns-clause-ways c =
     let s = task c.args.graph.now c.args.pats.now c.args.lib.now c.as_slice-starts.result.now in
-    let are = c.in_ok-rows.ensures.choices c.args.lib.now c.as_slice-starts.result.now c.requires.of_cells in
+    let are = c.in_ok-rows.ensures.choices c.as_slice-starts.result.now c.requires.of_cells in
     let are' = subst (λ rows. AreListedChoices s (plain_rows rows)) (sym c.deref.ensures.value) are in
     let backed = c.in_ok-fronts.ensures.settled.backed c.args.graph.now c.args.pats.now are' in
     let backed' = subst (λ rows. AreBacked s (plain_rows rows) c.in_ok-fronts.fronts.held) c.deref.ensures.value backed in

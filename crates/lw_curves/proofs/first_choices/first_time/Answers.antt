@@ -1,5 +1,5 @@
 use Rattle.std.proofs.Common.{◌∙◌, [], sym, ap, subst, true≢false}
-use Rattle.lw_choices.specs.declared.choices.Stand.{Stand}
+use Rattle.lw_choices.specs.declared.rows.Stand.{Stand}
 use Rattle.lw_choices.specs.Rows.{plain_part}
 use Rattle.lw_curves.specs.Settling.{Gives}
 use Rattle.lw_curves.proofs.Starts.{pinless_first, pins_first, numbers_none}

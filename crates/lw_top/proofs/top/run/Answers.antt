@@ -1,4 +1,5 @@
 use Rattle.std.proofs.Common.{sym, ◌∙◌, map, string_bytes}
+use Rattle.lw_io.specs.Files.{bytes_of}
 use Rattle.lw_top.specs.Words.{command_of}
 use Rattle.lw_top.specs.Answers.{IsAnswer}
 use Rattle.lw_top.specs.Telling.{Told}
@@ -6,6 +7,7 @@ use Rattle.lw_top.proofs.InRange.{asked_in_range}
 use Rattle.lw_top.proofs.Whole.{unread, done, cut, complete}
 use Rattle.lw_top.proofs.Headline.{done-maps, done-tables, done-trades, named-lacks, named-untraded}
 use Rattle.lw_top.proofs.Checked.{done_checked}
+use Rattle.lw_top.proofs.Translated.{answer_said, answer_back, named_unsaid}
 use Rattle.lw_top.proofs.Reached.{blamed}
 use Rattle.lw_top.proofs.Prefix.{told}
 use Rattle.lw_top.proofs.top.run.Goals as goal
@@ -78,3 +80,21 @@ returns-clause-no_trade g c = λ files is asks_for six.
     let asks = rw c.deref.ensures.value at c.command_of-command.ensures in
     let said = told _ _ _ _ _ c.tell.result c.tell.ensures in
     named-untraded (map string_bytes c.args.words.now.items) (g.F.Shelf.files c.args.shelf.now) (g.F.Shelf.faults c.args.shelf.now) (g.F.Shelf.faults c.serve-outcome.new.shelf) g.O.Sink.taken g.O.Sink.is_finished g.O.Sink.faults c.args.out.now c.serve-outcome.new.out (Told g.E.Sink.taken g.E.Sink.faults c.args.err.now c.tell.new.err) asks_for c.serve-outcome.result (rw asks at c.serve-outcome.ensures.serves.meets) (simp asks at said) files is (sym six ∙ c.status.ensures)
+
+pub returns-clause-verilog : goal.returns-clause-verilog
+returns-clause-verilog g c = λ files is asks_for zero.
+    let asks = rw c.deref.ensures.value at c.command_of-command.ensures in
+    let (text, known, out) = done (g.F.Shelf.files c.args.shelf.now) (g.F.Shelf.faults c.args.shelf.now) (g.F.Shelf.faults c.serve-outcome.new.shelf) g.O.Sink.taken g.O.Sink.is_finished g.O.Sink.faults c.args.out.now c.serve-outcome.new.out (IsAnswer (map string_bytes c.args.words.now.items)) c.serve-outcome.result (rw asks at c.serve-outcome.ensures.serves.meets) (sym c.status.ensures ∙ zero) in
+    (text, answer_said (map string_bytes c.args.words.now.items) (bytes_of files) asks_for text (known files is), out)
+
+pub returns-clause-no_verilog : goal.returns-clause-no_verilog
+returns-clause-no_verilog g c = λ files is asks_for eleven.
+    let asks = rw c.deref.ensures.value at c.command_of-command.ensures in
+    let said = told _ _ _ _ _ c.tell.result c.tell.ensures in
+    named_unsaid (map string_bytes c.args.words.now.items) (g.F.Shelf.files c.args.shelf.now) (g.F.Shelf.faults c.args.shelf.now) (g.F.Shelf.faults c.serve-outcome.new.shelf) g.O.Sink.taken g.O.Sink.is_finished g.O.Sink.faults c.args.out.now c.serve-outcome.new.out (Told g.E.Sink.taken g.E.Sink.faults c.args.err.now c.tell.new.err) asks_for c.serve-outcome.result (rw asks at c.serve-outcome.ensures.serves.meets) (simp asks at said) files is (sym eleven ∙ c.status.ensures)
+
+pub returns-clause-unverilog : goal.returns-clause-unverilog
+returns-clause-unverilog g c = λ files is asks_for zero.
+    let asks = rw c.deref.ensures.value at c.command_of-command.ensures in
+    let (text, known, out) = done (g.F.Shelf.files c.args.shelf.now) (g.F.Shelf.faults c.args.shelf.now) (g.F.Shelf.faults c.serve-outcome.new.shelf) g.O.Sink.taken g.O.Sink.is_finished g.O.Sink.faults c.args.out.now c.serve-outcome.new.out (IsAnswer (map string_bytes c.args.words.now.items)) c.serve-outcome.result (rw asks at c.serve-outcome.ensures.serves.meets) (sym c.status.ensures ∙ zero) in
+    (text, answer_back (map string_bytes c.args.words.now.items) (bytes_of files) asks_for text (known files is), out)
