@@ -46,6 +46,7 @@ const LIMITS: Limits = Limits {
     tries: 1000,
     conflicts: 300_000,
     steps: 4_000_000_000,
+    sums: true,
 };
 
 // Where no links are looked for.
