@@ -1,5 +1,5 @@
 -- What the ending of a run says of its status.
-use Rattle.std.proofs.Common.{◌≡◌, inl, inr, ℕ, suc, Bool, List, [], ◌∷◌, Option, Some, Result, Ok, Err, subst, arith}
+use Rattle.std.proofs.Common.{◌≡◌, inl, inr, ℕ, Bool, List, [], Option, Some, Result, Ok, Err, subst, arith}
 use Rattle.lw_io.specs.declared.file.File.{File}
 use Rattle.lw_io.specs.Files.{bytes_of}
 use Rattle.lw_files.specs.declared.fault.FileFault.{FileFault}
@@ -23,6 +23,7 @@ use Rattle.lw_area.specs.Promises.{IsRecoveryOf, LacksOutput}
 use Rattle.lw_area.specs.Refusals.{refusal_line, status_of}
 use Rattle.lw_area.specs.Sources.{ReadsFurther, ReadsOne, in_further, in_library, in_network}
 use Rattle.lw_area.specs.Words.{Asked, Task, WrongWord, mapping}
+use Rattle.lw_area.proofs.Further.{further_never}
 
 -- words ask for one thing
 pub same_asked : (asked : Asked) (task : Task) → ◌≡◌ {A = Result Asked WrongWord} (Ok asked) (Ok (mapping task)) → asked ≡ mapping task
@@ -47,15 +48,8 @@ one_maps : (names : List (List ℕ)) (place : ℕ) (word : List ℕ) (files : Fi
 one_maps names place word files f (inl (model, read, placed)) = placed
 one_maps names place word files f (inr (e, read, same)) = let is : e ≡ Unmapped f = cc in subst (λ (r : Refusal). in_further place (ReadsModel word) files (Err r)) is read
 
-pub further_map : (names : List (List ℕ)) (place : ℕ) (words : List (List ℕ)) (files : Files) (f : MapFault) → ReadsFurther names place words files (Err (Unmapped f)) → ⊥
-further_map names place [] files f no = no
-further_map names place (word ∷ words) files f (inl (one, read, inl (rest, more, no))) = no
-further_map names place (word ∷ words) files f (inl (one, read, inr (e, more, same))) =
-    let is : e ≡ Unmapped f = cc in
-    further_map names (suc place) words files f (subst (λ (r : Refusal). ReadsFurther names (suc place) words files (Err r)) is more)
-further_map names place (word ∷ words) files f (inr (e, read, same)) =
-    let is : e ≡ Unmapped f = cc in
-    one_maps names place word files f (subst (λ (r : Refusal). ReadsOne names place word files (Err r)) is read)
+further_map : (names : List (List ℕ)) (words : List (List ℕ)) (files : Files) (f : MapFault) → ReadsFurther names 0 words files (Err (Unmapped f)) → ⊥
+further_map names words files f = further_never names files (Unmapped f) (λ place word. one_maps names place word files f) 0 words
 
 -- an answer that names an output
 pub lacking : (task : Task) (files : Files) (name : List ℕ) → IsTaskAnswer task files (Err (Unmapped (map_fault.NoCover name))) → LacksOutput task files name
@@ -65,7 +59,7 @@ lacking task files name (inl (cells, one, inl (model, two, inl (further, three, 
 }
 lacking task files name (inl (cells, one, inl (model, two, inr (e, three, same)))) =
     let is : e ≡ Unmapped (map_fault.NoCover name) = cc in
-    absurd (further_map (input_names model.network) 0 task.more files (map_fault.NoCover name) (subst (λ (r : Refusal). ReadsFurther (input_names model.network) 0 task.more files (Err r)) is three))
+    absurd (further_map (input_names model.network) task.more files (map_fault.NoCover name) (subst (λ (r : Refusal). ReadsFurther (input_names model.network) 0 task.more files (Err r)) is three))
 lacking task files name (inl (cells, one, inr (e, two, same))) =
     let is : e ≡ Unmapped (map_fault.NoCover name) = cc in
     absurd (subst (λ (r : Refusal). in_network (ReadsModel task.network) files (Err r)) is two)

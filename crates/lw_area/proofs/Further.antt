@@ -1,10 +1,10 @@
 -- The files of further networks, one after another.
-use Rattle.std.proofs.Common.{◌≡◌, inl, inr, ℕ, zero, suc, ◌+◌, ◌<◌, ◌≤◌, All, List, [], ◌∷◌, ◌++◌, length, drop, map, Option, Some, Result, Ok, Err, slice_index_or, append_assoc, refl, ap, sym, ◌∙◌, subst, arith}
+use Rattle.std.proofs.Common.{◌≡◌, inl, inr, ℕ, zero, suc, ◌+◌, ◌<◌, ◌≤◌, All, List, [], ◌∷◌, ◌++◌, length, drop, Result, Ok, Err, slice_index_or, append_assoc, refl, ap, sym, ◌∙◌, subst, arith}
 use Rattle.std.proofs.lemmas.List.{append-nil, length-take-le}
 use Rattle.std.proofs.lemmas.List.Elements.{All-from_recursion, recursion_from_All}
 use Rattle.std.proofs.lemmas.Option.{slice_get_within}
 use Rattle.std.proofs.lemmas.Slice.Zip.{AllZip-long}
-use Rattle.std.specs.List.{AllByRecursion, AllZip}
+use Rattle.std.specs.List.{AllByRecursion}
 use Rattle.lw_files.specs.Steps.{Files}
 use Rattle.lw_laws.proofs.Lists.{all_append}
 use Rattle.lw_net.specs.Networks.{IsNetwork, NetworkParts, input_names}
@@ -83,3 +83,14 @@ places_fit names other places kept are =
 -- one more element
 pub all_more : {X : Type 0} (P : X → Type 0) (xs : List X) (x : X) → All P xs → P x → All P (xs ++ x ∷ [])
 all_more P xs x all one = All-from_recursion P (xs ++ x ∷ []) (all_append P xs (x ∷ []) (recursion_from_All P xs all) (one, tt))
+
+-- reading further networks refuses for nothing that reading one does not
+pub further_never : (names : List (List ℕ)) (files : Files) (e : Refusal) → ((place : ℕ) (word : List ℕ) → ReadsOne names place word files (Err e) → ⊥) → (place : ℕ) (words : List (List ℕ)) → ReadsFurther names place words files (Err e) → ⊥
+further_never names files e never place [] no = no
+further_never names files e never place (word ∷ words) (inl (one, read, inl (rest, more, no))) = no
+further_never names files e never place (word ∷ words) (inl (one, read, inr (d, more, same))) =
+    let is : d ≡ e = cc in
+    further_never names files e never (suc place) words (subst (λ (r : Refusal). ReadsFurther names (suc place) words files (Err r)) is more)
+further_never names files e never place (word ∷ words) (inr (d, read, same)) =
+    let is : d ≡ e = cc in
+    never place word (subst (λ (r : Refusal). ReadsOne names place word files (Err r)) is read)

@@ -1,19 +1,20 @@
 -- The verdict on a netlist over the networks of some files.
-use Rattle.std.proofs.Common.{◌≡◌, ℕ, ◌≤◌, List, Option, None, Result, Ok, Err, refl, subst, arith}
+use Rattle.std.proofs.Common.{◌≡◌, inl, inr, ℕ, ◌≤◌, List, Option, None, Result, Ok, Err, subst}
 use Rattle.lw_io.specs.declared.file.File.{File}
 use Rattle.lw_io.specs.Files.{bytes_of}
 use Rattle.lw_pool.specs.Numbers.{numbers}
 use Rattle.lw_laws.specs.Classes.{IsGraphOf}
 use Rattle.lw_laws.specs.MappedNetlists.{form_classes}
-use Rattle.lw_net.specs.Networks.{ports_of}
+use Rattle.lw_net.specs.Networks.{input_names, ports_of}
 use Rattle.lw_net.specs.Plain as network
 use Rattle.lw_genlib.specs.Cells.{CellParts}
 use Rattle.lw_blif.specs.declared.parsed.Parsed.{Parsed}
 use Rattle.lw_mapped.specs.declared.closing.Mapped.{Mapped}
+use Rattle.lw_check.specs.declared.verdict.Reason.{Reason}
 use Rattle.lw_check.specs.declared.verdict.Verdict.{Verdict}
 use Rattle.lw_files.specs.declared.fault.FileFault.{FileFault}
 use Rattle.lw_files.specs.Reading as file
-use Rattle.lw_files.specs.Sources.{ReadsMapped}
+use Rattle.lw_files.specs.Sources.{ReadsLibrary, ReadsMapped, ReadsModel}
 use Rattle.lw_files.specs.Steps.{Files, followed_by}
 use Rattle.lw_map.specs.declared.fault.MapFault.TheVariants as map_fault
 use Rattle.lw_map.specs.Options.{Options}
@@ -25,9 +26,11 @@ use Rattle.lw_area.specs.declared.refusal.Refusal.TheVariants as refusal
 use Rattle.lw_area.specs.declared.sources.Further as sources
 use Rattle.lw_area.specs.declared.sources.Sources.{Sources}
 use Rattle.lw_area.specs.Checks.{HasVerdictIn, IsJudged, IsVerdictOf, in_mapped}
-use Rattle.lw_area.specs.Sources.{ComesTo, HasReason, IsSourcesOf, Step}
+use Rattle.lw_area.specs.Outcomes.{IsRefusedFor}
+use Rattle.lw_area.specs.Sources.{ComesTo, HasReason, IsSourcesOf, ReadsFurther, ReadsOne, Step, in_further, in_library, in_network}
 use Rattle.lw_area.specs.Spaces.{IsJoinedOf, space_of}
-use Rattle.lw_area.specs.Words.{Settings, Task}
+use Rattle.lw_area.specs.Words.{Settings, Task, checking}
+use Rattle.lw_area.proofs.Further.{further_never}
 use Rattle.lw_area.proofs.Made.{space_over}
 use Rattle.lw_area.proofs.Steps.{comes_after, mapped_reason, refused_sources, stops, then_comes}
 
@@ -67,3 +70,32 @@ module _ (told : Option (List File)) (task : Task) (word : List ℕ) where
       verdict_comes r is =
           comes_after told task next before mid now s has le r
           (then_comes told (in_mapped (ReadsMapped word s.library)) (λ mapped. IsJudged task.settings s.library s.model s.further.items mapped) mid now now mapped r later read (is_judged r is))
+
+-- no file is refused because a netlist is none
+one_never : (names : List (List ℕ)) (reason : Reason) (files : Files) (place : ℕ) (word : List ℕ) → ReadsOne names place word files (Err (refusal.No reason)) → ⊥
+one_never names reason files place word (inl (model, read, placed)) = placed
+one_never names reason files place word (inr (e, read, same)) =
+    let is : e ≡ refusal.No reason = cc in
+    subst (λ (r : Refusal). in_further place (ReadsModel word) files (Err r)) is read
+
+module _ (task : Task) (word : List ℕ) where
+  never_no : (reason : Reason) (files : Files) → IsVerdictOf task word files (Err (refusal.No reason)) → ⊥
+  never_no reason files (inl (cells, one, inl (model, two, inl (further, three, inl (mapped, four, no))))) = no
+  never_no reason files (inl (cells, one, inl (model, two, inl (further, three, inr (e, four, same))))) =
+      let is : e ≡ refusal.No reason = cc in
+      subst (λ (r : Refusal). in_mapped (ReadsMapped word cells) files (Err r)) is four
+  never_no reason files (inl (cells, one, inl (model, two, inr (e, three, same)))) =
+      let names = input_names model.network in
+      let is : e ≡ refusal.No reason = cc in
+      further_never names files (refusal.No reason) (one_never names reason files) 0 task.more (subst (λ (r : Refusal). ReadsFurther names 0 task.more files (Err r)) is three)
+  never_no reason files (inl (cells, one, inr (e, two, same))) =
+      let is : e ≡ refusal.No reason = cc in
+      subst (λ (r : Refusal). in_network (ReadsModel task.network) files (Err r)) is two
+  never_no reason files (inr (e, one, same)) =
+      let is : e ≡ refusal.No reason = cc in
+      subst (λ (r : Refusal). in_library (ReadsLibrary task.library) files (Err r)) is one
+
+  -- a reason against a verdict is one to refuse
+  pub judged_refused : (told : Option (List File)) (before now : ℕ) (e : Refusal) → HasReason told before now (IsVerdictOf task word) e → IsRefusedFor told before now (checking task word) e
+  judged_refused told before now (refusal.No reason) r = λ files known. absurd (never_no reason (bytes_of files) (r files known))
+  judged_refused told before now other r = r

@@ -2,6 +2,7 @@ mod Options
 mod Steps
 mod Further
 mod Reading
+mod Counting
 mod Serving
 mod Endings
 mod Complete

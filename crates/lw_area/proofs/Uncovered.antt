@@ -1,5 +1,5 @@
 -- The answer to a task is that there is no cover exactly where some root has none.
-use Rattle.std.proofs.Common.{◌≡◌, ◌≢◌, ◌↔◌, inl, inr, ℕ, List, map, Some, Result, Ok, Err, Contains, slice_get, slice_index_or, refl, sym, ◌∙◌, subst, arith}
+use Rattle.std.proofs.Common.{◌≡◌, ◌≢◌, ◌↔◌, inl, inr, ℕ, zero, suc, List, [], ◌∷◌, map, Some, Result, Ok, Err, Contains, slice_get, slice_index_or, refl, sym, ◌∙◌, subst, arith}
 use Rattle.std.proofs.lemmas.Option.{get_or_from_slice_get, slice_get_within}
 use Rattle.lw_facts.proofs.Lists.{at_contained}
 use Rattle.lw_pool.specs.declared.id.NetId.{NetId}

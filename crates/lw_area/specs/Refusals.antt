@@ -1,5 +1,6 @@
 -- Why there is no netlist: the exit status and the text.
-use Rattle.std.specs.Prelude.{ℕ, List, [], ◌∷◌, ◌++◌, slice_index_or, if◌then◌else◌, codes, decimal}
+use Rattle.std.specs.Prelude.{ℕ, List, [], ◌++◌, slice_index_or, if◌then◌else◌, codes, decimal}
+use Rattle.std.specs.List.{flat_map}
 use Rattle.lw_files.specs.Faults.{fault_status}
 use Rattle.lw_map.specs.declared.fault.MapFault.{MapFault}
 use Rattle.lw_map.specs.declared.fault.MapFault.TheVariants.{Forms, Splits, NoCover, Points, Memory}
@@ -87,10 +88,12 @@ limit_text limits.Signals = codes " left out: more than 262144 signals\n"
 limit_text limits.Forms = codes " left out: more than 2097152 forms\n"
 limit_text limits.Splits = codes " left out: more than 16777216 splits\n"
 
+abbrev pub left_line : Task → Left → List ℕ
+left_line task left = codes "lwarea: " ++ (shown (word_at task left.place) ++ limit_text left.limit)
+
 -- a line for each network that is left out
 abbrev pub left_lines : Task → List Left → List ℕ
-left_lines task [] = []
-left_lines task (l ∷ left) = (codes "lwarea: " ++ (shown (word_at task l.place) ++ limit_text l.limit)) ++ left_lines task left
+left_lines task left = flat_map (left_line task) left
 
 abbrev pub counts_line : Notes → List ℕ
 counts_line notes =

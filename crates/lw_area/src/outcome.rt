@@ -141,10 +141,13 @@ fn judge<F: Shelf, O: Sink>(
         (F.faults shelf.new) O.taken O.is_finished O.faults out.old out.new
         (checking (plain_task task.entry) mapped.now) result }
 {
-    match verdict_on(alloc, task, mapped, shelf) {
-        Ok(Verdict::Yes) => write_page(b"yes\n", out),
-        Ok(Verdict::No(reason)) => Ending::Refused(Refusal::No(reason)),
-        Err(refusal) => Ending::Refused(refusal),
+    let verdict = match verdict_on(alloc, task, mapped, shelf) {
+        Ok(verdict) => verdict,
+        Err(refusal) => return Ending::Refused(refusal),
+    };
+    match verdict {
+        Verdict::Yes => write_page(b"yes\n", out),
+        Verdict::No(reason) => Ending::Refused(Refusal::No(reason)),
     }
 }
 

@@ -4,7 +4,7 @@ ghost use Rattle.lw_io.specs.Waitings.{IsTaken};
 ghost use Rattle.lw_io.specs.Writers.{Writes};
 ghost use Rattle.lw_area.specs.Outcomes.{ending_line};
 ghost use Rattle.lw_area.specs.Plain.{plain_asked, plain_task, plain_wrong};
-ghost use Rattle.lw_area.specs.Refusals.{counts_line, left_lines, limit_text, map_text, notes_lines, refusal_line, refusal_text, why_text, word_at, word_part, wrong_line};
+ghost use Rattle.lw_area.specs.Refusals.{counts_line, left_line, left_lines, limit_text, map_text, notes_lines, refusal_line, refusal_text, why_text, word_at, word_part, wrong_line};
 
 use crate::mapping::Notes;
 use crate::outcome::Ending;
@@ -153,14 +153,20 @@ fn limit_text(limit: Limit) -> &'static [u8]
     }
 }
 
+fn put_left_line<E: Sink>(out: &mut Writer<'_, E>, task: &Task<'_>, left: &Left)
+    ensures { Writes E.taken E.faults out.old out.new (left_line (plain_task task.now) left.now) }
+{
+    out.put(PREFIX);
+    put_shown(out, word_at(task, left.place));
+    out.put(limit_text(left.limit));
+}
+
 // The networks that were left out, a line for each.
 fn put_left<E: Sink>(out: &mut Writer<'_, E>, task: &Task<'_>, left: &[Left])
     ensures { Writes E.taken E.faults out.old out.new (left_lines (plain_task task.now) left.now) }
 {
     for one in left {
-        out.put(PREFIX);
-        put_shown(out, word_at(task, one.place as usize));
-        out.put(limit_text(one.limit));
+        put_left_line(out, task, one);
     }
 }
 
@@ -186,9 +192,11 @@ fn put_counts<E: Sink>(out: &mut Writer<'_, E>, notes: &Notes)
 fn put_notes<E: Sink>(out: &mut Writer<'_, E>, task: &Task<'_>, notes: &Notes)
     ensures { Writes E.taken E.faults out.old out.new (notes_lines (plain_task task.now) notes.now) }
 {
-    put_left(out, task, &notes.left);
     if task.settings.counted {
+        put_left(out, task, &notes.left);
         put_counts(out, notes);
+    } else {
+        put_left(out, task, &notes.left);
     }
 }
 
