@@ -1,8 +1,8 @@
 -- Options, one after another.
-use Rattle.std.proofs.Common.{◌≡◌, ◌<◌, ◌≤◌, ◌+◌, ◌-◌, ◌∙◌, ℕ, zero, suc, Bool, true, false, cond, List, [], ◌∷◌, Some, length, get_or, take, drop, map, refl, ap, sym, subst, arith}
-use Rattle.std.proofs.lemmas.List.{at_drop_more, take_all}
+use Rattle.std.proofs.Common.{◌≡◌, ◌<◌, ◌≤◌, ◌+◌, ◌-◌, ◌∙◌, ℕ, zero, suc, Bool, true, false, cond, List, [], ◌∷◌, length, get_or, take, drop, map, refl, ap, sym, subst, arith}
+use Rattle.std.proofs.lemmas.List.{take_all}
 use Rattle.lw_top.specs.Words.{is_file_word}
-use Rattle.lw_area.specs.Words.{Settings, files_behind, first_dashed, option_of, options_of, then_options}
+use Rattle.lw_area.specs.Words.{Settings, files_behind, option_of, options_of, then_options}
 
 split : {S : Type 0} (bytes : S → List ℕ) (rest : List S) (d : S) → 1 ≤ length rest → d ≡ get_or rest 0 d → map bytes rest ≡ bytes d ∷ map bytes (drop 1 rest)
 split bytes [] d le same = absurd (omega arith)
@@ -50,9 +50,3 @@ module _ {S : Type 0} (bytes : S → List ℕ) (rest : List S) (d : S) (some : 1
       by_count : (n : ℕ) → options_of n checked s (word ∷ more) ≡ files_behind checked s (word ∷ more)
       by_count zero = refl
       by_count (suc n) = ap (λ b. cond b (files_behind checked s (word ∷ more)) (then_options (options_of n checked) (option_of checked s word more))) is
-
--- the first word that is an option's, from a place on
-pub first_from : {S : Type 0} (bytes : S → List ℕ) (rest : List S) (k : ℕ) (d : S) → k < length rest → d ≡ get_or rest k d → (b : Bool) → is_file_word (bytes d) ≡ b → first_dashed (map bytes (drop k rest)) ≡ cond b (first_dashed (map bytes (drop (k + 1) rest))) (Some (bytes d))
-first_from {S} bytes rest k d lt same b is =
-    at_drop_more (λ (xs : List S). first_dashed (map bytes xs)) rest k d lt
-    ∙ (ap (λ (x : S). first_dashed (map bytes (x ∷ drop (k + 1) rest))) (sym same) ∙ ap (λ c. cond c (first_dashed (map bytes (drop (k + 1) rest))) (Some (bytes d))) is)

@@ -104,7 +104,7 @@ fn word_at<'a>(task: &Task<'a>, place: usize) -> &'a [u8]
     ensures { result.now ≡ word_at (plain_task task.now) place }
 {
     match task.more.get(place) {
-        Some(word) => word.as_bytes(),
+        Some(word) => word.as_str().as_bytes(),
         None => b"",
     }
 }

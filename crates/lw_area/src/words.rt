@@ -253,7 +253,7 @@ fn is_file_word(word: &str) -> bool
 fn first_dashed(words: &[String]) -> Option<&str>
     ensures { option_map (λ word. word.now) result ≡ first_dashed (map string_bytes words.now) }
 {
-    for word in words {
+    'words: for word in words {
         if !is_file_word(word.as_str()) {
             return Some(word.as_str());
         }
