@@ -177,10 +177,13 @@ impl Offer<'_> {
         ensures fault { IfErr result (IsChoiceFault (plain_options self.now.options)
             self.now.net.now) }
     {
+        let listed = self.first(alloc)?;
+        let taken = Vec::new(alloc);
+        let left = Vec::new(alloc);
         let mut chosen = Chosen {
-            listed: self.first(alloc)?,
-            taken: Vec::new(alloc),
-            left: Vec::new(alloc),
+            listed,
+            taken,
+            left,
         };
         for place in 0..self.others.len() {
             chosen = self.take_next(alloc, chosen, place)?;
@@ -205,10 +208,8 @@ impl Offer<'_> {
     {
         let all = vec![in alloc; true; self.others.len()]?;
         if let Listing::Within(listed) = self.list(alloc, &all)? {
-            return Ok(Taken {
-                listed,
-                left: Vec::new(alloc),
-            });
+            let left = Vec::new(alloc);
+            return Ok(Taken { listed, left });
         }
         self.take_each(alloc)
     }

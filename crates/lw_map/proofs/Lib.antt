@@ -10,8 +10,8 @@ pub mod Certified
 pub mod Mappings
 pub mod Once
 pub mod CertificateOnce
-mod Roots
-mod ChoiceLemmas
+pub mod Roots
+pub mod ChoiceLemmas
 mod GateCount
 pub mod Composed
 pub mod Leaves
