@@ -2,7 +2,8 @@
 ghost use Rattle.std.specs.Prelude.{◌≡◌, ◌≢◌, ◌≤◌, ◌<◌, ◌+◌, [], ℕ, length, All, IfOk, IfErr};
 ghost use Rattle.lw_map.specs.Faults.{IsChoiceFault};
 ghost use Rattle.lw_map.specs.Options.{plain_options};
-ghost use Rattle.lw_joined.specs.Unions.{AreChosen, FitsOther, IsListingOf, IsTaking, ListsTaken, ListsUnion, limit_fault};
+ghost use Rattle.lw_joined.specs.Unions.{AreChosen, FitsOther, IsListingOf, IsTaking};
+ghost use Rattle.lw_joined.specs.Unions.{ListsTaken, ListsUnion, limit_fault};
 ghost use Rattle.lw_joined.specs.declared.taking.Limit.TheVariants.{Signals};
 
 use crate::Other;
@@ -197,9 +198,9 @@ impl Offer<'_> {
         Ok(Taken { listed, left })
     }
 
-    /// The union of the first network and of all others, or, where it passes a limit, of those that
-    /// stay within the limits one after the other. `Forms` and `Splits` come exactly where the first
-    /// network passes these limits alone.
+    /// The union of the first network and of all others, or, where it passes a limit, of those
+    /// that stay within the limits one after the other. `Forms` and `Splits` come exactly where
+    /// the first network passes these limits alone.
     pub(crate) fn take(&self, alloc: Global) -> Result<Taken, MapFault>
         requires { All (FitsOther self.now.net.now) self.now.others.now }
         ensures taken { IfOk result (IsTaking self.now) }
