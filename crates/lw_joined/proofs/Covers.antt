@@ -1,5 +1,5 @@
 -- What the layers give one after another is the fastest cover of a network over the graph of several.
-use Rattle.std.proofs.Common.{ℕ, ◌+◌, ◌<◌, ◌≤◌, ◌≡◌, ◌⊎◌, inl, inr, List, [], ◌∷◌, map, length, Option, Some, None, option_map, slice_get, slice_index_or, refl, ap, sym, ◌∙◌, subst, arith}
+use Rattle.std.proofs.Common.{ℕ, ◌+◌, ◌<◌, ◌≤◌, ◌≡◌, ◌⊎◌, inl, inr, List, map, length, Option, Some, None, option_map, slice_get, slice_index_or, refl, ap, sym, ◌∙◌, subst, arith}
 use Rattle.std.specs.List.{IsDistinct}
 use Rattle.std.specs.Prelude.{All}
 use Rattle.std.specs.Str.{bytes_eq}
@@ -40,11 +40,12 @@ use Rattle.lw_extract.specs.declared.ports.Ports.{Ports}
 use Rattle.lw_extract.specs.declared.ports.Cover.{Cover as NetlistCover}
 use Rattle.lw_extract.specs.Choosing.{heights}
 use Rattle.lw_extract.specs.Covers.{AreFit, IsExtractedCover, IsFirstUncovered}
-use Rattle.lw_extract.proofs.PortLists.{port_name}
 use Rattle.lw_map.specs.declared.fault.MapFault.{MapFault}
 use Rattle.lw_map.specs.declared.fault.MapFault.TheVariants as map_fault
 use Rattle.lw_map.specs.Options.{Options, plain_options}
 use Rattle.lw_map.specs.Ports.{ArePortsOf}
+use Rattle.lw_map.proofs.Composed.{port_names}
+use Rattle.lw_map.proofs.GateCount.{few_gates}
 use Rattle.lw_map.proofs.PortNames.{few_outputs}
 use Rattle.lw_joined.specs.declared.choices.Joined.{Joined}
 use Rattle.lw_joined.specs.declared.covering.Covered.{Covered}
@@ -52,12 +53,7 @@ use Rattle.lw_joined.specs.Choices.{IsJoined}
 use Rattle.lw_joined.specs.Covering.{IsCoverFault, IsCoveredBy, IsFastestOver, IsFirstUncoveredOver, IsLackOver, IsUncoveredOver, options_of}
 use Rattle.lw_joined.specs.Joins.{joined_listing, own_form}
 use Rattle.lw_joined.proofs.FormCovers.{cover_is_netlist, start_is_least}
-use Rattle.lw_joined.proofs.GateCount.{few_gates}
 use Rattle.lw_joined.proofs.Joins.{join_is_sound, own_listed}
-
-port_names : (net : NetworkParts) (outputs : List NetId) → map (name_in net) outputs ≡ map port_name (map (output_port net) outputs)
-port_names net [] = refl
-port_names net (o ∷ outputs) = ap (λ (names : List (List ℕ)). name_in net o ∷ names) (port_names net outputs)
 
 -- what a network is mapped over
 module _ (net : NetworkParts) (j : Joined) (is : IsJoined net j) where

@@ -1,7 +1,6 @@
 pub mod Alone
 pub mod Covers
 pub mod FormCovers
-mod GateCount
 mod Held
 pub mod Joins
 pub mod LeftOut

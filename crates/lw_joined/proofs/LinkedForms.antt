@@ -37,24 +37,23 @@ link_from bases (f ∷ fs) (h ∷ hs) zero x at = (f, h, refl, refl, same_some a
 link_from bases (f ∷ fs) (h ∷ hs) (suc k) x at = link_from bases fs hs k x at
 
 module _ (o : Listing) (inputs : ℕ) (sound : IsSoundListing inputs o) where
+  abbrev base_at : ℕ → Form
+  base_at b = slice_index_or o.bases b true_form
+
+  base_has_number : (b : ℕ) → b < length o.bases → IsNumber o.bases (base_at b) (2 * b)
+  base_has_number b low =
+      let at : slice_get o.bases b ≡ Some (base_at b) = slice_get-get_or o.bases b true_form low in
+      let sign : sign_of (base_at b) ≡ 0 = sound.listing.signs b (base_at b) at in
+      (b, at ∙ ap Some (sym (base_self (base_at b) sign)), omega (arith, sign))
+
   form_has_number : (n : ℕ) → n / 2 < length o.bases → IsNumber o.bases (form_of o.bases n) n
   form_has_number n low = by (n % 2) refl (omega arith)
     where
-      base : Form
-      base = slice_index_or o.bases (n / 2) true_form
-
-      at : slice_get o.bases (n / 2) ≡ Some base
-      at = slice_get-get_or o.bases (n / 2) true_form low
-
-      plain_sign : sign_of base ≡ 0
-      plain_sign = sound.listing.signs (n / 2) base at
-
-      even : IsNumber o.bases base (2 * (n / 2))
-      even = (n / 2, at ∙ ap Some (sym (base_self base plain_sign)), omega (arith, plain_sign))
-
-      by : (r : ℕ) → n % 2 ≡ r → r < 2 → IsNumber o.bases (if r == 0 then base else complement base) n
-      by zero e lt = subst (IsNumber o.bases base) (let same : 2 * (n / 2) ≡ n = omega (arith, e) in same) even
-      by (suc zero) e lt = subst (IsNumber o.bases (complement base)) (flip_even (2 * (n / 2)) (n / 2) refl ∙ (let same : 2 * (n / 2) + 1 ≡ n = omega (arith, e) in same)) (number_complement o sound.listing base (2 * (n / 2)) even)
+      by : (r : ℕ) → n % 2 ≡ r → r < 2 → IsNumber o.bases (if r == 0 then base_at (n / 2) else complement (base_at (n / 2))) n
+      by zero e lt = subst (IsNumber o.bases (base_at (n / 2))) (let same : 2 * (n / 2) ≡ n = omega (arith, e) in same) (base_has_number (n / 2) low)
+      by (suc zero) e lt =
+          subst (IsNumber o.bases (complement (base_at (n / 2)))) (flip_even (2 * (n / 2)) (n / 2) refl ∙ (let same : 2 * (n / 2) + 1 ≡ n = omega (arith, e) in same))
+          (number_complement o sound.listing (base_at (n / 2)) (2 * (n / 2)) (base_has_number (n / 2) low))
       by (suc (suc r)) e lt = absurd (omega (arith, lt))
 
   number_is_own : (n : ℕ) → n / 2 < length o.bases → number o.bases (form_of o.bases n) ≡ n
@@ -109,7 +108,7 @@ module _ (o : Listing) (inputs : ℕ) (sound : IsSoundListing inputs o) where
             ∙ ap (λ (fs : List ℕ). record { inputs = n.inputs; bases = n.bases; sops = n.sops; facs = fs }) d))
 
 -- without links
-pub no_links : (old new : NumberedForms) → new ≡ old → IsLinked old new
+abbrev pub no_links : (old new : NumberedForms) → new ≡ old → IsLinked old new
 no_links old new is = record {
   inputs = ap (λ (f : NumberedForms). f.inputs) is;
   bases = ap (λ (f : NumberedForms). f.bases) is;

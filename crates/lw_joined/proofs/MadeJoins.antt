@@ -120,25 +120,25 @@ outputs_listed net count kept enough =
 -- What is made is a join.
 
 module _ (net : NetworkParts) (j : Joined) (new : NumberedForms) (kept : IsNetwork net) (also : IsNetwork j.union) (begins : BeginsWith (plain net) (plain j.union)) (within : IsWithinLimits (plain_options j.choices.options) j.union) (linked : IsLinked (forms_of j.choices.options.width (plain j.union)) new) (count : j.choices.forms ≡ length new.bases) (built : IsBuilt (law_mode j.choices.options.mode) new j.choices.graph) (roots : numbers j.choices.roots ≡ map (root_of new j.choices.graph) net.outputs) (in_range : All (λ (root : ClassId). root.0 < length j.choices.graph.pairs) j.choices.roots) where
-  width : ℕ
+  abbrev width : ℕ
   width = j.choices.options.width
 
-  mode : Mode
+  abbrev mode : Mode
   mode = law_mode j.choices.options.mode
 
-  g : Graph
+  abbrev g : Graph
   g = j.choices.graph
 
-  o : Listing
+  abbrev o : Listing
   o = listing_of width (plain j.union)
 
   sound : IsSoundListing j.union.inputs o
   sound = network_is_sound width (wide_options j.choices.options).least (plain j.union)
 
-  links : List Signal
+  abbrev links : List Signal
   links = links_of o.bases linked.lefts linked.rights
 
-  all : Listing
+  abbrev all : Listing
   all = joined_listing width (plain j.union) links
 
   hold : (x : Signal) → Contains links x → IsLinkOf o x
@@ -171,7 +171,7 @@ module _ (net : NetworkParts) (j : Joined) (new : NumberedForms) (kept : IsNetwo
   roots_in [] low = refl
   roots_in (s ∷ outputs) (low, rest) = ap₂ (λ (c : ℕ) (cs : List ℕ). c ∷ cs) (root_is s low) (roots_in outputs rest)
 
-  pub is_joined : IsJoined net j
+  abbrev pub is_joined : IsJoined net j
   is_joined = record {
     wide = wide_options j.choices.options;
     links = links_of o.bases linked.lefts linked.rights;

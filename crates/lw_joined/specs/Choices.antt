@@ -46,8 +46,8 @@ pub record IsJoinOf (net : NetworkParts) (options : code.Options) (linked : Bool
   pub told : j.left.items ≡ left
   pub unlinked : linked ≡ false → joined.links ≡ []
 
--- The union is that of the network and of the others that are taken, and those that are not are told with the limit that
--- they pass. Where no links are asked for, there are none.
+-- The union is that of the network and of the others that are taken, and those that are not are told with the limit
+-- that they pass. Where no links are asked for, there are none.
 pub record IsJoinedBy (net : NetworkParts) (others : List Other) (options : code.Options) (linked : Bool)
     (j : Joined) : Type 0 where
   pub joined : IsJoined net j

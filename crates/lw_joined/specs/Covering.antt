@@ -33,8 +33,8 @@ use Rattle.lw_joined.specs.Joins.{joined_listing, own_form}
 abbrev pub options_of : Joined → Options
 options_of j = plain_options j.choices.options
 
--- The netlist is the one that the network's forms are mapped to over the graph: of all covers of all trees that the rules and the links derive
--- for an output, it has one of the least time from the starts of the inputs on.
+-- The netlist is the one that the network's forms are mapped to over the graph: of all covers of all trees that the
+-- rules and the links derive for an output, it has one of the least time from the starts of the inputs on.
 pub record IsFastestOver (cells : List CellParts) (net : NetworkParts) (starts : List Micro) (j : Joined)
     (is : IsJoined net j) (c : Covered) : Type 0 where
   pub kept : IsNetlist c.cover.netlist

@@ -33,11 +33,14 @@ pub record IsJoin (width : ℕ) (net union : Network) (links : List Signal) : Ty
 
 -- a union has the values of the network that it begins with
 abbrev pub HasTheValues : Network → Network → Type 0
-HasTheValues net union = (x : ℕ → Bool) (values : List Bool) → AreValues union x values → AreValues net x (take (net.inputs + length net.nodes) values)
+HasTheValues net union =
+    (x : ℕ → Bool) (values : List Bool) → AreValues union x values
+    → AreValues net x (take (net.inputs + length net.nodes) values)
 
 -- the forms of the network's nets are the same in the union
 abbrev pub HasTheForms : ℕ → Network → Network → Type 0
-HasTheForms width net union = (s : ℕ) → s < net.inputs + length net.nodes → own_form width union s ≡ own_form width net s
+HasTheForms width net union =
+    (s : ℕ) → s < net.inputs + length net.nodes → own_form width union s ≡ own_form width net s
 
 -- with some pairs of forms a form is no earlier than with others
 abbrev pub IsNoEarlier : Mode → ℕ → List Signal → List Signal → List Pattern → Timing → Form → Type 0
@@ -47,4 +50,5 @@ IsNoEarlier mode width signals others pats timing f =
 -- both forms of a pair have one least time
 abbrev pub ArriveTogether : Mode → ℕ → List Signal → List Pattern → Timing → Signal → Type 0
 ArriveTogether mode width signals pats timing x =
-    (d e : ℕ) → HasLeastTime mode width signals pats timing x.sop d → HasLeastTime mode width signals pats timing x.fac e → d ≡ e
+    (d e : ℕ) → HasLeastTime mode width signals pats timing x.sop d
+    → HasLeastTime mode width signals pats timing x.fac e → d ≡ e

@@ -1,5 +1,6 @@
 -- The union of a network and of others over its inputs, and which others are taken.
-use Rattle.std.specs.Prelude.{ℕ, zero, suc, ◌+◌, ◌<◌, ◌≡◌, Bool, true, false, List, [], ◌∷◌, ◌++◌, length, take, replicate, Option, Some, None, slice_get}
+use Rattle.std.specs.Prelude.{ℕ, zero, suc, ◌+◌, ◌<◌, ◌≡◌, Bool, true, false, Option, Some, None}
+use Rattle.std.specs.Prelude.{List, [], ◌∷◌, ◌++◌, length, take, slice_get}
 use Rattle.lw_pool.specs.Numbers.{most_signals}
 use Rattle.lw_laws.specs.Mapped.{forms_of}
 use Rattle.lw_net.specs.Networks.{NetworkParts, plain}
@@ -89,9 +90,9 @@ abbrev pub union_in : Offer → List Bool → NetworkParts
 union_in o taken = united o.net.now o.others.now taken
 
 -- A union within the limits, how many nets there are behind each network, and its forms.
-pub record IsListedAs (options : code.Options) (net : NetworkParts) (ends : List ℕ) (l : Listed) : Type 0 where
+pub record IsListedAs (options : code.Options) (net : NetworkParts) (counts : List ℕ) (l : Listed) : Type 0 where
   pub union : l.union.net ≡ net
-  pub ends : l.union.ends.items ≡ ends
+  pub ends : l.union.ends.items ≡ counts
   pub within : IsWithinLimits (plain_options options) net
   pub forms : l.forms ≡ forms_of options.width (plain net)
 

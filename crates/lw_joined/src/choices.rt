@@ -161,9 +161,9 @@ fn graph_of(
 
 /// The choices of decomposition that a network and further ones over its inputs leave to the first.
 ///
-/// Each further network is taken as long as all together are within the limits. `Forms` and `Splits`
-/// come exactly where the first network passes these alone. Where links are asked for, listed forms
-/// that are found to have one value are linked.
+/// Each further network is taken as long as all together are within the limits. `Forms` and
+/// `Splits` come exactly where the first network passes these alone. Where links are asked for,
+/// listed forms that are found to have one value are linked.
 pub fn join(
     alloc: Global,
     net: &Network,

@@ -9,7 +9,8 @@ ghost use Rattle.lw_laws.specs.Networks.{IsInOrder, Network};
 ghost use Rattle.lw_laws.specs.SignalValues.{AreNetForms, IsSoundListing};
 ghost use Rattle.lw_laws.specs.Signals.{Signal, signals_of};
 ghost use Rattle.lw_net.specs.Networks.{IsNetwork, NetworkParts, plain};
-ghost use Rattle.lw_joined.specs.Joins.{ArriveTogether, BeginsWith, HasTheForms, HasTheValues, IsJoin, IsNoEarlier, joined_listing, own_form};
+ghost use Rattle.lw_joined.specs.Joins.{ArriveTogether, BeginsWith, HasTheForms, HasTheValues};
+ghost use Rattle.lw_joined.specs.Joins.{IsJoin, IsNoEarlier, joined_listing, own_form};
 ghost use Rattle.lw_joined.specs.Renaming.{Holds, net_at, starting};
 ghost use Rattle.lw_joined.specs.Unions.{united};
 
@@ -55,7 +56,8 @@ pub fn linked_forms_are_no_later_than_alone()
         (links : List Signal) (pats : List Pattern) (timing : Timing) (x : Signal) (s d e : ℕ) →
         IsInOrder net → Holds union net places first →
         ArePatterns (map length timing.delays) pats → Contains links x →
-        s < net.inputs + length net.nodes → x.fac ≡ own_form width union (net_at net places first s) →
+        s < net.inputs + length net.nodes →
+        x.fac ≡ own_form width union (net_at net places first s) →
         HasLeastTime mode width (signals_of width net) pats (starting places timing)
         (own_form width net s) d →
         HasLeastTime mode width (signals_of width union ++ links) pats timing x.sop e → e ≤ d }

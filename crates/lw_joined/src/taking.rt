@@ -2,7 +2,8 @@
 ghost use Rattle.std.specs.Prelude.{◌≡◌, ◌≢◌, ◌≤◌, ◌<◌, ◌+◌, [], ℕ, length, All, IfOk, IfErr};
 ghost use Rattle.lw_map.specs.Faults.{IsChoiceFault};
 ghost use Rattle.lw_map.specs.Options.{plain_options};
-ghost use Rattle.lw_joined.specs.Unions.{AreChosen, FitsOther, IsListingOf, IsTaking, ListsTaken, ListsUnion, limit_fault};
+ghost use Rattle.lw_joined.specs.Unions.{AreChosen, FitsOther, IsListingOf, IsTaking};
+ghost use Rattle.lw_joined.specs.Unions.{ListsTaken, ListsUnion, limit_fault};
 ghost use Rattle.lw_joined.specs.declared.taking.Limit.TheVariants.{Signals};
 
 use crate::Other;
@@ -177,10 +178,13 @@ impl Offer<'_> {
         ensures fault { IfErr result (IsChoiceFault (plain_options self.now.options)
             self.now.net.now) }
     {
+        let listed = self.first(alloc)?;
+        let taken = Vec::new(alloc);
+        let left = Vec::new(alloc);
         let mut chosen = Chosen {
-            listed: self.first(alloc)?,
-            taken: Vec::new(alloc),
-            left: Vec::new(alloc),
+            listed,
+            taken,
+            left,
         };
         for place in 0..self.others.len() {
             chosen = self.take_next(alloc, chosen, place)?;
@@ -194,9 +198,9 @@ impl Offer<'_> {
         Ok(Taken { listed, left })
     }
 
-    /// The union of the first network and of all others, or, where it passes a limit, of those that
-    /// stay within the limits one after the other. `Forms` and `Splits` come exactly where the first
-    /// network passes these limits alone.
+    /// The union of the first network and of all others, or, where it passes a limit, of those
+    /// that stay within the limits one after the other. `Forms` and `Splits` come exactly where
+    /// the first network passes these limits alone.
     pub(crate) fn take(&self, alloc: Global) -> Result<Taken, MapFault>
         requires { All (FitsOther self.now.net.now) self.now.others.now }
         ensures taken { IfOk result (IsTaking self.now) }
@@ -205,10 +209,8 @@ impl Offer<'_> {
     {
         let all = vec![in alloc; true; self.others.len()]?;
         if let Listing::Within(listed) = self.list(alloc, &all)? {
-            return Ok(Taken {
-                listed,
-                left: Vec::new(alloc),
-            });
+            let left = Vec::new(alloc);
+            return Ok(Taken { listed, left });
         }
         self.take_each(alloc)
     }

@@ -2,7 +2,8 @@
 ghost use Rattle.std.specs.Prelude.{◌≡◌, ◌≤◌, ◌++◌, ◌∷◌, [], ℕ, List, length, All, IfOk, IfSome};
 ghost use Rattle.lw_net.specs.Networks.{NetworkParts};
 ghost use Rattle.lw_net.specs.Unions.{ArePlacesIn, joined_to};
-ghost use Rattle.lw_joined.specs.Unions.{FitsOther, IsUnion, IsUnionOf, end_of, first_of, own_places, with_taken};
+ghost use Rattle.lw_joined.specs.Unions.{FitsOther, IsUnion, IsUnionOf};
+ghost use Rattle.lw_joined.specs.Unions.{end_of, first_of, own_places, with_taken};
 
 use lw_net::Network;
 use std::alloc::{AllocError, Global};

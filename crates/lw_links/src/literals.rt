@@ -1,5 +1,6 @@
 // The literals of listed forms.
-ghost use Rattle.std.specs.Prelude.{◌≡◌, ◌<◌, ◌≤◌, ◌/◌, ◌-◌, ◌^◌, length, Some, slice_get, IfOk, IfSome};
+ghost use Rattle.std.specs.Prelude.{◌≡◌, ◌<◌, ◌≤◌, ◌/◌, ◌-◌, ◌^◌, length, Some, slice_get};
+ghost use Rattle.std.specs.Prelude.{IfOk, IfSome};
 ghost use Rattle.lw_laws.specs.NumberedForms.Base.{base_and};
 ghost use Rattle.lw_sweep.specs.Sweeps.{IsExtended, inputs_alone};
 ghost use Rattle.lw_links.specs.Linked.{AreHalves, HasBaseValue, StandFor, signed_literal};

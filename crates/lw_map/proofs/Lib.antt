@@ -10,9 +10,9 @@ pub mod Certified
 pub mod Mappings
 pub mod Once
 pub mod CertificateOnce
-mod Roots
-mod ChoiceLemmas
-mod GateCount
+pub mod Roots
+pub mod ChoiceLemmas
+pub mod GateCount
 pub mod Composed
 pub mod Leaves
 mod Traded

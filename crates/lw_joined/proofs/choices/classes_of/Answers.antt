@@ -1,4 +1,4 @@
-use Rattle.std.proofs.Common.{◌<◌, arith, length}
+use Rattle.std.proofs.Common.{◌/◌, ◌<◌, arith, length}
 use Rattle.std.proofs.lemmas.List.Elements.{All-push}
 use Rattle.lw_pool.specs.declared.id.ClassId.{ClassId}
 use Rattle.lw_map.proofs.Roots.{roots_more, sop_listed_at}
@@ -6,7 +6,7 @@ use Rattle.lw_joined.proofs.choices.classes_of.Goals as goal
 
 pub class_of-requires : goal.class_of-requires
 class_of-requires c =
-    let low = sop_listed_at c.args.forms.now _ c.sop.result.0 c.nets.ensures.kept c.sop.ensures in
+    let low : c.sop.result.0 / 2 < length c.args.forms.now.bases = sop_listed_at c.args.forms.now _ c.sop.result.0 c.nets.ensures.kept c.sop.ensures in
     omega arith
 
 pub loop-net-preserved : goal.loop-net-preserved
