@@ -160,11 +160,15 @@ abbrev pub files_unless : Settings → List ℕ → List ℕ → List (List ℕ)
 files_unless s library network more None = Ok (record { settings = s; library = library; network = network; more = more })
 files_unless s library network more (Some word) = refused word Late
 
+-- the network and further ones, behind the library
+abbrev pub networks_of : Settings → List ℕ → List (List ℕ) → Result Task WrongWord
+networks_of s library [] = refused [] Missing
+networks_of s library (network ∷ more) = files_unless s library network more (first_dashed (network ∷ more))
+
 -- the library, the network, and further networks, behind all options
 abbrev pub files_of : Settings → List (List ℕ) → Result Task WrongWord
 files_of s [] = refused [] Missing
-files_of s (library ∷ []) = refused [] Missing
-files_of s (library ∷ network ∷ more) = files_unless s library network more (first_dashed (network ∷ more))
+files_of s (library ∷ words) = networks_of s library words
 
 abbrev pub mapping_of : Result Task WrongWord → Result Asked WrongWord
 mapping_of (Ok task) = Ok (mapping task)

@@ -1,7 +1,7 @@
 // The words of the command line.
 ghost use Rattle.std.specs.Prelude.{◌≡◌, ◌<◌, ◌≤◌, ◌+◌, map, string_bytes, option_map, length};
 ghost use Rattle.lw_top.specs.Words.{width_of, is_file_word};
-ghost use Rattle.lw_area.specs.Words.{effort_of, is_digit, percent_of, deadline_of, no_option, set_by, has_value, set_or_missing, option_of, is_each, first_dashed, files_of, task_of, checked_of, files_behind, options_of, only_word, asked_of};
+ghost use Rattle.lw_area.specs.Words.{effort_of, is_digit, percent_of, deadline_of, no_option, set_by, has_value, set_or_missing, option_of, is_each, first_dashed, networks_of, files_of, task_of, checked_of, files_behind, options_of, only_word, checking_first, asked_of};
 ghost use Rattle.lw_area.specs.Plain.{plain_settings, plain_task, plain_wrong, set_result, begun_result, task_result, asked_result};
 
 use lw_assoc::Mode;
@@ -261,22 +261,37 @@ fn first_dashed(words: &[String]) -> Option<&str>
     None
 }
 
+// The network and further ones, behind the library.
+fn networks_of<'a>(
+    settings: Settings,
+    library: &'a str,
+    words: &'a [String],
+) -> Result<Task<'a>, WrongWord<'a>>
+    ensures { task_result result ≡ networks_of (plain_settings settings) library.now
+        (map string_bytes words.now) }
+{
+    let [network, more @ ..] = words else {
+        return Err(refuse("", Wrong::Missing));
+    };
+    match first_dashed(words) {
+        Some(word) => Err(refuse(word, Wrong::Late)),
+        None => Ok(Task {
+            settings,
+            library,
+            network: network.as_str(),
+            more,
+        }),
+    }
+}
+
 // The library, the network and further ones. The library's word is no option, as options end there.
 fn files_of<'a>(settings: Settings, words: &'a [String]) -> Result<Task<'a>, WrongWord<'a>>
     ensures { task_result result ≡ files_of (plain_settings settings)
         (map string_bytes words.now) }
 {
-    let [library, network, more @ ..] = words else {
-        return Err(refuse("", Wrong::Missing));
-    };
-    match first_dashed(&words[1..]) {
-        Some(word) => Err(refuse(word, Wrong::Late)),
-        None => Ok(Task {
-            settings,
-            library: library.as_str(),
-            network: network.as_str(),
-            more,
-        }),
+    match words {
+        [library, networks @ ..] => networks_of(settings, library.as_str(), networks),
+        [] => Err(refuse("", Wrong::Missing)),
     }
 }
 
@@ -369,6 +384,16 @@ fn is_only(words: &[String], wanted: &str) -> bool
     }
 }
 
+// Options and files, behind `-k` where a netlist is checked.
+fn checking_first(words: &[String]) -> Result<Asked<'_>, WrongWord<'_>>
+    ensures { asked_result result ≡ checking_first (map string_bytes words.now) }
+{
+    match words {
+        [first, rest @ ..] if first.as_str() == "-k" => options_of(rest, true),
+        _ => options_of(words, false),
+    }
+}
+
 /// What the words ask for.
 pub fn asked_of(words: &[String]) -> Result<Asked<'_>, WrongWord<'_>>
     ensures { asked_result result ≡ asked_of (map string_bytes words.now) }
@@ -379,8 +404,5 @@ pub fn asked_of(words: &[String]) -> Result<Asked<'_>, WrongWord<'_>>
     if is_only(words, "-v") {
         return Ok(Asked::Version);
     }
-    match words {
-        [first, rest @ ..] if first.as_str() == "-k" => options_of(rest, true),
-        _ => options_of(words, false),
-    }
+    checking_first(words)
 }
