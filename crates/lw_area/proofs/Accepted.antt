@@ -127,5 +127,5 @@ written_accepted words checks task files others text c r =
       checking task.settings.options c.library c.network c.mapped,
       ap asked_for c.form,
       by_certificate task files text r words checks others c r.is.certificate
-      (subst (λ (b : Bool). IsAskedFor r.read.cells r.read.model.starts r.is.recovered.matches.graph r.is.recovered.matches.gates b r.is.certificate) c.certified r.is.asked) r.is.written,
+          (subst (λ (b : Bool). IsAskedFor r.read.cells r.read.model.starts r.is.recovered.matches.graph r.is.recovered.matches.gates b r.is.certificate) c.certified r.is.asked) r.is.written,
     )

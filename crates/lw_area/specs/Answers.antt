@@ -38,13 +38,15 @@ pub record LacksCoverIn (settings : Settings) (cells : List CellParts) (model : 
   pub first : (i : ℕ) (other : NetId) → i < place → slice_get model.network.outputs i ≡ Some other
       → IsUncoveredIn settings cells model.network space model.starts other → ⊥
 
--- Too many forms or splits of the network alone, or the first output without a cover. Running out of memory needs no reason.
+-- Too many forms or splits of the network alone, or the first output without a cover. Running out of memory needs no
+-- reason.
 abbrev pub IsFaultOf : Settings → List CellParts → Parsed → List Further → MapFault → Type 0
 IsFaultOf settings cells model further (NoCover name) = LacksCoverIn settings cells model further name
 IsFaultOf settings cells model further Memory = ⊤
 IsFaultOf settings cells model further other = IsChoiceFault settings.options model.network other
 
--- What a library and networks come to: a text of a netlist with little area, or why there is none. Several netlists may be such.
+-- What a library and networks come to: a text of a netlist with little area, or why there is none. Several netlists may
+-- be such.
 abbrev pub Recovers : Settings → List CellParts → Parsed → List Further → Step (List ℕ)
 Recovers settings cells model further files (Ok text) = IsRecoveredText settings cells model further text
 Recovers settings cells model further files (Err (Unmapped fault)) = IsFaultOf settings cells model further fault

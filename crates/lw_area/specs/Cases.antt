@@ -58,7 +58,10 @@ pub record IsFirst (k : Case) (cover : Cover) : Type 0 where
 
 -- when its outputs arrive
 abbrev pub AreFirstTimes : Case → Cover → List Micro → Type 0
-AreFirstTimes k cover times = (arrivals : List ℕ) → AreArrivals (timing_of k.library.now k.model.now.starts) (plain cover.netlist) arrivals → map millionths times ≡ map (λ (port : PlainPort). slice_index_or arrivals port.net 0) (mapped_ports cover.netlist).outputs
+AreFirstTimes k cover times =
+    (arrivals : List ℕ) → AreArrivals (timing_of k.library.now k.model.now.starts) (plain cover.netlist) arrivals
+    → map millionths times ≡ map (λ (port : PlainPort). slice_index_or arrivals port.net 0)
+    (mapped_ports cover.netlist).outputs
 
 -- a netlist with little area, over the graph and with the classes at hand
 abbrev pub IsChosenIn : (k : Case) → IsJoined k.model.now.network k.joined.now → Cover → Type 0

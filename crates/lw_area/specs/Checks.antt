@@ -43,12 +43,16 @@ in_mapped step files (Err other) = ⊥
 
 abbrev pub IsJudged : Settings → List CellParts → Parsed → List Further → Mapped → Step Verdict
 IsJudged settings cells model further mapped files (Ok v) = HasVerdictIn settings cells model further mapped v
-IsJudged settings cells model further mapped files (Err (refusal.Unmapped fault)) = IsChoiceFault settings.options model.network fault
+IsJudged settings cells model further mapped files (Err (refusal.Unmapped fault)) =
+    IsChoiceFault settings.options model.network fault
 IsJudged settings cells model further mapped files (Err other) = ⊥
 
 -- The files are read, the netlist's last, and the first step that refuses decides.
 abbrev pub IsVerdictOf : Task → List ℕ → Step Verdict
-IsVerdictOf task word = ReadsAll task (λ cells model further. followed_by (in_mapped (ReadsMapped word cells)) (λ mapped. IsJudged task.settings cells model further mapped))
+IsVerdictOf task word =
+    ReadsAll task (λ cells model further. followed_by (in_mapped (ReadsMapped word cells))
+    (λ mapped. IsJudged task.settings cells model further mapped))
 
-abbrev pub Judges : {F : Type 0} → (F → Option (List File)) → (F → ℕ) → F → F → Task → List ℕ → Result Verdict Refusal → Type 0
+abbrev pub Judges : {F : Type 0} → (F → Option (List File)) → (F → ℕ) → F → F → Task → List ℕ → Result Verdict Refusal
+    → Type 0
 Judges told faults old new task word result = Reads told faults old new (IsVerdictOf task word) result

@@ -73,7 +73,8 @@ ComesTo told before now task (Ok a) = Known told (IsTaskAnswer task) (Ok (answer
 ComesTo told before now task (Err refused) = HasReason told before now (IsTaskAnswer task) refused
 
 -- A task was answered or refused, and the files stay.
-pub record Responds {F : Type 0} (told : F → Option (List File)) (faults : F → ℕ) (old new : F) (task : Task) (result : Result Answer Refusal) : Type 0 where
+pub record Responds {F : Type 0} (told : F → Option (List File)) (faults : F → ℕ) (old new : F) (task : Task)
+    (result : Result Answer Refusal) : Type 0 where
   pub files : told new ≡ told old
   pub later : faults old ≤ faults new
   pub comes : ComesTo (told old) (faults old) (faults new) task result
@@ -100,13 +101,16 @@ abbrev pub IsTextFor : Option (List File) → Asked → List ℕ → Type 0
 IsTextFor told usage text = text ≡ usage_text
 IsTextFor told version text = text ≡ version_text
 IsTextFor told (mapping task) text = Known told (IsTaskAnswer task) (Ok text)
-IsTextFor told (checking task mapped) text = Known told (IsVerdictOf task mapped) (Ok verdict.Yes) × (text ≡ codes "yes\n")
+IsTextFor told (checking task mapped) text =
+    Known told (IsVerdictOf task mapped) (Ok verdict.Yes) × (text ≡ codes "yes\n")
 
 -- there is a reason to refuse a task; a page is not refused
 abbrev pub IsRefusedFor : Option (List File) → ℕ → ℕ → Asked → Refusal → Type 0
 IsRefusedFor told before now (mapping task) refused = HasReason told before now (IsTaskAnswer task) refused
-IsRefusedFor told before now (checking task mapped) (refusal.No reason) = Known told (IsVerdictOf task mapped) (Ok (verdict.No reason))
-IsRefusedFor told before now (checking task mapped) refused = HasReason told before now (IsVerdictOf task mapped) refused
+IsRefusedFor told before now (checking task mapped) (refusal.No reason) =
+    Known told (IsVerdictOf task mapped) (Ok (verdict.No reason))
+IsRefusedFor told before now (checking task mapped) refused =
+    HasReason told before now (IsVerdictOf task mapped) refused
 IsRefusedFor told before now page refused = ⊥
 
 -- The whole text of what was asked for went out, with notes where it is a netlist, or the stream failed behind a prefix
@@ -125,7 +129,8 @@ Meets told before now taken is_finished faults old new asked (Refused refused) =
     IsRefusedFor told before now asked refused × (new ≡ old)
 
 -- What was asked for was served; the files stay, and no count of faults falls.
-pub record Serves {O : Type 0} (told told' : Option (List File)) (before now : ℕ) (taken : O → Option (List ℕ)) (is_finished : O → Bool) (faults : O → ℕ) (old new : O) (asked : Asked) (ending : Ending) : Type 0 where
+pub record Serves {O : Type 0} (told told' : Option (List File)) (before now : ℕ) (taken : O → Option (List ℕ))
+    (is_finished : O → Bool) (faults : O → ℕ) (old new : O) (asked : Asked) (ending : Ending) : Type 0 where
   pub meets : Meets told before now taken is_finished faults old new asked ending
   pub files : told' ≡ told
   pub read : before ≤ now
@@ -148,18 +153,24 @@ ending_line (checking task mapped) (Refused refused) = refusal_line task mapped 
 ending_line page (Refused refused) = []
 
 -- Some ending has this status: it is what happened, and its line went to err, or a prefix where err failed.
-pub record EndsAs {O E : Type 0} (told : Option (List File)) (before now : ℕ) (taken : O → Option (List ℕ)) (is_finished : O → Bool) (faults : O → ℕ) (old new : O) (err_taken : E → Option (List ℕ)) (err_faults : E → ℕ) (err_old err_new : E) (asked : Asked) (status : ℕ) : Type 0 where
+pub record EndsAs {O E : Type 0} (told : Option (List File)) (before now : ℕ) (taken : O → Option (List ℕ))
+    (is_finished : O → Bool) (faults : O → ℕ) (old new : O) (err_taken : E → Option (List ℕ)) (err_faults : E → ℕ)
+    (err_old err_new : E) (asked : Asked) (status : ℕ) : Type 0 where
   pub ending : Ending
   pub is : status ≡ ending_status ending
   pub meets : Meets told before now taken is_finished faults old new asked ending
   pub line : Told err_taken err_faults err_old err_new (ending_line asked ending)
 
 -- Words that are wrong are told, and nothing else happens.
-pub record AreRefused {O E : Type 0} (old new : O) (err_taken : E → Option (List ℕ)) (err_faults : E → ℕ) (err_old err_new : E) (wrong : WrongWord) (status : ℕ) : Type 0 where
+pub record AreRefused {O E : Type 0} (old new : O) (err_taken : E → Option (List ℕ)) (err_faults : E → ℕ)
+    (err_old err_new : E) (wrong : WrongWord) (status : ℕ) : Type 0 where
   pub is : status ≡ 1
   pub untouched : new ≡ old
   pub line : Told err_taken err_faults err_old err_new (wrong_line wrong)
 
-abbrev pub IsTold : {O E : Type 0} → Option (List File) → ℕ → ℕ → (O → Option (List ℕ)) → (O → Bool) → (O → ℕ) → O → O → (E → Option (List ℕ)) → (E → ℕ) → E → E → Result Asked WrongWord → ℕ → Type 0
-IsTold told before now taken is_finished faults old new err_taken err_faults err_old err_new (Ok asked) status = EndsAs told before now taken is_finished faults old new err_taken err_faults err_old err_new asked status
-IsTold told before now taken is_finished faults old new err_taken err_faults err_old err_new (Err wrong) status = AreRefused old new err_taken err_faults err_old err_new wrong status
+abbrev pub IsTold : {O E : Type 0} → Option (List File) → ℕ → ℕ → (O → Option (List ℕ)) → (O → Bool) → (O → ℕ) → O → O
+    → (E → Option (List ℕ)) → (E → ℕ) → E → E → Result Asked WrongWord → ℕ → Type 0
+IsTold told before now taken is_finished faults old new err_taken err_faults err_old err_new (Ok asked) status =
+    EndsAs told before now taken is_finished faults old new err_taken err_faults err_old err_new asked status
+IsTold told before now taken is_finished faults old new err_taken err_faults err_old err_new (Err wrong) status =
+    AreRefused old new err_taken err_faults err_old err_new wrong status

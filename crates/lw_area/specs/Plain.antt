@@ -10,10 +10,24 @@ use Rattle.lw_area.specs.declared.words.Asked.TheVariants.{Usage, Version, Mappi
 use Rattle.lw_area.specs.Words as spec
 
 abbrev pub plain_settings : code_settings.Settings → spec.Settings
-plain_settings s = record { options = plain_options s.options; linked = s.linked; certified = s.certified; counted = s.counted; effort = s.effort; deadline = s.deadline }
+plain_settings s =
+    record {
+      options = plain_options s.options;
+      linked = s.linked;
+      certified = s.certified;
+      counted = s.counted;
+      effort = s.effort;
+      deadline = s.deadline;
+    }
 
 abbrev pub plain_task : code_task.Task → spec.Task
-plain_task task = record { settings = plain_settings task.settings; library = task.library.now; network = task.network.now; more = map string_bytes task.more.now }
+plain_task task =
+    record {
+      settings = plain_settings task.settings;
+      library = task.library.now;
+      network = task.network.now;
+      more = map string_bytes task.more.now;
+    }
 
 abbrev pub plain_wrong : code_wrong.WrongWord → spec.WrongWord
 plain_wrong wrong = record { word = wrong.word.now; why = wrong.why }

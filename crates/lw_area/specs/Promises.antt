@@ -36,8 +36,8 @@ pub record IsRecoveryOf (task : Task) (files : Files) (text : List ℕ) : Type 0
   pub read : AreRead task files
   pub is : IsRecoveredText task.settings read.cells read.model read.further text
 
--- The same, and the netlist maps the network's forms: each output arrives at the least time of any cover of any tree that the rules and the
--- links derive for it.
+-- The same, and the netlist maps the network's forms: each output arrives at the least time of any cover of any tree
+-- that the rules and the links derive for it.
 pub record IsFastestOf (task : Task) (files : Files) (text : List ℕ) : Type 0 where
   pub recovery : IsRecoveryOf task files text
   pub mapping_is : MapsForms task.settings.options.mode task.settings.options.width

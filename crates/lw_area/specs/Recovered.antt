@@ -1,5 +1,6 @@
 -- A netlist with little area to which a network is mapped, and the text of one.
-use Rattle.std.specs.Prelude.{ℕ, ◌≤◌, ◌≡◌, ⊤, Bool, true, false, List, [], length, map, Option, Some, None, option_map, slice_index_or}
+use Rattle.std.specs.Prelude.{ℕ, ◌≤◌, ◌≡◌, ⊤, Bool, true, false, List, [], length, map, Option, Some, None, option_map}
+use Rattle.std.specs.Prelude.{slice_index_or}
 use Rattle.lw_pool.specs.declared.id.ClassId.{ClassId}
 use Rattle.std.specs.List.{AllZip}
 use Rattle.lw_fixed.specs.declared.micro.Micro.{Micro}
@@ -93,9 +94,11 @@ abbrev pub class_number : ClassId → ℕ
 class_number class = class.0
 
 -- the least time of each class of the graph, none where it has no cover, and the classes of the gates
-pub record IsCertificateOver (cells : List CellParts) (starts : List Micro) (g : Graph) (gates : List ℕ) (certificate : Certificate) : Type 0 where
+pub record IsCertificateOver (cells : List CellParts) (starts : List Micro) (g : Graph) (gates : List ℕ)
+    (certificate : Certificate) : Type 0 where
   pub one_each : length certificate.labels ≡ length g.pairs
-  pub least : (class : ℕ) → IsLeastCover g (library_patterns cells) (time_cost cells starts) class (option_map millionths (slice_index_or certificate.labels class None))
+  pub least : (class : ℕ) → IsLeastCover g (library_patterns cells) (time_cost cells starts) class
+      (option_map millionths (slice_index_or certificate.labels class None))
   pub classes : map (option_map class_number) certificate.nets ≡ map Some gates
 
 -- there is one where it is asked for
@@ -114,8 +117,8 @@ pub record IsSpaceOf (settings : Settings) (net : NetworkParts) (further : List 
   pub within : IsWithinLimits settings.options union
   pub unlinked : settings.linked ≡ false → space.links ≡ []
 
--- The text is that of such a netlist, over the network and others that were joined to it, with the model's frame and its
--- starts, and with its certificate where it is asked for.
+-- The text is that of such a netlist, over the network and others that were joined to it, with the model's frame and
+-- its starts, and with its certificate where it is asked for.
 pub record IsRecoveredText (settings : Settings) (cells : List CellParts) (model : Parsed) (further : List Further)
     (text : List ℕ) : Type 0 where
   pub space : Space

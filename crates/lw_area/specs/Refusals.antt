@@ -73,7 +73,8 @@ abbrev pub refusal_text : Task → List ℕ → Refusal → List ℕ
 refusal_text task mapped (Library fault) = shown_fault task.library fault
 refusal_text task mapped (Network fault) = shown_fault task.network fault
 refusal_text task mapped (Further place fault) = shown_fault (word_at task place) fault
-refusal_text task mapped (Strange place name) = named (word_at task place) (codes ": no input of the first network: ") name
+refusal_text task mapped (Strange place name) =
+    named (word_at task place) (codes ": no input of the first network: ") name
 refusal_text task mapped (Mapped fault) = shown_fault mapped fault
 refusal_text task mapped (Unmapped fault) = map_text fault
 refusal_text task mapped (No reason) = codes "no: " ++ reason_text reason
@@ -97,10 +98,17 @@ left_lines task left = flat_map (left_line task) left
 
 abbrev pub counts_line : Notes → List ℕ
 counts_line notes =
-    codes "lwarea: networks " ++ (decimal notes.networks ++ (codes ", forms " ++ (decimal notes.forms ++ (codes ", pairs equal " ++ (decimal notes.counts.equal ++ (codes ", apart " ++ (decimal notes.counts.apart ++ (codes ", left " ++ (decimal notes.counts.open ++ (codes ", links " ++ (decimal notes.counts.links ++ (codes ", conflicts " ++ (decimal notes.counts.conflicts ++ (codes ", ms to read " ++ (decimal notes.times.read ++ (codes ", to join " ++ (decimal notes.times.joined ++ (codes ", to map " ++ (decimal notes.times.mapped ++ codes "\n")))))))))))))))))))
+    codes "lwarea: networks " ++ (decimal notes.networks ++ (codes ", forms " ++ (decimal notes.forms
+    ++ (codes ", pairs equal " ++ (decimal notes.counts.equal ++ (codes ", apart " ++ (decimal notes.counts.apart
+    ++ (codes ", left " ++ (decimal notes.counts.open ++ (codes ", links " ++ (decimal notes.counts.links
+    ++ (codes ", conflicts " ++ (decimal notes.counts.conflicts ++ (codes ", ms to read "
+    ++ (decimal notes.times.read ++ (codes ", to join " ++ (decimal notes.times.joined ++ (codes ", to map "
+    ++ (decimal notes.times.mapped ++ codes "\n")))))))))))))))))))
 
 abbrev pub notes_lines : Task → Notes → List ℕ
-notes_lines task notes = if task.settings.counted then left_lines task notes.left.items ++ counts_line notes else left_lines task notes.left.items
+notes_lines task notes =
+    if task.settings.counted then left_lines task notes.left.items ++ counts_line notes
+    else left_lines task notes.left.items
 
 abbrev pub unwritten_line : List ℕ
 unwritten_line = line (codes "cannot write")

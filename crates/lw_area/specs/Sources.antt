@@ -69,7 +69,8 @@ ReadsFurther names place (word ∷ words) =
 
 -- what a union of the network and of some of the further ones is
 abbrev pub others_in : List Further → List Other → Type 0
-others_in further others = AllZip (λ (f : Further) (o : Other). (o.net.now ≡ f.network) × (o.places.now ≡ f.places.items)) further others
+others_in further others =
+    AllZip (λ (f : Further) (o : Other). (o.net.now ≡ f.network) × (o.places.now ≡ f.places.items)) further others
 
 pub record IsUnionOf (net : NetworkParts) (further : List Further) (union : NetworkParts) : Type 0 where
   pub others : List Other
@@ -133,7 +134,8 @@ abbrev pub ComesTo : {A : Type 0} → Option (List File) → ℕ → ℕ → Ste
 ComesTo told before now step (Ok x) = Known told step (Ok x)
 ComesTo told before now step (Err refused) = HasReason told before now step refused
 
-pub record Reads {F A : Type 0} (told : F → Option (List File)) (faults : F → ℕ) (old new : F) (step : Step A) (result : Result A Refusal) : Type 0 where
+pub record Reads {F A : Type 0} (told : F → Option (List File)) (faults : F → ℕ) (old new : F) (step : Step A)
+    (result : Result A Refusal) : Type 0 where
   pub files : told new ≡ told old
   pub later : faults old ≤ faults new
   pub comes : ComesTo (told old) (faults old) (faults new) step result
@@ -142,5 +144,7 @@ abbrev pub items_of : Result (Vec Further) Refusal → Result (List Further) Ref
 items_of (Ok further) = Ok further.items
 items_of (Err refused) = Err refused
 
-abbrev pub ReadsSources : {F : Type 0} → (F → Option (List File)) → (F → ℕ) → F → F → Task → Result Sources Refusal → Type 0
-ReadsSources told faults old new task result = Reads told faults old new (IsSourcesOf task) result × IfOk result AreSources
+abbrev pub ReadsSources : {F : Type 0} → (F → Option (List File)) → (F → ℕ) → F → F → Task → Result Sources Refusal
+    → Type 0
+ReadsSources told faults old new task result =
+    Reads told faults old new (IsSourcesOf task) result × IfOk result AreSources

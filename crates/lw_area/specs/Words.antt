@@ -1,5 +1,6 @@
 -- The words of the command line.
-use Rattle.std.specs.Prelude.{ℕ, ◌+◌, ◌*◌, ◌-◌, Bool, true, false, not, ◌&&◌, ◌==◌, nat_le, List, [], ◌∷◌, length, take, slice_get, zero, suc, Option, Some, None, Result, Ok, Err, if◌then◌else◌, codes}
+use Rattle.std.specs.Prelude.{ℕ, ◌+◌, ◌*◌, ◌-◌, Bool, true, false, not, ◌&&◌, ◌==◌, nat_le, List, [], ◌∷◌, length, take}
+use Rattle.std.specs.Prelude.{slice_get, zero, suc, Option, Some, None, Result, Ok, Err, if◌then◌else◌, codes}
 use Rattle.std.specs.Str.{bytes_eq}
 use Rattle.lw_fixed.specs.Decimals.{given_units, decimal_of}
 use Rattle.lw_fixed.specs.declared.fault.DecimalFault.{DecimalFault}
@@ -61,7 +62,8 @@ is_digit byte = nat_le 48 byte && nat_le byte 57
 -- `N%`, for N of three digits, of which the first is not 0
 abbrev pub percent_of : List ℕ → Option ℕ
 percent_of (a ∷ b ∷ c ∷ sign ∷ []) =
-    if is_digit a && (is_digit b && (is_digit c && (nat_le 49 a && sign == 37))) then Some ((a - 48) * 100 + ((b - 48) * 10 + (c - 48))) else None
+    if is_digit a && (is_digit b && (is_digit c && (nat_le 49 a && sign == 37))) then Some ((a - 48) * 100 +
+    ((b - 48) * 10 + (c - 48))) else None
 percent_of word = None
 
 abbrev pub time_read : Result Micro DecimalFault → Option Deadline
@@ -82,21 +84,53 @@ deadline_of word =
 
 -- width 6, the six laws, with links, no certificate, curves, all by the greatest least time
 abbrev pub no_option : Settings
-no_option = record { options = record { width = 6; mode = plain }; linked = true; certified = false; counted = false; effort = Some Curves; deadline = Greatest }
+no_option =
+    record {
+      options = record { width = 6; mode = plain };
+      linked = true;
+      certified = false;
+      counted = false;
+      effort = Some Curves;
+      deadline = Greatest;
+    }
 
 abbrev pub refused : {A : Type 0} → List ℕ → Wrong → Result A WrongWord
 refused word why = Err (record { word = word; why = why })
 
 abbrev pub with_width : Settings → List ℕ → Option ℕ → Result Settings WrongWord
-with_width s word (Some width) = Ok (record { options = record { width = width; mode = s.options.mode }; linked = s.linked; certified = s.certified; counted = s.counted; effort = s.effort; deadline = s.deadline })
+with_width s word (Some width) =
+    Ok (record {
+      options = record { width = width; mode = s.options.mode };
+      linked = s.linked;
+      certified = s.certified;
+      counted = s.counted;
+      effort = s.effort;
+      deadline = s.deadline;
+    })
 with_width s word None = refused word Width
 
 abbrev pub with_effort : Settings → List ℕ → Option (Option Effort) → Result Settings WrongWord
-with_effort s word (Some effort) = Ok (record { options = s.options; linked = s.linked; certified = s.certified; counted = s.counted; effort = effort; deadline = s.deadline })
+with_effort s word (Some effort) =
+    Ok (record {
+      options = s.options;
+      linked = s.linked;
+      certified = s.certified;
+      counted = s.counted;
+      effort = effort;
+      deadline = s.deadline;
+    })
 with_effort s word None = refused word Trial
 
 abbrev pub with_deadline : Settings → List ℕ → Option Deadline → Result Settings WrongWord
-with_deadline s word (Some deadline) = Ok (record { options = s.options; linked = s.linked; certified = s.certified; counted = s.counted; effort = s.effort; deadline = deadline })
+with_deadline s word (Some deadline) =
+    Ok (record {
+      options = s.options;
+      linked = s.linked;
+      certified = s.certified;
+      counted = s.counted;
+      effort = s.effort;
+      deadline = deadline;
+    })
 with_deadline s word None = refused word Time
 
 -- an option with its value; where a netlist is checked there is one alone
@@ -104,24 +138,58 @@ abbrev pub set_by : Bool → Settings → List ℕ → List ℕ → Result Setti
 set_by checked s option value =
     if bytes_eq option (codes "-w") then with_width s value (width_of value)
     else (if bytes_eq option (codes "-e") && not checked then with_effort s value (effort_of value)
-    else (if bytes_eq option (codes "-t") && not checked then with_deadline s value (deadline_of value) else refused option Unknown))
+    else (if bytes_eq option (codes "-t") && not checked then with_deadline s value (deadline_of value)
+    else refused option Unknown))
 
 -- an option that wants a value
 abbrev pub has_value : Bool → List ℕ → Bool
 has_value checked option =
-    if bytes_eq option (codes "-w") then true else (if bytes_eq option (codes "-e") then not checked else (if bytes_eq option (codes "-t") then not checked else false))
+    if bytes_eq option (codes "-w") then true else (if bytes_eq option (codes "-e") then not checked
+    else (if bytes_eq option (codes "-t") then not checked else false))
 
 abbrev pub with_idempotence : Settings → Settings
-with_idempotence s = record { options = record { width = s.options.width; mode = idempotent }; linked = s.linked; certified = s.certified; counted = s.counted; effort = s.effort; deadline = s.deadline }
+with_idempotence s =
+    record {
+      options = record { width = s.options.width; mode = idempotent };
+      linked = s.linked;
+      certified = s.certified;
+      counted = s.counted;
+      effort = s.effort;
+      deadline = s.deadline;
+    }
 
 abbrev pub without_links : Settings → Settings
-without_links s = record { options = s.options; linked = false; certified = s.certified; counted = s.counted; effort = s.effort; deadline = s.deadline }
+without_links s =
+    record {
+      options = s.options;
+      linked = false;
+      certified = s.certified;
+      counted = s.counted;
+      effort = s.effort;
+      deadline = s.deadline;
+    }
 
 abbrev pub with_certificate : Settings → Settings
-with_certificate s = record { options = s.options; linked = s.linked; certified = true; counted = s.counted; effort = s.effort; deadline = s.deadline }
+with_certificate s =
+    record {
+      options = s.options;
+      linked = s.linked;
+      certified = true;
+      counted = s.counted;
+      effort = s.effort;
+      deadline = s.deadline;
+    }
 
 abbrev pub with_counts : Settings → Settings
-with_counts s = record { options = s.options; linked = s.linked; certified = s.certified; counted = true; effort = s.effort; deadline = s.deadline }
+with_counts s =
+    record {
+      options = s.options;
+      linked = s.linked;
+      certified = s.certified;
+      counted = true;
+      effort = s.effort;
+      deadline = s.deadline;
+    }
 
 -- options, and the words behind them
 pub record Begun : Type 0 where
@@ -145,7 +213,8 @@ option_of checked s option words =
     if bytes_eq option (codes "-i") then Ok (before words (with_idempotence s))
     else (if bytes_eq option (codes "-n") then Ok (before words (without_links s))
     else (if bytes_eq option (codes "-c") && not checked then Ok (before words (with_certificate s))
-    else (if bytes_eq option (codes "-s") && not checked then Ok (before words (with_counts s)) else set_or_missing checked s option words)))
+    else (if bytes_eq option (codes "-s") && not checked then Ok (before words (with_counts s))
+    else set_or_missing checked s option words)))
 
 abbrev pub is_each : Deadline → Bool
 is_each Each = true
@@ -157,7 +226,8 @@ first_dashed [] = None
 first_dashed (word ∷ words) = if is_file_word word then first_dashed words else Some word
 
 abbrev pub files_unless : Settings → List ℕ → List ℕ → List (List ℕ) → Option (List ℕ) → Result Task WrongWord
-files_unless s library network more None = Ok (record { settings = s; library = library; network = network; more = more })
+files_unless s library network more None =
+    Ok (record { settings = s; library = library; network = network; more = more })
 files_unless s library network more (Some word) = refused word Late
 
 -- the network and further ones, behind the library
@@ -181,7 +251,8 @@ checking_of mapped (Err wrong) = Err wrong
 -- The files, behind all options. A certificate says that each output arrives at its own least time.
 abbrev pub task_of : Settings → List (List ℕ) → Result Asked WrongWord
 task_of s words =
-    if s.certified then (if is_each s.deadline then mapping_of (files_of s words) else refused (codes "-c") Certified) else mapping_of (files_of s words)
+    if s.certified then (if is_each s.deadline then mapping_of (files_of s words) else refused (codes "-c") Certified)
+    else mapping_of (files_of s words)
 
 -- the same, and behind them the netlist that is checked
 abbrev pub checked_from : Settings → List (List ℕ) → Option (List ℕ) → Result Asked WrongWord
@@ -194,7 +265,8 @@ checked_of s words = checked_from s words (slice_get words (length words - 1))
 abbrev pub files_behind : Bool → Settings → List (List ℕ) → Result Asked WrongWord
 files_behind checked s words = if checked then checked_of s words else task_of s words
 
-abbrev pub then_options : (Settings → List (List ℕ) → Result Asked WrongWord) → Result Begun WrongWord → Result Asked WrongWord
+abbrev pub then_options : (Settings → List (List ℕ) → Result Asked WrongWord) → Result Begun WrongWord
+    → Result Asked WrongWord
 then_options next (Ok begun) = next begun.settings begun.rest
 then_options next (Err wrong) = Err wrong
 
@@ -203,12 +275,14 @@ abbrev pub options_of : ℕ → Bool → Settings → List (List ℕ) → Result
 options_of n checked s [] = files_behind checked s []
 options_of zero checked s (word ∷ words) = files_behind checked s (word ∷ words)
 options_of (suc n) checked s (word ∷ words) =
-    if is_file_word word then files_behind checked s (word ∷ words) else then_options (options_of n checked) (option_of checked s word words)
+    if is_file_word word then files_behind checked s (word ∷ words) else then_options (options_of n checked)
+    (option_of checked s word words)
 
 abbrev pub checking_first : List (List ℕ) → Result Asked WrongWord
 checking_first [] = options_of 0 false no_option []
 checking_first (word ∷ words) =
-    if bytes_eq word (codes "-k") then options_of (length words) true no_option words else options_of (length (word ∷ words)) false no_option (word ∷ words)
+    if bytes_eq word (codes "-k") then options_of (length words) true no_option words else options_of
+    (length (word ∷ words)) false no_option (word ∷ words)
 
 -- there is this word alone
 abbrev pub only_word : List (List ℕ) → List ℕ → Bool

@@ -50,7 +50,8 @@ pub(crate) fn verdict_on<F: Shelf>(
     mapped: &str,
     shelf: &mut F,
 ) -> Result<Verdict, Refusal>
-    ensures { Judges F.files F.faults shelf.old shelf.new (plain_task task.entry) mapped.now result }
+    ensures { Judges F.files F.faults shelf.old shelf.new (plain_task task.entry) mapped.now
+        result }
 {
     let sources = read_sources(alloc, task, shelf)?;
     let netlist = match read_mapped(alloc, &sources.library, shelf, mapped) {

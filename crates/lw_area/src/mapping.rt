@@ -150,9 +150,9 @@ fn covered_of(
     Ok(made_smaller(alloc, sources, settings, joined, covered)?)
 }
 
-/// What a library, a network and further ones come to: a netlist in which each output of the network
-/// arrives by its deadline, with its certificate where it is asked for. Reading the files took so
-/// many milliseconds.
+/// What a library, a network and further ones come to: a netlist in which each output of the
+/// network arrives by its deadline, with its certificate where it is asked for. Reading the files
+/// took so many milliseconds.
 pub(crate) fn map_smaller<C: Clock>(
     alloc: Global,
     clock: &C,

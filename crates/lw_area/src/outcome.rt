@@ -1,7 +1,8 @@
 // What a run comes to.
 ghost use Rattle.std.specs.Prelude.{◌≡◌, ◌≤◌, IfOk};
 ghost use Rattle.lw_io.specs.Waitings.{IsTaken};
-ghost use Rattle.lw_area.specs.Outcomes.{CanBeWritten, Gives, Responds, Serves, WritesPage, WritesText, answer_text, ending_status};
+ghost use Rattle.lw_area.specs.Outcomes.{CanBeWritten, Gives, Responds, Serves, WritesPage};
+ghost use Rattle.lw_area.specs.Outcomes.{WritesText, answer_text, ending_status};
 ghost use Rattle.lw_area.specs.Plain.{plain_asked, plain_settings, plain_task};
 ghost use Rattle.lw_area.specs.Sources.{AreSources};
 ghost use Rattle.lw_area.specs.Words.{checking};

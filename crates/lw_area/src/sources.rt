@@ -1,10 +1,12 @@
 // The files of a task.
-ghost use Rattle.std.specs.Prelude.{◌≡◌, ◌++◌, [], ◌∷◌, ◌<◌, All, IfOk, OnOk, length, map, slice_index_or, string_bytes};
+ghost use Rattle.std.specs.Prelude.{◌≡◌, ◌++◌, [], ◌∷◌, ◌<◌, All, IfOk, OnOk, length, map};
+ghost use Rattle.std.specs.Prelude.{slice_index_or, string_bytes};
 ghost use Rattle.std.specs.List.{IsDistinct};
 ghost use Rattle.std.specs.Str.{bytes_eq};
 ghost use Rattle.lw_net.specs.Networks.{input_names};
 ghost use Rattle.lw_area.specs.Plain.{plain_task};
-ghost use Rattle.lw_area.specs.Sources.{AreOthersOf, IsFurtherTo, Reads, ReadsFurther, ReadsOne, ReadsSources, items_of};
+ghost use Rattle.lw_area.specs.Sources.{AreOthersOf, IsFurtherTo, Reads, ReadsFurther, ReadsOne};
+ghost use Rattle.lw_area.specs.Sources.{ReadsSources, items_of};
 
 use crate::refusal::Refusal;
 use crate::words::Task;

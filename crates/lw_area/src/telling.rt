@@ -4,7 +4,9 @@ ghost use Rattle.lw_io.specs.Waitings.{IsTaken};
 ghost use Rattle.lw_io.specs.Writers.{Writes};
 ghost use Rattle.lw_area.specs.Outcomes.{ending_line};
 ghost use Rattle.lw_area.specs.Plain.{plain_asked, plain_task, plain_wrong};
-ghost use Rattle.lw_area.specs.Refusals.{counts_line, left_line, left_lines, limit_text, map_text, notes_lines, refusal_line, refusal_text, why_text, word_at, word_part, wrong_line};
+ghost use Rattle.lw_area.specs.Refusals.{counts_line, left_line, left_lines, limit_text, map_text};
+ghost use Rattle.lw_area.specs.Refusals.{notes_lines, refusal_line, refusal_text, why_text};
+ghost use Rattle.lw_area.specs.Refusals.{word_at, word_part, wrong_line};
 
 use crate::mapping::Notes;
 use crate::outcome::Ending;
@@ -190,7 +192,8 @@ fn put_counts<E: Sink>(out: &mut Writer<'_, E>, notes: &Notes)
 
 // What is said of a run beside its answer.
 fn put_notes<E: Sink>(out: &mut Writer<'_, E>, task: &Task<'_>, notes: &Notes)
-    ensures { Writes E.taken E.faults out.old out.new (notes_lines (plain_task task.now) notes.now) }
+    ensures { Writes E.taken E.faults out.old out.new
+        (notes_lines (plain_task task.now) notes.now) }
 {
     if task.settings.counted {
         put_left(out, task, &notes.left);

@@ -52,8 +52,8 @@ pub fn run<F: Shelf, O: Sink, E: Sink, C: Clock>(
         result ≡ 0 → ((text : List ℕ) × IsFastestOf task (bytes_of files) text
         × IsDone O.taken O.is_finished out.old out.new text) }
 
-    // At 6, over known files, no tree that the rules and the links derive for the root whose name is
-    // reported has a cover.
+    // At 6, over known files, no tree that the rules and the links derive for the root whose name
+    // is reported has a cover.
     ensures no_cover { (files : List File) (task : Task) → F.files shelf.old ≡ Some files →
         AsksFor (map string_bytes words.now) task → result ≡ 6 → ((name : List ℕ) ×
         LacksOutput task (bytes_of files) name × Told E.taken E.faults err.old err.new

@@ -1,8 +1,13 @@
 // The words of the command line.
 ghost use Rattle.std.specs.Prelude.{◌≡◌, ◌<◌, ◌≤◌, ◌+◌, map, string_bytes, option_map, length};
 ghost use Rattle.lw_top.specs.Words.{width_of, is_file_word};
-ghost use Rattle.lw_area.specs.Words.{effort_of, is_digit, percent_of, deadline_of, no_option, set_by, has_value, set_or_missing, option_of, is_each, first_dashed, networks_of, files_of, task_of, checked_of, files_behind, options_of, only_word, checking_first, asked_of};
-ghost use Rattle.lw_area.specs.Plain.{plain_settings, plain_task, plain_wrong, set_result, begun_result, task_result, asked_result};
+ghost use Rattle.lw_area.specs.Words.{effort_of, is_digit, percent_of, deadline_of, no_option};
+ghost use Rattle.lw_area.specs.Words.{set_by, has_value, set_or_missing, option_of, is_each};
+ghost use Rattle.lw_area.specs.Words.{first_dashed, networks_of, files_of, task_of, checked_of};
+ghost use Rattle.lw_area.specs.Words.{files_behind, options_of, only_word, checking_first};
+ghost use Rattle.lw_area.specs.Words.{asked_of};
+ghost use Rattle.lw_area.specs.Plain.{plain_settings, plain_task, plain_wrong, set_result};
+ghost use Rattle.lw_area.specs.Plain.{begun_result, task_result, asked_result};
 
 use lw_assoc::Mode;
 use lw_fixed::{Micro, read};
