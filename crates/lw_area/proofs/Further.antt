@@ -1,6 +1,6 @@
 -- The files of further networks, one after another.
-use Rattle.std.proofs.Common.{◌≡◌, inl, inr, ℕ, zero, suc, ◌+◌, ◌<◌, ◌≤◌, All, List, [], ◌∷◌, ◌++◌, length, drop, Result, Ok, Err, slice_index_or, append_assoc, refl, ap, sym, ◌∙◌, subst, arith}
-use Rattle.std.proofs.lemmas.List.{append-nil, length-take-le}
+use Rattle.std.proofs.Common.{◌≡◌, inl, inr, ℕ, zero, suc, ◌+◌, ◌<◌, ◌≤◌, All, List, [], ◌∷◌, ◌++◌, length, drop, Some, Result, Ok, Err, slice_get, slice_index_or, append_assoc, refl, ap, sym, ◌∙◌, subst, arith}
+use Rattle.std.proofs.lemmas.List.{append-nil, at_drop_more, length-take-le}
 use Rattle.std.proofs.lemmas.List.Elements.{All-from_recursion, recursion_from_All}
 use Rattle.std.proofs.lemmas.Option.{slice_get_within}
 use Rattle.std.proofs.lemmas.Slice.Zip.{AllZip-long}
@@ -20,7 +20,7 @@ behind xs (Ok ys) = Ok (xs ++ ys)
 behind xs (Err e) = Err e
 
 behind_both : (xs ys : List Further) (r : Result (List Further) Refusal) → behind xs (behind ys r) ≡ behind (xs ++ ys) r
-behind_both xs ys (Ok zs) = ap Ok (sym append_assoc)
+behind_both xs ys (Ok zs) = simp append_assoc
 behind_both xs ys (Err e) = refl
 
 module _ (names : List (List ℕ)) (words : List (List ℕ)) where
@@ -61,9 +61,7 @@ module _ (names : List (List ℕ)) (words : List (List ℕ)) where
 
 -- the words from a place on
 pub word_first : (words : List (List ℕ)) (k : ℕ) → k < length words → drop k words ≡ slice_index_or words k [] ∷ drop (k + 1) words
-word_first [] k lt = absurd (omega arith)
-word_first (w ∷ words) zero lt = refl
-word_first (w ∷ words) (suc k) lt = word_first words k (omega arith)
+word_first words k lt = at_drop_more (λ (ws : List (List ℕ)). ws) words k [] lt
 
 -- the places of names are below their number
 each_below : (names : List (List ℕ)) (places : List ℕ) (inputs : List (List ℕ)) → ArePlacesOf names inputs places → AllByRecursion (λ (i : ℕ). i < length names) places
@@ -76,7 +74,7 @@ pub places_fit : (names : List (List ℕ)) (other : NetworkParts) (places : List
 places_fit names other places kept are =
     let named = kept.named in
     record {
-      one_each = AllZip-long _ places (input_names other) are ∙ length-take-le other.inputs other.names (omega arith);
+      one_each = AllZip-long (λ (place : ℕ) (name : List ℕ). slice_get names place ≡ Some name) places (input_names other) are ∙ length-take-le other.inputs other.names (omega arith);
       within = All-from_recursion (λ (i : ℕ). i < length names) places (each_below names places (input_names other) are);
     }
 

@@ -1,5 +1,5 @@
 -- One step after another, over files that may be known.
-use Rattle.std.proofs.Common.{◌≡◌, inl, inr, ℕ, ◌≤◌, List, Option, Some, Result, Ok, Err, refl, sym, subst, arith}
+use Rattle.std.proofs.Common.{◌≡◌, inl, inr, ℕ, ◌≤◌, List, Option, Some, Result, Ok, Err, refl, ap, subst, arith}
 use Rattle.lw_io.specs.declared.file.File.{File}
 use Rattle.lw_io.specs.Files.{bytes_of}
 use Rattle.lw_files.specs.declared.fault.FileFault.{FileFault}
@@ -15,7 +15,7 @@ use Rattle.lw_area.specs.declared.refusal.Refusal.{Refusal}
 use Rattle.lw_area.specs.declared.refusal.Refusal.TheVariants.{Library, Network, Further, Mapped, Unmapped}
 use Rattle.lw_area.specs.declared.sources.Further as sources
 use Rattle.lw_area.specs.declared.sources.Sources.{Sources}
-use Rattle.lw_area.specs.Answers.{IsTaskAnswer}
+use Rattle.lw_area.specs.Answers.{Recovers}
 use Rattle.lw_area.specs.Checks.{in_mapped}
 use Rattle.lw_area.specs.Outcomes as outcome
 use Rattle.lw_area.specs.Outcomes.{Gives, answer_text}
@@ -98,9 +98,9 @@ module _ {T : Type 0} (task : Task) (next : List CellParts → Parsed → List s
 
   pub sources_refused : (e : Refusal) → IsSourcesOf task files (Err e) → ReadsAll task next files (Err e)
   sources_refused e (inl (cells, one, inl (model, two, inl (further, three, no)))) = absurd no
-  sources_refused e (inl (cells, one, inl (model, two, inr (f, three, same)))) = inl (cells, one, inl (model, two, inr (f, three, cc)))
-  sources_refused e (inl (cells, one, inr (f, two, same))) = inl (cells, one, inr (f, two, cc))
-  sources_refused e (inr (f, one, same)) = inr (f, one, cc)
+  sources_refused e (inl (cells, one, inl (model, two, inr (f, three, same)))) = let is : f ≡ e = cc in inl (cells, one, inl (model, two, inr (f, three, ap Err is)))
+  sources_refused e (inl (cells, one, inr (f, two, same))) = let is : f ≡ e = cc in inl (cells, one, inr (f, two, ap Err is))
+  sources_refused e (inr (f, one, same)) = let is : f ≡ e = cc in inr (f, one, ap Err is)
 
 module _ {T : Type 0} (told : Option (List File)) (task : Task) (next : List CellParts → Parsed → List sources.Further → Step T) where
   pub refused_sources : (before now : ℕ) (e : Refusal) → HasReason told before now (IsSourcesOf task) e → HasReason told before now (ReadsAll task next) e
@@ -114,7 +114,7 @@ module _ {T : Type 0} (told : Option (List File)) (task : Task) (next : List Cel
 -- what the parts come to is what the task does
 module _ (told : Option (List File)) (task : Task) (s : Sources) (has : file.Known told (IsSourcesOf task) (Ok s)) where
   pub comes_to : (before now : ℕ) (r : Result Answer Refusal) → Gives task.settings s r → outcome.ComesTo told before now task r
-  comes_to before now (Ok a) gives = λ files known. sources_then task _ (bytes_of files) s (Ok (answer_text a)) (has files known) gives.0
+  comes_to before now (Ok a) gives = λ files known. sources_then task (Recovers task.settings) (bytes_of files) s (Ok (answer_text a)) (has files known) gives.0
   comes_to before now (Err (Unmapped map_fault.Memory)) gives = tt
-  comes_to before now (Err (Unmapped fault)) gives = λ files known. sources_then task _ (bytes_of files) s (Err (Unmapped fault)) (has files known) gives
+  comes_to before now (Err (Unmapped fault)) gives = λ files known. sources_then task (Recovers task.settings) (bytes_of files) s (Err (Unmapped fault)) (has files known) gives
   comes_to before now (Err other) gives = absurd gives

@@ -18,7 +18,7 @@ returns-in-Err g c = record {
   files = c.in-Err.ensures.reads.files ∙ c.in_ok-sources.ensures.0.files;
   later = omega (arith, c.in_ok-sources.ensures.0.later, c.in-Err.ensures.reads.later);
   comes =
-      no_netlist (g.F.Shelf.files c.args.shelf.now) (plain_task c.args.task) c.args.mapped.now c.in_ok-sources.sources c.in_ok-sources.ensures.0.comes (g.F.Shelf.faults c.args.shelf.now) (g.F.Shelf.faults c.read_sources-sources.new.shelf) (g.F.Shelf.faults c.read_mapped.new.shelf) c.in_ok-sources.ensures.0.later c.in-Err.fault
+      no_netlist (g.F.Shelf.files c.args.shelf.now) (plain_task c.args.task) c.args.mapped.now c.in_ok-sources.sources c.in_ok-sources.ensures.0.comes (g.F.Shelf.faults c.args.shelf.now) (g.F.Shelf.faults c.read_sources.new.shelf) (g.F.Shelf.faults c.read_mapped.new.shelf) c.in_ok-sources.ensures.0.later c.in-Err.fault
       (rw c.in_ok-sources.ensures.0.files at c.in-Err.ensures.reads.reads);
 }
 
@@ -27,6 +27,6 @@ returns g c = record {
   files = c.in-Ok.ensures.reads.files ∙ c.in_ok-sources.ensures.0.files;
   later = omega (arith, c.in_ok-sources.ensures.0.later, c.in-Ok.ensures.reads.later);
   comes =
-      verdict_comes (g.F.Shelf.files c.args.shelf.now) (plain_task c.args.task) c.args.mapped.now c.in_ok-sources.sources c.in_ok-sources.ensures.0.comes (g.F.Shelf.faults c.args.shelf.now) (g.F.Shelf.faults c.read_sources-sources.new.shelf) (g.F.Shelf.faults c.read_mapped.new.shelf) c.in_ok-sources.ensures.0.later c.in-Ok.netlist
+      verdict_comes (g.F.Shelf.files c.args.shelf.now) (plain_task c.args.task) c.args.mapped.now c.in_ok-sources.sources c.in_ok-sources.ensures.0.comes (g.F.Shelf.faults c.args.shelf.now) (g.F.Shelf.faults c.read_sources.new.shelf) (g.F.Shelf.faults c.read_mapped.new.shelf) c.in_ok-sources.ensures.0.later c.in-Ok.netlist
       (rw c.in_ok-sources.ensures.0.files at c.in-Ok.ensures.reads.reads) c.in-Ok.ensures.reads.later c.judged-verdict.result c.judged-verdict.ensures;
 }

@@ -1,14 +1,14 @@
 use Rattle.std.proofs.lemmas.Result.{err_from_is_err_and}
 use Rattle.lw_area.proofs.mapping.covered_of.Goals as goal
 
-pub cover-covered-requires-clause-joined : goal.cover-covered-requires-clause-joined
-cover-covered-requires-clause-joined c = c.requires.joined.joined
+pub cover-requires-clause-joined : goal.cover-requires-clause-joined
+cover-requires-clause-joined c = c.requires.joined.joined
 
-pub cover-covered-requires-clause-outputs : goal.cover-covered-requires-clause-outputs
-cover-covered-requires-clause-outputs c = c.requires.sources.model.outputs
+pub cover-requires-clause-outputs : goal.cover-requires-clause-outputs
+cover-requires-clause-outputs c = c.requires.sources.model.outputs
 
-pub cover-covered-requires-clause-early : goal.cover-covered-requires-clause-early
-cover-covered-requires-clause-early c = c.requires.sources.model.starts.early
+pub cover-requires-clause-early : goal.cover-requires-clause-early
+cover-requires-clause-early c = c.requires.sources.model.starts.early
 
 pub returns-in_err-covered-clause-fault : goal.returns-in_err-covered-clause-fault
 returns-in_err-covered-clause-fault c =

@@ -19,6 +19,6 @@ pub returns : goal.returns
 returns g c = record {
   files = c.in_ok-sources.ensures.0.files;
   later = c.in_ok-sources.ensures.0.later;
-  comes = comes_to (g.F.Shelf.files c.args.shelf.now) (plain_task c.args.task) c.in_ok-sources.sources c.in_ok-sources.ensures.0.comes (g.F.Shelf.faults c.args.shelf.now) (g.F.Shelf.faults c.read_sources-sources.new.shelf) c.map_read.result c.map_read.ensures;
+  comes = comes_to (g.F.Shelf.files c.args.shelf.now) (plain_task c.args.task) c.in_ok-sources.sources c.in_ok-sources.ensures.0.comes (g.F.Shelf.faults c.args.shelf.now) (g.F.Shelf.faults c.read_sources.new.shelf) c.map_read.result c.map_read.ensures;
   written = writable (plain_settings c.args.task.settings) c.in_ok-sources.sources c.map_read.result c.map_read.ensures;
 }

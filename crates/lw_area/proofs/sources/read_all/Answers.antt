@@ -61,7 +61,7 @@ returns-in_err-one-clause-reads g c =
       files = reads.files ∙ inv.files;
       later = omega (arith, inv.later, reads.later);
       comes =
-          moved (g.F.Shelf.files c.args.shelf.now) (g.F.Shelf.faults c.args.shelf.now) (g.F.Shelf.faults c.files.shelf) (g.F.Shelf.faults c.read_further-one.new.shelf) (ReadsOne names c.files.place (slice_index_or words c.files.place [])) (ReadsFurther names 0 words) inv.later
+          moved (g.F.Shelf.files c.args.shelf.now) (g.F.Shelf.faults c.args.shelf.now) (g.F.Shelf.faults c.files.shelf) (g.F.Shelf.faults c.read_further.new.shelf) (ReadsOne names c.files.place (slice_index_or words c.files.place [])) (ReadsFurther names 0 words) inv.later
           (λ e files known is. one_refused names words c.files.place (slice_index_or words c.files.place []) (word_first words c.files.place (omega (arith, count, c.files-test.true))) c.files.further.items (bytes_of files) (inv.read files known) e is) _
           (rw (inv.files, c.in_ok-inputs.ensures, c.name_at.ensures) at reads.comes);
     })
