@@ -9,8 +9,7 @@ pub returns-in-Within-clause-taken : goal.returns-in-Within-clause-taken
 returns-in-Within-clause-taken c =
     let o = c.args.self.now in
     let all = replicate (length o.others.now) true in
-    let same : c.deref.result.now ≡ all = c.deref.ensures.value ∙ c.in_ok-all.ensures.items_if_clones_equal (λ y e. e) in
-    (
+    let same : c.deref.result.now ≡ all = c.deref.ensures.value ∙ c.in_ok-all.ensures.items_if_clones_equal (λ y e. e) in (
       all,
       record {
         one_each = length-replicate (length o.others.now) true;

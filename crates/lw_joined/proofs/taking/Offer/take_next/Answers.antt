@@ -27,9 +27,9 @@ returns-in-Past c =
     let taken = c.args.chosen.taken.items in
     let told : Left = record { place = c.args.place; limit = c.in-Past.limit } in
     let now : slice_set c.push.new.self.items c.args.place false ≡ taken ++ false ∷ [] =
-        ap (λ (ts : List Bool). slice_set ts c.args.place false) c.in_ok-push.ensures.items ∙ set_at taken true [] false c.args.place c.requires.chosen.one_each in
+    ap (λ (ts : List Bool). slice_set ts c.args.place false) c.in_ok-push.ensures.items ∙ set_at taken true [] false c.args.place c.requires.chosen.one_each in
     let past : IsPast (plain_options o.options) (union_in o (taken ++ true ∷ [])) c.in-Past.limit =
-        subst (λ (ts : List Bool). IsPast (plain_options o.options) (union_in o ts) c.in-Past.limit) (c.deref.ensures.value ∙ c.in_ok-push.ensures.items) (rw c.in-Past.is at c.in_ok-list.ensures) in
+    subst (λ (ts : List Bool). IsPast (plain_options o.options) (union_in o ts) c.in-Past.limit) (c.deref.ensures.value ∙ c.in_ok-push.ensures.items) (rw c.in-Past.is at c.in_ok-list.ensures) in
     record {
       one_each = omega (arith, ap length now, length_push taken false, c.requires.chosen.one_each);
       listed = subst (λ (ts : List Bool). ListsTaken o ts c.args.chosen.listed) (sym now) (listed_without o taken c.args.chosen.listed c.requires.chosen.listed);
