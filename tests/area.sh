@@ -20,10 +20,10 @@ area() { # TEXT
 
 effort_0_is_map() {
     "$mapper" map "$cells" "$adder" >wanted
-    run -e 0 "$cells" "$adder"
+    run -n -e 0 "$cells" "$adder"
     status $? 0 && same out wanted && holds err || return
     "$mapper" map -c "$cells" "$adder" >wanted
-    run -e 0 -c -t each "$cells" "$adder"
+    run -n -e 0 -c -t each "$cells" "$adder"
     status $? 0 && same out wanted && holds err
 }
 
@@ -35,7 +35,8 @@ two_runs_agree() {
 }
 
 later_deadlines_take_no_more_area() {
-    "$mapper" map "$cells" "$adder" >fastest
+    run -e 0 "$cells" "$adder"
+    status $? 0 && cp out fastest || return
     most=$(area fastest)
     for time in each max 110% 150%; do
         run -t "$time" "$cells" "$adder"
@@ -46,21 +47,24 @@ later_deadlines_take_no_more_area() {
 
 certificates_are_accepted() {
     for effort in 0 1 2 3; do
-        run -c -t each -e "$effort" "$cells" "$adder"
+        run -n -c -t each -e "$effort" "$cells" "$adder"
         status $? 0 && cp out MAPPED && [ "$("$mapper" check "$cells" "$adder" MAPPED)" = yes ] || return
+        run -c -t each -e "$effort" "$cells" "$adder" "$root/bench/circuits/rca8_y.blif"
+        status $? 0 && cp out MAPPED && run -k "$cells" "$adder" "$root/bench/circuits/rca8_y.blif" MAPPED && holds out yes || return
     done
 }
 
-# Where deadlines leave room, a netlist that is not that of map is one that the look took. So this counts no refusal too few.
+# Where deadlines leave room, a netlist that is not that of effort 0 is one that the look took. So this counts no refusal too few.
 the_look_never_refuses() {
     lists=0
     refused=0
     for circuit in "$root"/bench/circuits/*.blif; do
-        "$mapper" map "$cells" "$circuit" >fastest || continue
+        run -e 0 "$cells" "$circuit"
+        status $? 0 && cp out fastest || return
         run -t 150% "$cells" "$circuit"
         status $? 0 || return
         lists=$((lists + 1))
-        cmp -s out fastest && refused=$((refused + 1)) && echo "$circuit: the netlist of map"
+        cmp -s out fastest && refused=$((refused + 1)) && echo "$circuit: the netlist of effort 0"
     done
     echo "the look refused $refused of $lists lists" >"$room/refusals"
     [ "$lists" -gt 0 ] && [ "$refused" -eq 0 ]
