@@ -3,7 +3,8 @@
 
   area.py COUNT [SEED]
 
-For each of COUNT cases a library and a network are drawn (tests/draw.py), with latches and arrivals, and at times with a fault.
+For each of COUNT cases a library and a network are drawn (tests/draw.py), with latches and arrivals, and at times with a fault. Links are
+not looked for (-n), so that the search space is that of 'map'.
 Each effort runs with deadlines of all forms. A refusal has to be that of 'map', with the name of this program. A netlist has to
 have the ports and latches of the network and its values, for all assignments or for some of many; each output has to arrive by
 its deadline, with 'each' exactly at its least time; the area, each gate counted once, may not be above that of the netlist of
@@ -132,7 +133,7 @@ def try_case(judge, draw):
     with open("IN", "w", newline="") as file:
         file.write(drawn.network(draw))
     width, idempotent = draw.choice([2, 3, 4, 6]), draw.random() < 0.25
-    words = ["-w", str(width)] + (["-i"] if idempotent else [])
+    words = ["-n", "-w", str(width)] + (["-i"] if idempotent else [])
     least = Least(width, idempotent)
     for effort in "0123":
         for word in ["each", "max", draw.choice(["100%", "102%", "150%", "999%"]), draw.choice(["0", "2.5", "7", "100000"])]:
