@@ -138,19 +138,22 @@ a_network_past_a_limit_is_left_out() {
     status $? 0 && same out "$tests/area/net_linked/stdout" && holds err 'lwarea: BIG left out: more than 262144 signals'
 }
 
-# The answer of -k to certificates that are right, of another netlist, of other options, and of lwmap.
+# The answer of -k to certificates that are right, of another netlist, of other options, of other networks, and of lwmap.
 certificates_are_judged() {
-    rounds=$root/bench/circuits/cla16_y.blif
-    run -c -t each "$cells" "$rounds" "$rounds"
-    status $? 0 && cp out MAPPED && run -k "$cells" "$rounds" "$rounds" MAPPED
+    sum=$root/bench/circuits/cla16_y.blif
+    more=$root/bench/circuits/rca16_l4.blif
+    run -e 1 -c -t each "$cells" "$sum" "$more"
+    status $? 0 && cp out MAPPED && run -k "$cells" "$sum" "$more" MAPPED
     status $? 0 && holds out yes && holds err || return
     sed '0,/\.gate nand2 a=\([^ ]*\) b=[^ ]*/s//.gate nand2 a=\1 b=\1/' MAPPED >WRONG
-    ! cmp -s MAPPED WRONG && run -k "$cells" "$rounds" "$rounds" WRONG
-    status $? 9 && holds out && grep -q '^lwarea: no: ' err || return
-    run -k -w 2 "$cells" "$rounds" "$rounds" MAPPED
+    ! cmp -s MAPPED WRONG && run -k "$cells" "$sum" "$more" WRONG
+    status $? 9 && holds out && grep -q '^lwarea: no: gate .* is no match$' err || return
+    run -k -n "$cells" "$sum" "$more" MAPPED
     status $? 9 && grep -q '^lwarea: no: ' err || return
-    "$mapper" map -c "$cells" "$rounds" >MAPPED
-    run -k -n "$cells" "$rounds" MAPPED
+    run -k "$cells" "$sum" MAPPED
+    status $? 9 && grep -q '^lwarea: no: class .* is not in the graph$' err || return
+    "$mapper" map -c "$cells" "$sum" >MAPPED
+    run -k -n "$cells" "$sum" MAPPED
     status $? 0 && holds out yes
 }
 
