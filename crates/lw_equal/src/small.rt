@@ -1,7 +1,8 @@
 // Sides of few inputs, by all assignments.
 ghost use Rattle.std.specs.Prelude.{◌≡◌, ◌^◌, ◌<◌, All, IfOk, IfSome, length};
 ghost use Rattle.lw_equal.specs.Answers.{IsDifference};
-ghost use Rattle.lw_equal.specs.Cases.{AreEnds, IsCase, IsLooked, Settles, one_of, other_of};
+ghost use Rattle.lw_equal.specs.Cases.{AreEnds, AreEndsOf, IsCase, IsLooked, Settles};
+ghost use Rattle.lw_equal.specs.Cases.{one_of, other_of};
 ghost use Rattle.lw_equal.specs.Known.{IsKnown};
 ghost use Rattle.lw_equal.specs.Pairs.{IsPair};
 ghost use Rattle.lw_equal.specs.Sides.{IsSide};
@@ -16,22 +17,28 @@ use crate::{Answer, Difference, Side};
 use lw_sweep::Sweep;
 use std::alloc::{AllocError, Global};
 
+// The literals of both nets of a pair, or none where one is missing.
+fn ends_at(case: &Case, pair: &Pair) -> Option<Ends>
+    ensures { IfSome result (AreEndsOf case.now pair.now) }
+{
+    let left = case.left.literals.get(pair.left.0 as usize)?;
+    let right = case.right.literals.get(pair.right.0 as usize)?;
+    Some(Ends {
+        left: *left,
+        right: *right,
+    })
+}
+
 // The literals of both nets of each pair, or none where one is missing.
 fn ends_of(alloc: Global, case: &Case, pairs: &[Pair]) -> Result<Option<Vec<Ends>>, AllocError>
     ensures { IfOk result (λ ends. IfSome ends (λ found. AreEnds case.now pairs.now found.items)) }
 {
     let mut ends = Vec::new(alloc);
     for pair in pairs {
-        let Some(left) = case.left.literals.get(pair.left.0 as usize) else {
+        let Some(both) = ends_at(case, pair) else {
             return Ok(None);
         };
-        let Some(right) = case.right.literals.get(pair.right.0 as usize) else {
-            return Ok(None);
-        };
-        ends.push(Ends {
-            left: *left,
-            right: *right,
-        })?;
+        ends.push(both)?;
     }
     Ok(Some(ends))
 }

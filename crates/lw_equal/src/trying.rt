@@ -1,5 +1,5 @@
 // All assignments of few inputs, 64 at a time.
-ghost use Rattle.std.specs.Prelude.{◌≡◌, ◌+◌, ◌*◌, ◌<◌, ◌≤◌, ℕ, All, IfNone, IfOk, IfSome};
+ghost use Rattle.std.specs.Prelude.{◌≡◌, ◌+◌, ◌*◌, ◌<◌, ◌≤◌, ℕ, All, IfOk};
 ghost use Rattle.std.specs.Prelude.{IsTrue, length};
 ghost use Rattle.lw_aig.specs.Aigs.{IsAig, IsBelow, IsLater};
 ghost use Rattle.lw_genlib.specs.Words.{bit, block_count};
@@ -23,7 +23,7 @@ const LOW_INPUTS: [u64; 6] = [
 pub(crate) const MOST_TRIED: usize = 20;
 
 // How many words of 64 values are computed at most.
-const MOST_WORK: u64 = 2_147_483_648;
+const MOST_WORK: u64 = 1_073_741_824;
 
 // Two literals that are compared.
 #[derive(Clone, Copy)]
@@ -108,27 +108,35 @@ fn has_few_inputs(gates: &[Gate], inputs: usize) -> bool
     true
 }
 
-// The place of the first pair that differs in a block.
-fn first_apart(words: &[u64], ends: &[Ends]) -> Option<usize>
+// Whether both literals of each pair have the same values in a block.
+fn agree_in(words: &[u64], ends: &[Ends]) -> bool
     requires { All (AreBelow (length words.now)) ends.now }
-    ensures told { IfNone result (AgreeInBlock words.now ends.now) }
-    ensures inside { IfSome result (λ place. place < length ends.now) }
+    ensures { IsTrue result → AgreeInBlock words.now ends.now }
 {
-    for (place, both) in ends.iter().enumerate() {
+    for both in ends {
         if literal_word(words, both.left) != literal_word(words, both.right) {
-            return Some(place);
+            return false;
         }
     }
-    None
+    true
 }
 
-// The number of the first assignment of a block at which a pair differs.
-fn number_of(block: u64, words: &[u64], both: Ends) -> u64
-    requires { AreBelow (length words.now) both }
+// The first assignment of a block under which a pair differs: the place of the first pair that does,
+// and the number of the assignment.
+fn first_apart(words: &[u64], ends: &[Ends], block: u64) -> (usize, u64)
+    requires { All (AreBelow (length words.now)) ends.now }
 {
-    let apart = literal_word(words, both.left) ^ literal_word(words, both.right);
-    let place = apart.trailing_zeros() & 63;
-    block.wrapping_mul(64).wrapping_add(u64::from(place))
+    let mut place = 0;
+    let mut first = 64;
+    for (pair, both) in ends.iter().enumerate() {
+        let apart = literal_word(words, both.left) ^ literal_word(words, both.right);
+        if apart.trailing_zeros() < first {
+            place = pair;
+            first = apart.trailing_zeros();
+        }
+    }
+    let number = block.wrapping_mul(64).wrapping_add(u64::from(first));
+    (place, number)
 }
 
 // Whether all assignments can be tried within the limit of work.
@@ -160,8 +168,8 @@ pub(crate) fn try_all(
     let mut words = vec![in alloc; 0; gates.len()]?;
     for block in 0..blocks(inputs) {
         fill(gates, block, &mut words);
-        if let Some(place) = first_apart(&words, ends) {
-            let number = number_of(block, &words, ends[place]);
+        if !agree_in(&words, ends) {
+            let (place, number) = first_apart(&words, ends, block);
             return Ok(Tried::Apart(place, number));
         }
     }
