@@ -1,9 +1,11 @@
 -- What all assignments of few inputs tell of a graph.
-use Rattle.std.proofs.Common.{ℕ, zero, suc, ◌+◌, ◌-◌, ◌*◌, ◌<◌, ◌≤◌, ◌≡◌, ◌≢◌, Bool, true, false, not, ◌&&◌, ◌^◌, eqb, Some, List, length, set, get_or, slice_get, get_or-set_other, get_or-set_same, All, refl, ap, ap₂, sym, subst, ◌∙◌, arith}
+use Rattle.std.proofs.Common.{ℕ, zero, suc, ◌+◌, ◌-◌, ◌*◌, ◌%◌, ◌<◌, ◌≤◌, ◌≡◌, ◌≢◌, Bool, true, false, not, ◌&&◌, ◌^◌, eqb, if◌then◌else◌, Some, List, length, set, get_or, slice_get, get_or-set_other, get_or-set_same, All, refl, ap, ap₂, sym, subst, ◌∙◌, arith}
 use Rattle.std.specs.Prelude.{bit_and}
 use Rattle.std.specs.Int.{bit_at, bit_not, w64}
 use Rattle.std.proofs.lemmas.Nat.Bits.{bit_at-lt, bit_at-zero, bit_at_and, bit_at_not, bit_at_ones}
-use Rattle.std.proofs.lemmas.Option.{slice_get-get_or, slice_get_within}
+use Rattle.std.proofs.lemmas.Bool.{ne_eqb}
+use Rattle.std.proofs.lemmas.List.{get_or_default}
+use Rattle.std.proofs.lemmas.Option.{get_or_from_slice_get, slice_get-get_or, slice_get_within}
 use native.Mathlib.Decide.{dec_lt}
 use Rattle.lw_facts.proofs.Numbers.{min_bit, not_bit}
 use Rattle.lw_aig.specs.declared.gate.Gate.{Gate}
@@ -14,7 +16,7 @@ use Rattle.lw_aig.specs.Literals.{literal_value, node_of}
 use Rattle.lw_aig.proofs.Literals.{value_agrees}
 use Rattle.lw_genlib.specs.Words.{bit, block_count}
 use Rattle.lw_equal.specs.declared.trying.Ends.{Ends}
-use Rattle.lw_equal.specs.Trying.{AgreeInBlock, AreBelow, AreBlockWords, ArePairsEqual, HasFewInputs, IsWordOf, block_value, literal_bit, most_tried}
+use Rattle.lw_equal.specs.Trying.{AgreeIn, AreBelow, AreBlockWords, ArePairsEqual, IsFirst, HasFewInputs, IsWordOf, block_value, literal_bit, most_tried}
 use Rattle.lw_equal.proofs.Numbered.{each_has_number}
 
 -- Bits of words.
@@ -31,6 +33,12 @@ module _ (k : ℕ) (lt : k < 64) where
 
   pub zero_bits : bit k 0 ≡ false
   zero_bits = ap (λ x. eqb x 1) (bit_at-zero k)
+
+-- the word of a literal that is a complement
+pub turned_bits : (words : List ℕ) (k : ℕ) (l : Literal) → k < 64 → get_or words (node_of l) 0 < 2 ^ 64 → l.0 % 2 ≢ 0 → bit k (bit_not w64 (get_or words (node_of l) 0)) ≡ literal_bit words k l
+turned_bits words k l lt small odd =
+    not_bits k lt (get_or words (node_of l) 0) small
+    ∙ sym (ap (λ e. if e then bit k (get_or words (node_of l) 0) else not (bit k (get_or words (node_of l) 0))) (ne_eqb (l.0 % 2) 0 odd))
 
 -- The values of the inputs give those of all nodes.
 module _ (gates : List Gate) (aig : IsAig gates) (v w : ℕ → Bool) (first : AreNodeValues gates v) (second : AreNodeValues gates w) (inputs : (n : ℕ) → slice_get gates n ≡ Some Input → v n ≡ w n) where
@@ -95,8 +103,9 @@ word_more gates node block word words gate aig one at are is = record { each = �
         (subst (λ w. IsWordOf g node block (set words node word) w k) (sym (get_or-set_same words node word 0 inside))
         (subst (λ h. IsWordOf h node block (set words node word) word k) gate_is here))
 
-pub words_of_all : (gates : List Gate) (node block : ℕ) (words : List ℕ) → length gates ≤ node → AreWordsTo gates node block words → AreBlockWords gates block words
-words_of_all gates node block words past are = record {
+pub words_of_all : (gates : List Gate) (node block : ℕ) (words : List ℕ) → length words ≡ length gates → length gates ≤ node → AreWordsTo gates node block words → AreBlockWords gates block words
+words_of_all gates node block words one past are = record {
+  one_each = one;
   nodes = λ k kl. record { allowed = λ n gate at. by n k gate kl at };
   inputs = λ k i kl few at. are.each (i + 1) k Input (let within = slice_get_within gates (i + 1) Input at in omega arith) kl at i few refl;
 }
@@ -110,7 +119,7 @@ words_of_all gates node block words past are = record {
 pub record BlockAgrees (gates : List Gate) (ends : List Ends) (block : ℕ) : Type 0 where
   pub words : List ℕ
   pub are : AreBlockWords gates block words
-  pub agree : AgreeInBlock words ends
+  pub agree : All (AgreeIn words) ends
 
 pub one_more_block : (gates : List Gate) (ends : List Ends) (block : ℕ) → ((b : ℕ) → b < block → BlockAgrees gates ends b) → BlockAgrees gates ends block → (b : ℕ) → b < block + 1 → BlockAgrees gates ends b
 one_more_block gates ends block earlier here b lt = by (dec_lt b block)
@@ -118,6 +127,28 @@ one_more_block gates ends block earlier here b lt = by (dec_lt b block)
     by : Dec (b < block) → BlockAgrees gates ends b
     by (yes low) = earlier b low
     by (no high) = let same : block ≡ b = omega arith in subst (BlockAgrees gates ends) same here
+
+-- one more pair that agrees
+pub agree_more : (words : List ℕ) (ends : List Ends) (i : ℕ) → i < length ends → ((j : ℕ) (d : Ends) → j < i → AgreeIn words (get_or ends j d)) → AgreeIn words (get_or ends i (record { left = record { 0 = 0 }; right = record { 0 = 0 } }))
+    → (j : ℕ) (d : Ends) → j < i + 1 → AgreeIn words (get_or ends j d)
+agree_more words ends i lt earlier here j d low = by (dec_lt j i)
+  where
+    by : Dec (j < i) → AgreeIn words (get_or ends j d)
+    by (yes less) = earlier j d less
+    by (no high) =
+        let same : i ≡ j = omega arith in
+        subst (AgreeIn words) (get_or_default ends i (record { left = record { 0 = 0 }; right = record { 0 = 0 } }) d lt ∙ ap (λ n. get_or ends n d) same) here
+
+-- one more node that is no late input
+pub first_more : (gates : List Gate) (inputs node : ℕ) → ((n : ℕ) → n < node → slice_get gates n ≡ Some Input → n ≤ inputs) → IsFirst (get_or gates node Zero) node inputs
+    → (n : ℕ) → n < node + 1 → slice_get gates n ≡ Some Input → n ≤ inputs
+first_more gates inputs node earlier here n low at = by (dec_lt n node)
+  where
+    by : Dec (n < node) → n ≤ inputs
+    by (yes less) = earlier n less at
+    by (no high) =
+        let same : node ≡ n = omega arith in
+        subst (λ g. IsFirst g n inputs) (get_or_from_slice_get gates n Input Zero at) (subst (λ m. IsFirst (get_or gates m Zero) m inputs) same here)
 
 unlike : Some Zero ≡ Some Input → ⊥
 unlike e = cc
@@ -149,5 +180,5 @@ pairs_equal gates inputs ends aig few own below blocks j d lt = record {
   always = λ v nodes.
       let number = each_has_number (λ i. v (i + 1)) inputs in
       let told = blocks number.block number.within in
-      one_in_block gates inputs aig few own v nodes number.block number.k number.below number.bits told.words told.are (get_or ends j d) (below j d lt) (told.agree number.k number.below j d lt);
+      one_in_block gates inputs aig few own v nodes number.block number.k number.below number.bits told.words told.are (get_or ends j d) (below j d lt) (told.agree j d lt number.k number.below);
 }

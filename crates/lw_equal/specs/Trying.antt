@@ -1,5 +1,5 @@
 -- All assignments of few inputs, 64 at a time: bit k of a word is the value under assignment k of a block.
-use Rattle.std.specs.Prelude.{ℕ, ◌+◌, ◌*◌, ◌<◌, ◌≤◌, ◌≡◌, Bool, false, ◌&&◌, ⊤, Some, List, slice_get}
+use Rattle.std.specs.Prelude.{ℕ, ◌+◌, ◌*◌, ◌<◌, ◌≤◌, ◌≡◌, Bool, false, ◌&&◌, ⊤, Some, List, length, slice_get}
 use Rattle.std.specs.Prelude.{slice_index, All}
 use Rattle.lw_aig.specs.declared.gate.Gate.{Gate}
 use Rattle.lw_aig.specs.declared.gate.Gate.TheVariants.{Zero, Input, And}
@@ -32,9 +32,16 @@ IsWordOf (And a b) node block words word k = bit k word ≡ (literal_bit words k
 
 -- The words are the values of the nodes in a block, in which assignment n gives input i bit i of n.
 pub record AreBlockWords (gates : List Gate) (block : ℕ) (words : List ℕ) : Type 0 where
+  pub one_each : length words ≡ length gates
   pub nodes : (k : ℕ) → k < 64 → AreNodeValues gates (block_value words k)
   pub inputs : (k i : ℕ) → k < 64 → i < most_tried → slice_get gates (i + 1) ≡ Some Input
       → block_value words k (i + 1) ≡ bit i (block * 64 + k)
+
+-- the node is one of the first so many inputs, if it is an input
+abbrev pub IsFirst : Gate → ℕ → ℕ → Type 0
+IsFirst Zero node inputs = ⊤
+IsFirst Input node inputs = node ≤ inputs
+IsFirst (And a b) node inputs = ⊤
 
 -- the graph has no inputs but its first so many
 abbrev pub HasFewInputs : List Gate → ℕ → Type 0
@@ -48,12 +55,11 @@ AreBelow n both = IsBelow n both.left × IsBelow n both.right
 abbrev pub ArePairsEqual : List Gate → List Ends → Type 0
 ArePairsEqual gates ends = All (λ both. AreEqual gates both.left both.right) ends
 
--- both literals of each pair have the same values in a block
-abbrev pub AgreeInBlock : List ℕ → List Ends → Type 0
-AgreeInBlock words ends =
-    (k : ℕ) → k < 64 → All (λ both. literal_bit words k both.left ≡ literal_bit words k both.right) ends
+-- both literals of a pair have the same values in a block
+abbrev pub AgreeIn : List ℕ → Ends → Type 0
+AgreeIn words both = (k : ℕ) → k < 64 → literal_bit words k both.left ≡ literal_bit words k both.right
 
--- What trying tells. An assignment that tells a pair apart is looked at before it is believed, so nothing is said of it.
+-- What trying tells. An assignment that tells a pair apart is looked at before it is believed: nothing is said of it.
 abbrev pub Tells : List Gate → List Ends → Tried → Type 0
 Tells gates ends Same = ArePairsEqual gates ends
 Tells gates ends (Apart place number) = ⊤

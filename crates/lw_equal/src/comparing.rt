@@ -14,7 +14,7 @@ use crate::known::Known;
 use crate::pairing::{Pair, all_pairs};
 use crate::placing::{Laid, lay};
 use crate::ports::compare_ports;
-use crate::small::solve_small;
+use crate::small::{NO_SEARCH, solve_small};
 use crate::{Answer, Counts, Fault, Outcome, Side};
 use lw_sweep::{Limits, Sweep};
 use std::alloc::{AllocError, Global};
@@ -24,14 +24,6 @@ const MOST_INPUTS: usize = 2147483647;
 
 // How many times the conflicts of other comparisons those of a point may have.
 const EFFORT: u32 = 10;
-
-// No comparison is searched.
-pub(crate) const NO_SEARCH: Limits = Limits {
-    tries: 0,
-    conflicts: 0,
-    steps: 0,
-    sums: false,
-};
 
 // Nothing is looked for at a point.
 const NO_EFFORT: Effort = Effort {

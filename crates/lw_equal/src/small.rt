@@ -7,15 +7,22 @@ ghost use Rattle.lw_equal.specs.Known.{IsKnown};
 ghost use Rattle.lw_equal.specs.Pairs.{IsPair};
 ghost use Rattle.lw_equal.specs.Sides.{IsSide};
 
-use crate::comparing::NO_SEARCH;
 use crate::deciding::{Case, copy_of, look};
 use crate::known::Known;
 use crate::pairing::Pair;
 use crate::placing::lay;
 use crate::trying::{Ends, MOST_TRIED, Tried, can_try, try_all};
 use crate::{Answer, Difference, Side};
-use lw_sweep::Sweep;
+use lw_sweep::{Limits, Sweep};
 use std::alloc::{AllocError, Global};
+
+// No comparison is searched.
+pub(crate) const NO_SEARCH: Limits = Limits {
+    tries: 0,
+    conflicts: 0,
+    steps: 0,
+    sums: false,
+};
 
 // The literals of both nets of a pair, or none where one is missing.
 fn ends_at(case: &Case, pair: &Pair) -> Option<Ends>

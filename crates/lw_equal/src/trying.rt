@@ -3,7 +3,7 @@ ghost use Rattle.std.specs.Prelude.{◌≡◌, ◌+◌, ◌*◌, ◌<◌, ◌≤
 ghost use Rattle.std.specs.Prelude.{IsTrue, length};
 ghost use Rattle.lw_aig.specs.Aigs.{IsAig, IsBelow, IsLater};
 ghost use Rattle.lw_genlib.specs.Words.{bit, block_count};
-ghost use Rattle.lw_equal.specs.Trying.{AgreeInBlock, AreBelow, AreBlockWords, HasFewInputs};
+ghost use Rattle.lw_equal.specs.Trying.{AgreeIn, AreBelow, AreBlockWords, HasFewInputs, IsFirst};
 ghost use Rattle.lw_equal.specs.Trying.{IsWordOf, Tells, literal_bit, most_tried};
 
 use lw_aig::{Gate, Literal};
@@ -96,25 +96,44 @@ fn fill(gates: &[Gate], block: u64, words: &mut [u64])
     }
 }
 
+// Whether a node is one of the first so many inputs, if it is an input.
+fn is_first(gate: Gate, node: usize, inputs: usize) -> bool
+    ensures { IsTrue result → IsFirst gate node inputs }
+{
+    match gate {
+        Gate::Zero => true,
+        Gate::Input => node <= inputs,
+        Gate::And(_, _) => true,
+    }
+}
+
 // Whether a graph has no inputs but its first so many.
 fn has_few_inputs(gates: &[Gate], inputs: usize) -> bool
     ensures { IsTrue result → HasFewInputs gates.now inputs }
 {
     for (node, gate) in gates.iter().enumerate() {
-        if *gate == Gate::Input && node > inputs {
+        if !is_first(*gate, node, inputs) {
             return false;
         }
     }
     true
 }
 
-// Whether both literals of each pair have the same values in a block.
-fn agree_in(words: &[u64], ends: &[Ends]) -> bool
+// Whether both literals of a pair have the same values in a block.
+fn agree(words: &[u64], both: Ends) -> bool
+    requires { AreBelow (length words.now) both }
+    ensures { IsTrue result → AgreeIn words.now both }
+{
+    literal_word(words, both.left) == literal_word(words, both.right)
+}
+
+// Whether both literals of each pair do.
+fn all_agree(words: &[u64], ends: &[Ends]) -> bool
     requires { All (AreBelow (length words.now)) ends.now }
-    ensures { IsTrue result → AgreeInBlock words.now ends.now }
+    ensures { IsTrue result → All (AgreeIn words.now) ends.now }
 {
     for both in ends {
-        if literal_word(words, both.left) != literal_word(words, both.right) {
+        if !agree(words, *both) {
             return false;
         }
     }
@@ -151,8 +170,26 @@ pub(crate) fn can_try(gates: &[Gate], inputs: usize) -> bool
     work <= MOST_WORK && has_few_inputs(gates, inputs)
 }
 
-// Tries all assignments on pairs of literals, block by block, up to the first block in which a pair
-// differs.
+// Tries all assignments on pairs of literals, up to the first under which a pair differs.
+fn try_blocks(gates: &[Gate], inputs: usize, ends: &[Ends], words: &mut [u64]) -> Tried
+    requires aig { IsAig gates.now }
+    requires few { inputs ≤ most_tried }
+    requires own { HasFewInputs gates.now inputs }
+    requires within { All (AreBelow (length gates.now)) ends.now }
+    requires one_each { length words.old ≡ length gates.now }
+    ensures { Tells gates.now ends.now result }
+{
+    for block in 0..blocks(inputs) {
+        fill(gates, block, words);
+        if !all_agree(words, ends) {
+            let (place, number) = first_apart(words, ends, block);
+            return Tried::Apart(place, number);
+        }
+    }
+    Tried::Same
+}
+
+// The same, in memory of its own.
 pub(crate) fn try_all(
     alloc: Global,
     gates: &[Gate],
@@ -166,12 +203,5 @@ pub(crate) fn try_all(
     ensures { IfOk result (Tells gates.now ends.now) }
 {
     let mut words = vec![in alloc; 0; gates.len()]?;
-    for block in 0..blocks(inputs) {
-        fill(gates, block, &mut words);
-        if !agree_in(&words, ends) {
-            let (place, number) = first_apart(&words, ends, block);
-            return Ok(Tried::Apart(place, number));
-        }
-    }
-    Ok(Tried::Same)
+    Ok(try_blocks(gates, inputs, ends, &mut words))
 }
