@@ -140,8 +140,8 @@ fn all_agree(words: &[u64], ends: &[Ends]) -> bool
     true
 }
 
-// The first assignment of a block under which a pair differs: the place of the first pair that does,
-// and the number of the assignment.
+// The first assignment of a block under which a pair differs: the place of the first pair that
+// does, and the number of the assignment.
 fn first_apart(words: &[u64], ends: &[Ends], block: u64) -> (usize, u64)
     requires { All (AreBelow (length words.now)) ends.now }
 {
