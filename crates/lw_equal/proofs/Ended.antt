@@ -57,9 +57,10 @@ module _ (gates : List Gate) (case : Case) (pairs : List Pair) (ends : List Ends
       let one = are.one_each in
       let at = are.each j some_pair d (omega arith) in
       let both = get_or ends j d in
-      let pair = get_or pairs j some_pair in
-      (below_at (length gates) case.left.now.literals.items pair.left.0 both.left is.left.within at.left,
-      below_at (length gates) case.right.now.literals.items pair.right.0 both.right is.right.within at.right)
+      let pair = get_or pairs j some_pair in (
+        below_at (length gates) case.left.now.literals.items pair.left.0 both.left is.left.within at.left,
+        below_at (length gates) case.right.now.literals.items pair.right.0 both.right is.right.within at.right,
+      )
 
   -- where literals are equal, nets have one value
   pub all_one : IsAig gates → ArePairsEqual gates ends → AreJudged (one_of case) (other_of case) pairs []
