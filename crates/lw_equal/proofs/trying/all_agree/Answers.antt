@@ -9,4 +9,4 @@ pub loop-both-preserved : goal.loop-both-preserved
 loop-both-preserved c = agree_more c.args.words.now c.args.ends.now c.loop-both.both-index c.loop-both-test.true c.loop-both.invariant (c.agree.ensures c.if-not-agree.false)
 
 pub returns : goal.returns
-returns c yes j d lt = c.loop-both.invariant j d (omega (arith, lt, c.loop-both-test.false))
+returns c same j d lt = c.loop-both.invariant j d (omega (arith, lt, c.loop-both-test.false))

@@ -11,4 +11,4 @@ pub loop-node-preserved : goal.loop-node-preserved
 loop-node-preserved c = first_more c.args.gates.now c.args.inputs c.loop-node.node c.loop-node.invariant (c.is_first.ensures c.if-not-is_first.false)
 
 pub returns : goal.returns
-returns c yes n at = c.loop-node.invariant n (omega (arith, slice_get_within c.args.gates.now n Input at, c.loop-node-test.false)) at
+returns c same n at = c.loop-node.invariant n (omega (arith, slice_get_within c.args.gates.now n Input at, c.loop-node-test.false)) at

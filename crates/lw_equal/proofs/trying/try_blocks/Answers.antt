@@ -9,8 +9,8 @@ loop-block-init c = record { size = c.requires.one_each; earlier = λ b lt. absu
 pub all_agree-requires : goal.all_agree-requires
 all_agree-requires c = subst (λ n. All (AreBelow n) c.args.ends.now) (sym c.fill.ensures.one_each) c.requires.within
 
-pub first_apart-requires : goal.first_apart-requires
-first_apart-requires c = subst (λ n. All (AreBelow n) c.args.ends.now) (sym c.fill.ensures.one_each) c.requires.within
+pub first_apart-place-requires : goal.first_apart-place-requires
+first_apart-place-requires c = subst (λ n. All (AreBelow n) c.args.ends.now) (sym c.fill.ensures.one_each) c.requires.within
 
 pub loop-block-preserved : goal.loop-block-preserved
 loop-block-preserved c = record {
@@ -20,4 +20,4 @@ loop-block-preserved c = record {
 }
 
 pub returns : goal.returns
-returns c = pairs_equal c.args.gates.now c.args.inputs c.args.ends.now c.requires.aig c.requires.few c.requires.own c.requires.within (λ b lt. c.loop-block.invariant.earlier b (omega (arith, lt, c.loop-block-test.false, c.blocks.ensures)))
+returns c = pairs_equal c.args.gates.now c.args.inputs c.args.ends.now c.requires.aig c.requires.few c.requires.own c.requires.within (λ b lt. c.loop-block.invariant.earlier b (omega (arith, lt, c.loop-block-test.false, c.blocks-block-end.ensures)))
