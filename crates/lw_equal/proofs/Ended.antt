@@ -10,7 +10,6 @@ use Rattle.lw_equal.specs.declared.deciding.Case.{Case}
 use Rattle.lw_equal.specs.declared.pairing.Pair.{Pair}
 use Rattle.lw_equal.specs.declared.point.Kind.TheVariants.{Output}
 use Rattle.lw_equal.specs.declared.trying.Ends.{Ends}
-use Rattle.lw_equal.specs.Answers.{HaveOneValue}
 use Rattle.lw_equal.specs.Cases.{AreEnds, AreEndsOf, AreJudged, IsCase, one_of, other_of}
 use Rattle.lw_equal.specs.Trying.{AreBelow, ArePairsEqual}
 use Rattle.lw_equal.proofs.Laying.{one_value}

@@ -1,5 +1,5 @@
 -- What all assignments of few inputs tell of a graph.
-use Rattle.std.proofs.Common.{ℕ, zero, suc, ◌+◌, ◌-◌, ◌*◌, ◌%◌, ◌<◌, ◌≤◌, ◌≡◌, ◌≢◌, Bool, true, false, not, ◌&&◌, ◌^◌, eqb, if◌then◌else◌, Some, List, length, set, get_or, slice_get, get_or-set_other, get_or-set_same, All, refl, ap, ap₂, sym, subst, ◌∙◌, arith}
+use Rattle.std.proofs.Common.{ℕ, zero, suc, ◌+◌, ◌*◌, ◌%◌, ◌<◌, ◌≤◌, ◌≡◌, ◌≢◌, Bool, true, false, not, ◌&&◌, ◌^◌, eqb, if◌then◌else◌, Some, List, length, set, get_or, slice_get, get_or-set_other, get_or-set_same, All, refl, ap, ap₂, sym, subst, ◌∙◌, arith}
 use Rattle.std.specs.Prelude.{bit_and}
 use Rattle.std.specs.Int.{bit_at, bit_not, w64}
 use Rattle.std.proofs.lemmas.Nat.Bits.{bit_at-lt, bit_at-zero, bit_at_and, bit_at_not, bit_at_ones}
@@ -11,7 +11,7 @@ use Rattle.lw_facts.proofs.Numbers.{min_bit, not_bit}
 use Rattle.lw_aig.specs.declared.gate.Gate.{Gate}
 use Rattle.lw_aig.specs.declared.gate.Gate.TheVariants.{Zero, Input, And}
 use Rattle.lw_aig.specs.declared.literal.Literal.{Literal}
-use Rattle.lw_aig.specs.Aigs.{Allows, AreEqual, AreNodeValues, IsAig, IsBelow, IsLater}
+use Rattle.lw_aig.specs.Aigs.{Allows, AreNodeValues, IsAig, IsBelow, IsLater}
 use Rattle.lw_aig.specs.Literals.{literal_value, node_of}
 use Rattle.lw_aig.proofs.Literals.{value_agrees}
 use Rattle.lw_genlib.specs.Words.{bit, block_count}
