@@ -4,6 +4,15 @@ use Rattle.lw_equal.specs.Trying.{AreBelow, ArePairsEqual}
 use Rattle.lw_equal.proofs.Ended.{all_one, ends_below}
 use Rattle.lw_equal.proofs.small.try_in.Goals as goal
 
+pub try_all-requires-clause-aig : goal.try_all-requires-clause-aig
+try_all-requires-clause-aig c = subst IsAig (sym c.gates-gates.ensures.gates) c.gates-gates.ensures.kept
+
+pub try_all-requires-clause-few : goal.try_all-requires-clause-few
+try_all-requires-clause-few c = c.can_try.ensures.few c.if-not-can_try.false
+
+pub try_all-requires-clause-own : goal.try_all-requires-clause-own
+try_all-requires-clause-own c = c.can_try.ensures.own c.if-not-can_try.false
+
 pub try_all-requires-clause-within : goal.try_all-requires-clause-within
 try_all-requires-clause-within c =
     let found = rw c.in-Some.is at c.in_ok-ends.ensures in
