@@ -81,7 +81,11 @@ fn effort_of(limits: &Limits) -> Effort {
 
 // The same, or no effort where sums are to be brought to one form first.
 fn effort_in(sweep: &Sweep, effort: Effort) -> Effort {
-    if sweep.wants_sums() { NO_EFFORT } else { effort }
+    if sweep.wants_sums() {
+        NO_EFFORT
+    } else {
+        effort
+    }
 }
 
 // The same limits, with sums in one form.
