@@ -23,6 +23,8 @@ extended_both old middle new first second =
     let b = second.longer in
     record { kept = λ n gate e. second.kept n gate (first.kept n gate e); longer = omega arith }
 
+pub ruleset growth = (extended_itself, extended_both)
+
 -- one gate is appended, and then more
 pub grown : (old middle new : List Gate) (gate : Gate) → middle ≡ old ++ gate ∷ [] → IsExtended middle new → IsExtended old new
 grown old middle new gate e extended = extended_both old middle new (subst (IsExtended old) (sym e) (extended_push old gate)) extended

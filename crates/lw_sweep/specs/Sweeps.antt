@@ -27,4 +27,6 @@ inputs_alone inputs = Zero ∷ replicate inputs Input
 
 -- in each graph that has both literals, this one is their conjunction
 abbrev pub IsAlwaysConjunction : Literal → Literal → Literal → Type 0
-IsAlwaysConjunction left right l = (gates : List Gate) → IsAig gates → IsBelow (length gates) left → IsBelow (length gates) right → IsConjunction gates left right l
+IsAlwaysConjunction left right l =
+    (gates : List Gate) → IsAig gates → IsBelow (length gates) left → IsBelow (length gates) right →
+    IsConjunction gates left right l

@@ -1,4 +1,5 @@
-// Nodes by the hash of their signature: by slot the last node of a chain, by node the one before it.
+// Nodes by the hash of their signature: by slot the last node of a chain, by node the one before
+// it.
 use std::alloc::{AllocError, Global};
 
 // How many slots a new table has. Their number is always a power of 2.

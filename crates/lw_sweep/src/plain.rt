@@ -77,7 +77,7 @@ impl Sweep {
 
     // The exclusive disjunction of two literals in nodes of its own, if there is room. The graph
     // grows.
-    #[tactic(auto, using(crate::proofs::Growing::extended_itself, crate::proofs::Growing::extended_both))]
+    #[tactic(auto, using(crate::proofs::Growing::growth))]
     pub(crate) fn exclusive(
         &mut self,
         alloc: Global,
@@ -94,7 +94,7 @@ impl Sweep {
     }
 
     // Each of two literals without the other one.
-    #[tactic(auto, using(crate::proofs::Growing::extended_itself, crate::proofs::Growing::extended_both))]
+    #[tactic(auto, using(crate::proofs::Growing::growth))]
     fn differences(
         &mut self,
         alloc: Global,
@@ -141,7 +141,7 @@ impl Sweep {
     }
 
     // The same for an exclusive disjunction in nodes of its own.
-    #[tactic(auto, using(crate::proofs::Growing::extended_itself, crate::proofs::Growing::extended_both))]
+    #[tactic(auto, using(crate::proofs::Growing::growth))]
     pub(crate) fn renew_exclusive(
         &mut self,
         alloc: Global,

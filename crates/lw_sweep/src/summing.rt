@@ -53,7 +53,7 @@ impl Sweep {
 
     // The sum in the form of two sums in the form, which stands for their exclusive disjunction.
     // The graph grows.
-    #[tactic(auto, using(crate::proofs::Growing::extended_itself, crate::proofs::Growing::extended_both))]
+    #[tactic(auto, using(crate::proofs::Growing::growth))]
     fn add_sums(&mut self, alloc: Global, task: Task) -> Result<Option<Literal>, AllocError>
         ensures { IsExtended self.old self.new }
     {
@@ -72,7 +72,7 @@ impl Sweep {
 
     // One step: takes the last task away, if its sum is known now, or puts others on it that come
     // first. Whether it does.
-    #[tactic(auto, using(crate::proofs::Growing::extended_itself, crate::proofs::Growing::extended_both))]
+    #[tactic(auto, using(crate::proofs::Growing::growth))]
     fn add_step(
         &mut self,
         alloc: Global,
@@ -109,7 +109,7 @@ impl Sweep {
     }
 
     // Adds two sums by their halves, or puts the sums of these on the tasks.
-    #[tactic(auto, using(crate::proofs::Growing::extended_itself, crate::proofs::Growing::extended_both))]
+    #[tactic(auto, using(crate::proofs::Growing::growth))]
     fn add_halves(
         &mut self,
         alloc: Global,
@@ -148,7 +148,7 @@ impl Sweep {
     }
 
     // Lets the sum of the sums of halves stand for the exclusive disjunction of two sums.
-    #[tactic(auto, using(crate::proofs::Growing::extended_itself, crate::proofs::Growing::extended_both))]
+    #[tactic(auto, using(crate::proofs::Growing::growth))]
     fn cross(
         &mut self,
         alloc: Global,
@@ -176,7 +176,7 @@ impl Sweep {
     }
 
     // The exclusive disjunction of those of halves.
-    #[tactic(auto, using(crate::proofs::Growing::extended_itself, crate::proofs::Growing::extended_both))]
+    #[tactic(auto, using(crate::proofs::Growing::growth))]
     fn crossed(
         &mut self,
         alloc: Global,
@@ -196,7 +196,7 @@ impl Sweep {
 
     // Adds a sum in the form to an exclusive disjunction, and to the sum in the form that stands
     // for it.
-    #[tactic(auto, using(crate::proofs::Growing::extended_itself, crate::proofs::Growing::extended_both))]
+    #[tactic(auto, using(crate::proofs::Growing::growth))]
     fn add_leaf(
         &mut self,
         alloc: Global,
@@ -223,7 +223,7 @@ impl Sweep {
     }
 
     // The exclusive disjunction of some leaves, for which a sum in the form stands.
-    #[tactic(auto, using(crate::proofs::Growing::extended_itself, crate::proofs::Growing::extended_both))]
+    #[tactic(auto, using(crate::proofs::Growing::growth))]
     fn sum_of_leaves(
         &mut self,
         alloc: Global,
@@ -244,7 +244,7 @@ impl Sweep {
     }
 
     // The same for two literals and a leaf, if that is taken.
-    #[tactic(auto, using(crate::proofs::Growing::extended_itself, crate::proofs::Growing::extended_both))]
+    #[tactic(auto, using(crate::proofs::Growing::growth))]
     fn add_if(
         &mut self,
         alloc: Global,
@@ -262,7 +262,7 @@ impl Sweep {
     }
 
     // Writes leaves that are sums of others as those: whether there was room. The others are left.
-    #[tactic(auto, using(crate::proofs::Growing::extended_itself, crate::proofs::Growing::extended_both))]
+    #[tactic(auto, using(crate::proofs::Growing::growth))]
     fn free_leaves(
         &mut self,
         alloc: Global,
@@ -282,7 +282,7 @@ impl Sweep {
     }
 
     // The same for one leaf, and the members of its sum.
-    #[tactic(auto, using(crate::proofs::Growing::extended_itself, crate::proofs::Growing::extended_both))]
+    #[tactic(auto, using(crate::proofs::Growing::growth))]
     fn free_leaf(
         &mut self,
         alloc: Global,
@@ -307,7 +307,7 @@ impl Sweep {
 
     // The conjunction at a node, with its leaves as they are written: what stands for it is what
     // stands for the node.
-    #[tactic(auto, using(crate::proofs::Growing::extended_itself, crate::proofs::Growing::extended_both))]
+    #[tactic(auto, using(crate::proofs::Growing::growth))]
     fn rewrite(&mut self, alloc: Global, cone: &mut Cone, node: u32) -> Result<bool, AllocError>
         ensures { IsExtended self.old self.new }
     {
@@ -327,7 +327,7 @@ impl Sweep {
     }
 
     // The same for all nodes of a cone.
-    #[tactic(auto, using(crate::proofs::Growing::extended_itself, crate::proofs::Growing::extended_both))]
+    #[tactic(auto, using(crate::proofs::Growing::growth))]
     fn rewrite_all(&mut self, alloc: Global, cone: &mut Cone) -> Result<bool, AllocError>
         ensures { IsExtended self.old self.new }
     {
@@ -363,7 +363,7 @@ impl Sweep {
     }
 
     // The same, where the leaves of the cone are known.
-    #[tactic(auto, using(crate::proofs::Growing::extended_itself, crate::proofs::Growing::extended_both))]
+    #[tactic(auto, using(crate::proofs::Growing::growth))]
     fn settle_cone(
         &mut self,
         alloc: Global,

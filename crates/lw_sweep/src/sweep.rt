@@ -359,8 +359,8 @@ impl Sweep {
         Ok(())
     }
 
-    // A literal that stands for a node: that of an earlier node with its patterns, if they are found
-    // to be equal, or else its own.
+    // A literal that stands for a node: that of an earlier node with its patterns, if they are
+    // found to be equal, or else its own.
     fn seek(&mut self, alloc: Global, node: u32, tries: u32) -> Result<Literal, AllocError>
         requires { node < length self.old }
         ensures kept { self.new ≡ self.old }
@@ -427,7 +427,8 @@ impl Sweep {
         Ok(None)
     }
 
-    // Leaves a comparison of a node open. If it looks like a sum, that is to be brought to the form.
+    // Leaves a comparison of a node open. If it looks like a sum, that is to be brought to the
+    // form.
     fn leave_open(&mut self, own: Literal)
         ensures { self.new ≡ self.old }
     {
