@@ -19,11 +19,11 @@ CRATES = Path(__file__).resolve().parent.parent / "crates"
 
 # clause: its definition, and the most files, lines, and lines beside the formats
 CLAUSES = {
-    "mapping": ("lw_top.specs.Mappings.IsMappingText", 50, 1700, 600),
+    "mapping": ("lw_top.specs.Mappings.IsMappingText", 48, 1650, 600),
     "no_cover": ("lw_top.specs.Mappings.LacksOutput", 45, 1450, 500),
     "checked": ("lw_top.specs.Mappings.IsCheckedMapping", 60, 2200, 600),
     "tables": ("lw_top.specs.Tabled.AreTables", 40, 1100, 400),
-    "trading": ("lw_top.specs.Traded.IsTrade", 65, 2000, 680),
+    "trading": ("lw_top.specs.Traded.IsTrade", 61, 2000, 680),
     "complete": ("lw_top.specs.Answers.IsAnswer", 125, 4000, 2550),
 }
 
