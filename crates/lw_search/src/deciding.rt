@@ -1,5 +1,7 @@
 // What a search begins with, decides, and goes back to.
 use crate::cones::Cones;
+use crate::queue::Queue;
+use crate::stack::short;
 use crate::trail::{Trail, Truth};
 use crate::watches::Watches;
 use lw_aig::{Gate, Literal};
@@ -25,45 +27,77 @@ fn open_sides(
 }
 
 // The complement of the higher side of the highest conjunction that is false with both sides open.
-pub(crate) fn pick(trail: &Trail, cones: &Cones, gates: &[Gate]) -> Option<Literal> {
-    let mut highest = 0;
-    let mut picked = None;
-    for place in 0..trail.len() {
-        if let Some(literal) = trail.get(place) {
-            if literal.node() > highest {
-                if let Some((a, b)) = open_sides(trail, cones, gates, literal) {
-                    highest = literal.node();
-                    picked = Some(if a.0 > b.0 { a.flip() } else { b.flip() });
-                }
+pub(crate) fn pick(
+    queue: &mut Queue,
+    trail: &Trail,
+    cones: &Cones,
+    gates: &[Gate],
+) -> Option<Literal> {
+    queue.look(trail, cones, gates);
+    let level = short(trail.level());
+    for _ in 0..gates.len() {
+        let node = queue.pop()?;
+        let literal = Literal(node.wrapping_mul(2).wrapping_add(1));
+        if trail.truth(literal) == Truth::True {
+            if let Some((a, b)) = open_sides(trail, cones, gates, literal) {
+                queue.settle(node, level.wrapping_add(1));
+                return Some(if a.0 > b.0 { a.flip() } else { b.flip() });
             }
+            queue.settle(node, level);
         }
     }
-    picked
+    None
 }
 
 // Makes true what is known without an assignment: the complement of the constant, and the clauses
 // of one literal.
-pub(crate) fn begin(trail: &mut Trail, watches: &Watches, cones: &Cones, clauses: &Clauses) {
+pub(crate) fn begin(
+    trail: &mut Trail,
+    queue: &mut Queue,
+    watches: &Watches,
+    cones: &Cones,
+    clauses: &Clauses,
+) {
     trail.clear();
+    queue.clear();
     trail.put(Literal(1), Cause::Zero(0));
-    for number in watches.units() {
-        let clause = clauses.clause(*number).unwrap_or(&[]);
-        if let Some(literal) = clause.first() {
-            if cones.has(literal.node()) {
-                trail.put(*literal, Cause::Clause(*number));
+    if watches.units().len() > cones.nodes().len() {
+        for node in cones.nodes() {
+            if let Some(number) = watches.unit_of(*node) {
+                begin_with(trail, cones, clauses, number);
             }
+        }
+    } else {
+        for number in watches.units() {
+            begin_with(trail, cones, clauses, *number);
+        }
+    }
+}
+
+// Makes the literal of a clause true, if it is one of the query.
+fn begin_with(trail: &mut Trail, cones: &Cones, clauses: &Clauses, number: u32) {
+    let clause = clauses.clause(number).unwrap_or(&[]);
+    if let Some(literal) = clause.first() {
+        if cones.has(literal.node()) {
+            trail.put(*literal, Cause::Clause(number));
         }
     }
 }
 
 // Goes back to the level of the second literal of a clause, where the first one is forced: whether
 // it is.
-pub(crate) fn turn_back(trail: &mut Trail, clause: &[Literal], number: u32) -> bool {
+pub(crate) fn turn_back(
+    trail: &mut Trail,
+    queue: &mut Queue,
+    clause: &[Literal],
+    number: u32,
+) -> bool {
     let level = match clause.get(1) {
         Some(second) => trail.level_of(second.node()),
         None => 0,
     };
     trail.back(level as usize);
+    queue.back(level, trail.len());
     match clause.first() {
         Some(first) => trail.put(*first, Cause::Clause(number)),
         None => false,

@@ -15,6 +15,8 @@ mod deciding;
 mod found;
 mod lesson;
 mod querying;
+mod queue;
+mod room;
 mod search;
 mod spreading;
 mod stack;

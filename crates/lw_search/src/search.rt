@@ -1,4 +1,4 @@
-ghost use Rattle.std.specs.Prelude.{◌≡◌, ◌<◌, ◌++◌, [], ◌∷◌, length, IfOk, OnErr};
+ghost use Rattle.std.specs.Prelude.{◌≡◌, ◌<◌, ◌++◌, [], ◌∷◌, length, IfOk, IfSome, OnErr};
 
 use crate::Found;
 use crate::analysing::trace;
@@ -6,6 +6,8 @@ use crate::cones::Cones;
 use crate::deciding::{begin, pick, turn_back};
 use crate::lesson::Lesson;
 use crate::querying::{learn, refutes};
+use crate::queue::Queue;
+use crate::room::Room;
 use crate::spreading::spread;
 use crate::trail::{Trail, Truth};
 use crate::watches::Watches;
@@ -17,6 +19,14 @@ use std::marker::Model;
 // How many literals the clauses have at most when a query begins.
 const MOST_LITERALS: usize = 100_000;
 
+// How many nodes a first query goes down to, and how many conflicts it may have.
+const FEW_NODES: usize = 256;
+
+const FEW_TRIES: u32 = 30;
+
+// How many literals the clauses may have, before a query is left open.
+const ALL_LITERALS: usize = 4_000_000;
+
 /// A search over an and-inverter graph. Its clauses live from query to query.
 #[derive(Debug, Drop)]
 pub struct Search {
@@ -25,6 +35,8 @@ pub struct Search {
     watches: Watches,
     cones: Cones,
     lesson: Lesson,
+    queue: Queue,
+    room: Room,
     // Conflicts so far, how many more this search may have, and how many more values all searches
     // may spread.
     conflicts: u64,
@@ -56,6 +68,8 @@ impl Search {
             watches: Watches::new(alloc),
             cones: Cones::new(alloc),
             lesson: Lesson::new(alloc),
+            queue: Queue::new(alloc),
+            room: Room::new(),
             conflicts: 0,
             tries: 0,
             steps,
@@ -96,12 +110,16 @@ impl Search {
         ensures ok { IfOk result (λ _. self.new ≡ self.old ++ And left right ∷ []) }
         ensures err { OnErr result (self.new ≡ self.old) }
     {
+        self.room.grow();
         self.clauses.push_and(alloc, left, right)
     }
 
     /// Whether two literals have one value under every assignment, with so many conflicts both ways
     /// at most. The search goes down to the nodes `stops` alone, which it takes to be free. After
     /// `Apart` it has values, of inputs too, that may tell the literals apart.
+    ///
+    /// First it goes down to the nodes close by. It goes on, and it begins, as long as all
+    /// comparisons together went to few nodes for each node of the graph.
     pub fn compare(
         &mut self,
         alloc: Global,
@@ -113,11 +131,89 @@ impl Search {
         ensures kept { self.new ≡ self.old }
         ensures told { IfOk result (Tells self.old left right) }
     {
-        let spent = self.steps == 0;
-        if spent {
+        if !self.room.has_near() {
             return Ok(Found::Open);
         }
-        self.enter(alloc, left, right, stops)?;
+        if let Some(found) = self.compare_near(alloc, left, right, stops, tries)? {
+            return Ok(found);
+        }
+        if !self.room.has_far() {
+            return Ok(Found::Open);
+        }
+        self.compare_far(alloc, left, right, stops, tries)
+    }
+
+    /// The same down to the inputs, whatever other comparisons took.
+    pub fn decide(
+        &mut self,
+        alloc: Global,
+        left: Literal,
+        right: Literal,
+        tries: u32,
+    ) -> Result<Found, AllocError>
+        ensures kept { self.new ≡ self.old }
+        ensures told { IfOk result (Tells self.old left right) }
+    {
+        if let Some(found) = self.compare_near(alloc, left, right, &[], tries)? {
+            return Ok(found);
+        }
+        self.compare_far(alloc, left, right, &[], tries)
+    }
+
+    // The same down to the nodes close by: none, if those further off may tell more.
+    fn compare_near(
+        &mut self,
+        alloc: Global,
+        left: Literal,
+        right: Literal,
+        stops: &[u32],
+        tries: u32,
+    ) -> Result<Option<Found>, AllocError>
+        ensures kept { self.new ≡ self.old }
+        ensures told { IfOk result (λ found. IfSome found (Tells self.old left right)) }
+    {
+        let spent = self.steps == 0;
+        if spent {
+            return Ok(Some(Found::Open));
+        }
+        self.enter(alloc, left, right, stops, FEW_NODES)?;
+        self.room.take_near(self.cones.nodes().len());
+        if !self.cones.is_cut() {
+            return Ok(Some(self.compare_both(left, right, tries)?));
+        }
+        match self.compare_both(left, right, FEW_TRIES)? {
+            Found::Equal => Ok(Some(Found::Equal)),
+            _ => Ok(None),
+        }
+    }
+
+    // The same down to all nodes.
+    fn compare_far(
+        &mut self,
+        alloc: Global,
+        left: Literal,
+        right: Literal,
+        stops: &[u32],
+        tries: u32,
+    ) -> Result<Found, AllocError>
+        ensures kept { self.new ≡ self.old }
+        ensures told { IfOk result (Tells self.old left right) }
+    {
+        self.enter(alloc, left, right, stops, usize::MAX)?;
+        self.room.take_far(self.cones.nodes().len());
+        self.compare_both(left, right, tries)
+    }
+
+    // The same in the cones of a query.
+    fn compare_both(
+        &mut self,
+        left: Literal,
+        right: Literal,
+        tries: u32,
+    ) -> Result<Found, AllocError>
+        ensures kept { self.new ≡ self.old }
+        ensures told { IfOk result (Tells self.old left right) }
+    {
         let there = self.run(&[left, right.flip()], tries)?;
         let Found::Equal = there else {
             return Ok(there);
@@ -133,6 +229,7 @@ impl Search {
         left: Literal,
         right: Literal,
         stops: &[u32],
+        most: usize,
     ) -> Result<(), AllocError>
         ensures { self.new ≡ self.old }
     {
@@ -141,12 +238,14 @@ impl Search {
         self.trail.fit(nodes)?;
         self.watches.fit(nodes)?;
         self.lesson.fit(nodes)?;
+        self.queue.fit(nodes)?;
         if self.clauses.literals() > MOST_LITERALS {
             self.clauses.forget(alloc, self.clauses.len() / 2)?;
             self.watches.renew(&self.clauses)?;
         }
         let roots = [left.node(), right.node()];
-        self.cones.enter(self.clauses.aig().gates(), roots, stops)
+        let gates = self.clauses.aig().gates();
+        self.cones.enter(gates, roots, stops, most)
     }
 
     // Begins a search: what is known without an assignment.
@@ -154,7 +253,13 @@ impl Search {
         ensures { self.new ≡ self.old }
     {
         self.tries = tries;
-        begin(&mut self.trail, &self.watches, &self.cones, &self.clauses);
+        begin(
+            &mut self.trail,
+            &mut self.queue,
+            &self.watches,
+            &self.cones,
+            &self.clauses,
+        );
     }
 
     // Looks for an assignment under which all roots are true.
@@ -177,6 +282,9 @@ impl Search {
         ensures refuted { IfOk result (MayRefute self.old roots.now) }
     {
         if self.steps == 0 {
+            return Ok(Some(Found::Open));
+        }
+        if self.clauses.literals() > ALL_LITERALS {
             return Ok(Some(Found::Open));
         }
         let failed = spread(
@@ -212,7 +320,8 @@ impl Search {
             self.trail.put(*root, Cause::Free);
             return Ok(None);
         }
-        let Some(literal) = pick(&self.trail, &self.cones, self.clauses.aig().gates()) else {
+        let gates = self.clauses.aig().gates();
+        let Some(literal) = pick(&mut self.queue, &self.trail, &self.cones, gates) else {
             return Ok(Some(Found::Apart));
         };
         self.trail.rise();
@@ -240,7 +349,8 @@ impl Search {
             return Ok(false);
         }
         self.tries = self.tries.saturating_sub(1);
-        Ok(turn_back(&mut self.trail, &self.lesson.clause, number))
+        let clause = &self.lesson.clause;
+        Ok(turn_back(&mut self.trail, &mut self.queue, clause, number))
     }
 
     // Traces a conflict of the roots back to a clause over their complements, which refutes them if

@@ -45,6 +45,15 @@ impl Stack {
         }
     }
 
+    // Writes a number at a place, if there is one.
+    pub(crate) fn write(&mut self, place: usize, item: u32) {
+        if place < self.count {
+            if let Some(there) = self.items.get_mut(place) {
+                *there = item;
+            }
+        }
+    }
+
     // Keeps the first numbers alone.
     pub(crate) fn cut(&mut self, count: usize) {
         self.count = self.count.min(count);

@@ -14,8 +14,9 @@ pub(crate) struct Watches {
     heads: Vec<u32>,
     links: Vec<u32>,
     places: Vec<u32>,
-    // The clauses of one literal.
+    // The clauses of one literal, and by node the last one of it.
     units: Vec<u32>,
+    unit_of: Vec<u32>,
 }
 
 impl Watches {
@@ -25,6 +26,7 @@ impl Watches {
             links: Vec::new(alloc),
             places: Vec::new(alloc),
             units: Vec::new(alloc),
+            unit_of: Vec::new(alloc),
         }
     }
 
@@ -32,12 +34,19 @@ impl Watches {
     pub(crate) fn fit(&mut self, nodes: usize) -> Result<(), AllocError> {
         if self.heads.len() / 2 < nodes {
             self.heads.resize(nodes.saturating_mul(2), NONE)?;
+            self.unit_of.resize(nodes, NONE)?;
         }
         Ok(())
     }
 
     pub(crate) fn units(&self) -> &[u32] {
         &self.units
+    }
+
+    // The clause of one literal of a node.
+    pub(crate) fn unit_of(&self, node: u32) -> Option<u32> {
+        let number = self.unit_of.get(node as usize).copied()?;
+        if number == NONE { None } else { Some(number) }
     }
 
     // How many watches there are.
@@ -92,8 +101,16 @@ impl Watches {
                 }
             }
         }
+        self.add_unit(number, clause)
+    }
+
+    // Takes a clause of one literal.
+    fn add_unit(&mut self, number: u32, clause: &[Literal]) -> Result<(), AllocError> {
         if clause.len() == 1 {
             self.units.push(number)?;
+            if let Some(literal) = clause.first() {
+                set(&mut self.unit_of, literal.node(), number);
+            }
         }
         Ok(())
     }
@@ -102,6 +119,9 @@ impl Watches {
     pub(crate) fn renew(&mut self, clauses: &Clauses) -> Result<(), AllocError> {
         for head in self.heads.iter_mut() {
             *head = NONE;
+        }
+        for unit in self.unit_of.iter_mut() {
+            *unit = NONE;
         }
         self.links.clear();
         self.places.clear();

@@ -11,6 +11,11 @@ pub(crate) const BASE: usize = 32;
 // is written over.
 const FURTHER: usize = 96;
 
+// How many numbers the further words have at most, those of all nodes, and how many are computed.
+const MOST_NUMBERS: usize = 16_777_216;
+
+const MOST_COMPUTED: u64 = 400_000_000;
+
 #[derive(Debug, Drop)]
 pub(crate) struct Patterns {
     // By node, the words that it has from the start.
@@ -18,6 +23,8 @@ pub(crate) struct Patterns {
     // The further words, each by node.
     further: Vec<Words>,
     oldest: usize,
+    // How many numbers of further words were computed.
+    computed: u64,
     random: Random,
 }
 
@@ -50,6 +57,11 @@ fn place(node: u32, word: usize) -> usize {
     (node as usize).wrapping_mul(BASE).wrapping_add(word)
 }
 
+// How many further words there may be for so many nodes.
+fn most_further(nodes: usize) -> usize {
+    FURTHER.min(MOST_NUMBERS / nodes.max(1))
+}
+
 // What an input has in a word: each value as often as the other, or one of them rarely.
 fn input_word(random: &mut Random, kind: usize) -> u64 {
     let (a, b, c) = (random.next(), random.next(), random.next());
@@ -72,6 +84,7 @@ impl Patterns {
             base: Vec::new(alloc),
             further: Vec::new(alloc),
             oldest: 0,
+            computed: 0,
             random: Random::new(),
         }
     }
@@ -100,6 +113,10 @@ impl Patterns {
             let a = word(&self.base, place(left.node(), k)) ^ x;
             let b = word(&self.base, place(right.node(), k)) ^ y;
             self.base.push(a & b)?;
+        }
+        let nodes = self.base.len() / BASE;
+        if self.further.len() > most_further(nodes) {
+            self.further.pop();
         }
         for words in self.further.iter_mut() {
             let a = word(&words.items, left.node() as usize) ^ x;
@@ -169,6 +186,11 @@ impl Patterns {
         }
     }
 
+    // Whether there may be a further word for so many nodes.
+    pub(crate) fn has_room(&self, nodes: usize) -> bool {
+        self.computed < MOST_COMPUTED && most_further(nodes) > 0
+    }
+
     // Takes a further word for each node, from those of the inputs, which come first.
     pub(crate) fn refine(&mut self, inputs: Vec<u64>, gates: &[Gate]) -> Result<(), AllocError> {
         let mut items = inputs;
@@ -183,13 +205,22 @@ impl Patterns {
             };
             items.push(value)?;
         }
-        if self.further.len() < FURTHER {
-            self.further.push(Words { items })?;
-        } else {
-            if let Some(words) = self.further.get_mut(self.oldest) {
-                *words = Words { items };
-            }
-            self.oldest = self.oldest.wrapping_add(1) % FURTHER;
+        self.computed = self.computed.saturating_add(gates.len() as u64);
+        self.take(Words { items }, most_further(gates.len()))
+    }
+
+    // Takes further words, in place of the oldest where there are so many.
+    fn take(&mut self, words: Words, most: usize) -> Result<(), AllocError> {
+        if self.further.len() < most {
+            self.further.push(words)?;
+            return Ok(());
+        }
+        if let Some(place) = self.further.get_mut(self.oldest) {
+            *place = words;
+        }
+        self.oldest = self.oldest.wrapping_add(1);
+        if self.oldest >= most {
+            self.oldest = 0;
         }
         Ok(())
     }

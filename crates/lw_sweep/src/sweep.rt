@@ -120,7 +120,7 @@ impl Sweep {
         if left == right {
             return Ok(Found::Equal);
         }
-        let found = self.search.compare(alloc, left, right, &[], tries)?;
+        let found = self.search.decide(alloc, left, right, tries)?;
         Ok(found)
     }
 
@@ -456,6 +456,10 @@ impl Sweep {
     fn refine(&mut self, alloc: Global) -> Result<(), AllocError>
         ensures { self.new ≡ self.old }
     {
+        let nodes = self.search.aig().gates().len();
+        if !self.patterns.has_room(nodes) {
+            return Ok(());
+        }
         let inputs = input_words(alloc, &self.search, &mut self.patterns, self.inputs)?;
         self.patterns.refine(inputs, self.search.aig().gates())
     }
