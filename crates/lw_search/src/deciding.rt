@@ -61,25 +61,12 @@ pub(crate) fn begin(
     trail.clear();
     queue.clear();
     trail.put(Literal(1), Cause::Zero(0));
-    if watches.units().len() > cones.nodes().len() {
-        for node in cones.nodes() {
-            if let Some(number) = watches.unit_of(*node) {
-                begin_with(trail, cones, clauses, number);
+    for node in cones.nodes() {
+        if let Some(number) = watches.unit(*node) {
+            let clause = clauses.clause(number).unwrap_or(&[]);
+            if let Some(literal) = clause.first() {
+                trail.put(*literal, Cause::Clause(number));
             }
-        }
-    } else {
-        for number in watches.units() {
-            begin_with(trail, cones, clauses, *number);
-        }
-    }
-}
-
-// Makes the literal of a clause true, if it is one of the query.
-fn begin_with(trail: &mut Trail, cones: &Cones, clauses: &Clauses, number: u32) {
-    let clause = clauses.clause(number).unwrap_or(&[]);
-    if let Some(literal) = clause.first() {
-        if cones.has(literal.node()) {
-            trail.put(*literal, Cause::Clause(number));
         }
     }
 }

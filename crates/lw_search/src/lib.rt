@@ -16,7 +16,6 @@ mod found;
 mod lesson;
 mod querying;
 mod queue;
-mod room;
 mod search;
 mod spreading;
 mod stack;

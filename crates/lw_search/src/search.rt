@@ -1,4 +1,4 @@
-ghost use Rattle.std.specs.Prelude.{◌≡◌, ◌<◌, ◌++◌, [], ◌∷◌, length, IfOk, IfSome, OnErr};
+ghost use Rattle.std.specs.Prelude.{◌≡◌, ◌<◌, ◌++◌, [], ◌∷◌, length, IfOk, OnErr};
 
 use crate::Found;
 use crate::analysing::trace;
@@ -7,7 +7,6 @@ use crate::deciding::{begin, pick, turn_back};
 use crate::lesson::Lesson;
 use crate::querying::{learn, refutes};
 use crate::queue::Queue;
-use crate::room::Room;
 use crate::spreading::spread;
 use crate::trail::{Trail, Truth};
 use crate::watches::Watches;
@@ -19,13 +18,18 @@ use std::marker::Model;
 // How many literals the clauses have at most when a query begins.
 const MOST_LITERALS: usize = 100_000;
 
-// How many nodes a first query goes down to, and how many conflicts it may have.
-const FEW_NODES: usize = 256;
+// Below how many nodes a first query goes down, and how many conflicts it may have.
+const FEW_NODES: usize = 64;
 
 const FEW_TRIES: u32 = 30;
 
 // How many literals the clauses may have, before a query is left open.
 const ALL_LITERALS: usize = 4_000_000;
+
+// How many nodes comparisons may go to, all together: so many, and so many more for each conjunction.
+const FIRST_ROOM: u64 = 20_000_000;
+
+const MORE_ROOM: u64 = 128;
 
 /// A search over an and-inverter graph. Its clauses live from query to query.
 #[derive(Debug, Drop)]
@@ -36,7 +40,8 @@ pub struct Search {
     cones: Cones,
     lesson: Lesson,
     queue: Queue,
-    room: Room,
+    // How many more nodes comparisons may go to.
+    room: u64,
     // Conflicts so far, how many more this search may have, and how many more values all searches
     // may spread.
     conflicts: u64,
@@ -69,7 +74,7 @@ impl Search {
             cones: Cones::new(alloc),
             lesson: Lesson::new(alloc),
             queue: Queue::new(alloc),
-            room: Room::new(),
+            room: FIRST_ROOM,
             conflicts: 0,
             tries: 0,
             steps,
@@ -110,16 +115,14 @@ impl Search {
         ensures ok { IfOk result (λ _. self.new ≡ self.old ++ And left right ∷ []) }
         ensures err { OnErr result (self.new ≡ self.old) }
     {
-        self.room.grow();
+        self.room = self.room.saturating_add(MORE_ROOM);
         self.clauses.push_and(alloc, left, right)
     }
 
     /// Whether two literals have one value under every assignment, with so many conflicts both ways
     /// at most. The search goes down to the nodes `stops` alone, which it takes to be free. After
-    /// `Apart` it has values, of inputs too, that may tell the literals apart.
-    ///
-    /// First it goes down to the nodes close by. It goes on, and it begins, as long as all
-    /// comparisons together went to few nodes for each node of the graph.
+    /// `Apart` it has values, of inputs too, that may tell the literals apart. A comparison is left
+    /// open where all together went to many nodes for each conjunction of the graph.
     pub fn compare(
         &mut self,
         alloc: Global,
@@ -131,76 +134,37 @@ impl Search {
         ensures kept { self.new ≡ self.old }
         ensures told { IfOk result (Tells self.old left right) }
     {
-        if !self.room.has_near() {
+        if self.room == 0 {
             return Ok(Found::Open);
         }
-        if let Some(found) = self.compare_near(alloc, left, right, stops, tries)? {
-            return Ok(found);
-        }
-        if !self.room.has_far() {
-            return Ok(Found::Open);
-        }
-        self.compare_far(alloc, left, right, stops, tries)
+        self.decide(alloc, left, right, stops, tries)
     }
 
-    /// The same down to the inputs, whatever other comparisons took.
+    /// The same, however many nodes other comparisons went to.
     pub fn decide(
         &mut self,
         alloc: Global,
         left: Literal,
         right: Literal,
+        stops: &[u32],
         tries: u32,
     ) -> Result<Found, AllocError>
         ensures kept { self.new ≡ self.old }
         ensures told { IfOk result (Tells self.old left right) }
-    {
-        if let Some(found) = self.compare_near(alloc, left, right, &[], tries)? {
-            return Ok(found);
-        }
-        self.compare_far(alloc, left, right, &[], tries)
-    }
-
-    // The same down to the nodes close by: none, if those further off may tell more.
-    fn compare_near(
-        &mut self,
-        alloc: Global,
-        left: Literal,
-        right: Literal,
-        stops: &[u32],
-        tries: u32,
-    ) -> Result<Option<Found>, AllocError>
-        ensures kept { self.new ≡ self.old }
-        ensures told { IfOk result (λ found. IfSome found (Tells self.old left right)) }
     {
         let spent = self.steps == 0;
         if spent {
-            return Ok(Some(Found::Open));
+            return Ok(Found::Open);
         }
         self.enter(alloc, left, right, stops, FEW_NODES)?;
-        self.room.take_near(self.cones.nodes().len());
         if !self.cones.is_cut() {
-            return Ok(Some(self.compare_both(left, right, tries)?));
+            return self.compare_both(left, right, tries);
         }
-        match self.compare_both(left, right, FEW_TRIES)? {
-            Found::Equal => Ok(Some(Found::Equal)),
-            _ => Ok(None),
+        let near = self.compare_both(left, right, FEW_TRIES)?;
+        if near == Found::Equal {
+            return Ok(near);
         }
-    }
-
-    // The same down to all nodes.
-    fn compare_far(
-        &mut self,
-        alloc: Global,
-        left: Literal,
-        right: Literal,
-        stops: &[u32],
-        tries: u32,
-    ) -> Result<Found, AllocError>
-        ensures kept { self.new ≡ self.old }
-        ensures told { IfOk result (Tells self.old left right) }
-    {
         self.enter(alloc, left, right, stops, usize::MAX)?;
-        self.room.take_far(self.cones.nodes().len());
         self.compare_both(left, right, tries)
     }
 
@@ -245,7 +209,10 @@ impl Search {
         }
         let roots = [left.node(), right.node()];
         let gates = self.clauses.aig().gates();
-        self.cones.enter(gates, roots, stops, most)
+        self.cones.enter(gates, roots, stops, most)?;
+        let nodes = self.cones.nodes().len() as u64;
+        self.room = self.room.saturating_sub(nodes);
+        Ok(())
     }
 
     // Begins a search: what is known without an assignment.

@@ -14,9 +14,8 @@ pub(crate) struct Watches {
     heads: Vec<u32>,
     links: Vec<u32>,
     places: Vec<u32>,
-    // The clauses of one literal, and by node the last one of it.
+    // By node, the last clause of one literal of it.
     units: Vec<u32>,
-    unit_of: Vec<u32>,
 }
 
 impl Watches {
@@ -26,7 +25,6 @@ impl Watches {
             links: Vec::new(alloc),
             places: Vec::new(alloc),
             units: Vec::new(alloc),
-            unit_of: Vec::new(alloc),
         }
     }
 
@@ -34,18 +32,14 @@ impl Watches {
     pub(crate) fn fit(&mut self, nodes: usize) -> Result<(), AllocError> {
         if self.heads.len() / 2 < nodes {
             self.heads.resize(nodes.saturating_mul(2), NONE)?;
-            self.unit_of.resize(nodes, NONE)?;
+            self.units.resize(nodes, NONE)?;
         }
         Ok(())
     }
 
-    pub(crate) fn units(&self) -> &[u32] {
-        &self.units
-    }
-
     // The clause of one literal of a node.
-    pub(crate) fn unit_of(&self, node: u32) -> Option<u32> {
-        let number = self.unit_of.get(node as usize).copied()?;
+    pub(crate) fn unit(&self, node: u32) -> Option<u32> {
+        let number = self.units.get(node as usize).copied()?;
         if number == NONE { None } else { Some(number) }
     }
 
@@ -101,15 +95,9 @@ impl Watches {
                 }
             }
         }
-        self.add_unit(number, clause)
-    }
-
-    // Takes a clause of one literal.
-    fn add_unit(&mut self, number: u32, clause: &[Literal]) -> Result<(), AllocError> {
         if clause.len() == 1 {
-            self.units.push(number)?;
             if let Some(literal) = clause.first() {
-                set(&mut self.unit_of, literal.node(), number);
+                set(&mut self.units, literal.node(), number);
             }
         }
         Ok(())
@@ -120,12 +108,11 @@ impl Watches {
         for head in self.heads.iter_mut() {
             *head = NONE;
         }
-        for unit in self.unit_of.iter_mut() {
+        for unit in self.units.iter_mut() {
             *unit = NONE;
         }
         self.links.clear();
         self.places.clear();
-        self.units.clear();
         for number in 0..clauses.len() {
             let number = short(number);
             if let Some(clause) = clauses.clause(number) {
