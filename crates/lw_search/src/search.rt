@@ -27,9 +27,12 @@ const FEW_TRIES: u32 = 30;
 const ALL_LITERALS: usize = 4_000_000;
 
 // How many nodes comparisons may go to, all together: so many, and so many more for each conjunction.
-const FIRST_ROOM: u64 = 20_000_000;
+// Those that are not found to be equal take so many times their nodes.
+const FIRST_ROOM: u64 = 32_000_000;
 
 const MORE_ROOM: u64 = 128;
+
+const NOT_EQUAL: u64 = 8;
 
 /// A search over an and-inverter graph. Its clauses live from query to query.
 #[derive(Debug, Drop)]
@@ -137,7 +140,11 @@ impl Search {
         if self.room == 0 {
             return Ok(Found::Open);
         }
-        self.decide(alloc, left, right, stops, tries)
+        let found = self.decide(alloc, left, right, stops, tries)?;
+        let times = if found == Found::Equal { 1 } else { NOT_EQUAL };
+        let nodes = self.cones.nodes().len() as u64;
+        self.room = self.room.saturating_sub(nodes.saturating_mul(times));
+        Ok(found)
     }
 
     /// The same, however many nodes other comparisons went to.
@@ -209,10 +216,7 @@ impl Search {
         }
         let roots = [left.node(), right.node()];
         let gates = self.clauses.aig().gates();
-        self.cones.enter(gates, roots, stops, most)?;
-        let nodes = self.cones.nodes().len() as u64;
-        self.room = self.room.saturating_sub(nodes);
-        Ok(())
+        self.cones.enter(gates, roots, stops, most)
     }
 
     // Begins a search: what is known without an assignment.
