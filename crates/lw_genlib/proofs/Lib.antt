@@ -2,6 +2,7 @@ pub mod Agreeing
 mod Assignments
 mod Begun
 mod Bits
+mod CellPlaces
 mod Delays
 mod Evaluating
 mod Faultless

@@ -1,6 +1,6 @@
 -- Lines of words, and the ends of streams.
-use Rattle.std.proofs.Common.{ℕ, suc, ◌+◌, ◌≡◌, ◌<◌, Bool, true, false, cond, List, [], ◌∷◌, ◌++◌, length, map, drop, get_or, Option, Some, None, Result, Ok, Err, refl, ap, ap₂, sym, ◌∙◌, subst, arith, append_assoc, append-nil}
-use Rattle.std.specs.Prelude.{MatchResult, slice_get, All, ◌&&◌}
+use Rattle.std.proofs.Common.{ℕ, suc, ◌+◌, ◌≡◌, ◌<◌, Bool, true, false, cond, List, [], ◌∷◌, ◌++◌, length, map, drop, get_or, Option, Some, None, Result, Ok, Err, refl, ap, ap₂, sym, ◌∙◌, arith, append_assoc, append-nil}
+use Rattle.std.specs.Prelude.{slice_get, All, ◌&&◌}
 use Rattle.std.specs.List.{list_all}
 use Rattle.std.proofs.lemmas.Bool.Decides.{nat_tests}
 use Rattle.lw_words.specs.Gathering.{IsInk, IsNoHash, IsWord as IsLineWord}
@@ -169,12 +169,8 @@ stream-on lines line rest = ap (λ (ts : List StreamItem). ts ++ rest) (stream-m
 
 -- The library at the end.
 
-abbrev as_cells : List CellParts → Result (List CellParts) LibFault
+abbrev pub as_cells : List CellParts → Result (List CellParts) LibFault
 as_cells cs = Ok cs
-
-pub answer-of : (r : Result (List CellParts) LibFault) (said : Result (List CellParts) LibFault) (cells : List CellParts) → said ≡ Ok cells → MatchResult r (λ (l : List CellParts). l ≡ cells) (λ (f : LibFault). f ≡ Memory) → MatchResult r (λ (l : List CellParts). said ≡ Ok l) (TellsErr said)
-answer-of (Ok l) said cells is read = is ∙ ap as_cells (sym read)
-answer-of (Err f) said cells is read = subst (TellsErr said) (sym read) tt
 
 -- Words are words.
 

@@ -55,16 +55,16 @@ cell-with_form cell form h is truth = record {
 
 -- One more entry in a library.
 
-any-names : (name : List ℕ) (cells : List CellParts) → list_any (bytes_eq name) (names_of cells) ≡ list_any (λ (other : CellParts). bytes_eq name other.name) cells
-any-names name [] = refl
-any-names name (cell ∷ cells) = ap (λ b. bytes_eq name cell.name || b) (any-names name cells)
+pub any_names : (name : List ℕ) (cells : List CellParts) → list_any (bytes_eq name) (names_of cells) ≡ list_any (λ (other : CellParts). bytes_eq name other.name) cells
+any_names name [] = refl
+any_names name (cell ∷ cells) = ap (λ b. bytes_eq name cell.name || b) (any_names name cells)
 
 pub cells-more : (cells : List CellParts) (entries : ℕ) (cell : CellParts) → AreCells cells entries → HasRoom cells → IsListed cell → form_count cell ≡ 1 → list_any (λ (other : CellParts). bytes_eq cell.name other.name) cells ≡ false → AreCells (cells ++ cell ∷ []) (entries + 1)
 cells-more cells entries cell h room listed one new = record {
   library = record {
     few = omega (arith, sum, room);
     each = All-push IsListed cells cell h.library.each listed;
-    names_differ = subst (IsDistinct bytes_eq) (sym (map-append (λ (c : CellParts). c.name) cells (cell ∷ []))) (distinct-more (names_of cells) cell.name h.library.names_differ (any-names cell.name cells ∙ new));
+    names_differ = subst (IsDistinct bytes_eq) (sym (map-append (λ (c : CellParts). c.name) cells (cell ∷ []))) (distinct-more (names_of cells) cell.name h.library.names_differ (any_names cell.name cells ∙ new));
   };
   count = omega (arith, sum, h.count);
 }

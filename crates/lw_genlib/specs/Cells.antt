@@ -3,7 +3,6 @@ use Rattle.std.specs.Prelude.{ℕ, ◌+◌, ◌*◌, ◌<◌, ◌≤◌, ◌≡�
 use Rattle.std.specs.Prelude.{map, sum_by, All, Contains}
 use Rattle.std.specs.List.{IsDistinct, list_all, list_any}
 use Rattle.std.specs.Str.{bytes_eq}
-use Rattle.std.specs.Global.{Vec}
 use Rattle.lw_fixed.specs.declared.micro.Micro.{Micro}
 use Rattle.lw_fixed.specs.Decimals.{one_unit, given_units}
 use Rattle.lw_laws.specs.Expressions.{Expr, expr_value}
@@ -109,14 +108,3 @@ pub record IsLibrary (cells : List CellParts) : Type 0 where
   pub few : sum_by form_count cells ≤ most_entries
   pub each : All IsListed cells
   pub names_differ : IsDistinct bytes_eq (names_of cells)
-
-abbrev pub Key : Type 0
-Key = Vec ℕ
-
-abbrev pub bytes_of : Key → List ℕ
-bytes_of key = key.items
-
--- the cells, and the names by which they are looked up
-pub record IsIndexed (cells : List CellParts) (keys : List Key) : Type 0 where
-  pub kept : IsLibrary cells
-  pub names : map bytes_of keys ≡ names_of cells

@@ -9,7 +9,8 @@ ghost use Rattle.lw_genlib.specs.Libraries as library;
 ghost use Rattle.lw_genlib.specs.Tells.{Gives, TellsErr};
 
 use crate::entry::delays_of;
-use crate::merge_entry::{merge, place_of};
+use crate::merge_entry::merge;
+use crate::named_cells::NamedCells;
 use crate::reader_state::{CellsWithRoom, OpenCells};
 use crate::state_parts::{CellsSoFar, Entry};
 use crate::{Cell, Exprs, LibFault, LibKind};
@@ -21,7 +22,7 @@ pub(crate) fn no_cells(alloc: Global) -> CellsSoFar
     ensures { result ≡ library.no_cells }
 {
     CellsSoFar {
-        cells: Vec::new(alloc),
+        cells: NamedCells::new(alloc),
         entries: 0,
     }
 }
@@ -68,7 +69,7 @@ fn add_cell_or_form(
     ensures { Gives (library.with_cells (merging.merged_at before.so_far.cells entry
         (merging.place_of before.so_far.cells entry))) result }
 {
-    match place_of(&before.so_far.cells, entry.name.as_bytes()) {
+    match before.so_far.cells.find(entry.name.as_bytes()) {
         None => {
             let so_far = with_new(alloc, before, entry, delays)?;
             Ok(so_far)
@@ -108,8 +109,8 @@ fn with_cell(before: CellsWithRoom, cell: Cell) -> Result<CellsSoFar, AllocError
         ≡ record { cells = before.so_far.cells ++ cell ∷ []; entry = None }) }
 {
     let CellsWithRoom { so_far } = before;
-    let CellsSoFar { mut cells, entries } = so_far;
-    cells.push(cell)?;
+    let CellsSoFar { cells, entries } = so_far;
+    let cells = cells.with_one(cell)?;
     Ok(CellsSoFar {
         cells,
         entries: entries + 1,
@@ -130,14 +131,16 @@ fn with_form(
         (merging.merged_at before.so_far.cells entry.now (Some place))) result }
 {
     let CellsWithRoom { so_far } = before;
-    let CellsSoFar { mut cells, entries } = so_far;
+    let CellsSoFar { cells, entries } = so_far;
+    let NamedCells { mut cells, places } = cells;
     match merge_into(alloc, &mut cells[place], entry, delays) {
         Ok(()) => Ok(CellsSoFar {
-            cells,
+            cells: NamedCells { cells, places },
             entries: entries + 1,
         }),
         Err(fault) => {
             drop(cells);
+            drop(places);
             Err(fault)
         }
     }

@@ -4,7 +4,8 @@
 //! (`read_word`). The words of an entry are read field by field (`fields`). Those of a function are
 //! cut into tokens (`tokenize`, `function_text`), checked one by one (`check_tokens`) and parsed
 //! (`parsing`). At its end an entry becomes a cell, or gives one more form to the cell of its name
-//! (`cells_so_far`, `merge_entry`), where truth tables are compared (`truth`, `eval`).
+//! (`cells_so_far`, `merge_entry`), which is found by its name (`named_cells`). Truth tables are
+//! compared (`truth`, `eval`).
 //!
 //! The definitions to read are `CellParts` in `specs/Cells.antt` for what a library is, and
 //! `library_of` in `specs/Libraries.antt` for what lines say. `lw_files` gives lines to
@@ -27,6 +28,7 @@ mod laws;
 mod library;
 mod lists;
 mod merge_entry;
+mod named_cells;
 mod no_hash;
 mod op;
 mod open_group;

@@ -1,47 +1,39 @@
-ghost use Rattle.std.specs.Prelude.{◌≡◌, ◌<◌, IfOk, map};
-ghost use Rattle.std.specs.List.{IsDistinct};
-ghost use Rattle.std.specs.Str.{bytes_eq};
-ghost use Rattle.lw_genlib.specs.Cells.{names_of, bytes_of};
-
 use crate::Cell;
-use indexmap::IndexSet;
+use crate::named_cells::NamedCells;
 use lw_pool::CellId;
-use std::alloc::{AllocError, Global};
 use std::marker::Model;
 
 /// The cells of a library, whose names differ.
 #[derive(Drop)]
 pub struct Library {
-    cells: Vec<Cell>,
-    names: IndexSet<Vec<u8>>,
+    cells: NamedCells,
 }
 
 impl Model for Library {
     ghost use Rattle.std.specs.Prelude.{List};
-    ghost use Rattle.lw_genlib.specs.Cells.{CellParts, IsIndexed};
+    ghost use Rattle.lw_genlib.specs.Cells.{CellParts, IsLibrary};
     ghost use Rattle.lw_genlib.specs.Codes.{cells_code};
 
     ghost Value = { List CellParts };
 
     ghost coded = { cells_code };
 
-    ghost view = { λ l. l.cells.items };
+    ghost view = { λ l. l.cells };
 
-    ghost invariant = { λ l. IsIndexed l.cells.items l.names.keys };
+    ghost invariant = { λ l. IsLibrary l.cells };
 }
 
 impl Library {
-    ghost use Rattle.std.specs.Prelude.{◌≡◌, ◌<◌, IfOk, IfSome, IfNone, Some, Contains, length};
+    ghost use Rattle.std.specs.Prelude.{◌≡◌, ◌<◌, IfSome, IfNone, Some, Contains, length};
     ghost use Rattle.std.specs.Prelude.{slice_get};
     ghost use Rattle.lw_genlib.specs.Cells.{IsLibrary, names_of};
 
     /// The library of these cells.
-    pub fn new(alloc: Global, cells: Vec<Cell>) -> Result<Self, AllocError>
-        requires { IsLibrary cells.items }
-        ensures { IfOk result (λ lib. lib ≡ cells.items) }
+    pub(crate) fn new(cells: NamedCells) -> Self
+        requires { IsLibrary cells }
+        ensures { result ≡ cells }
     {
-        let names = index(alloc, &cells)?;
-        Ok(Library { cells, names })
+        Library { cells }
     }
 
     /// The number of cells.
@@ -57,7 +49,7 @@ impl Library {
         requires { id.0 < length self.now }
         ensures { slice_get self.now id.0 ≡ Some result.now }
     {
-        &self.cells[id.0 as usize]
+        self.cells.get(id.0 as usize)
     }
 
     /// The number of the cell with a name, without memory.
@@ -65,21 +57,9 @@ impl Library {
         ensures found { IfSome result (λ id. slice_get (names_of self.now) id.0 ≡ Some name.now) }
         ensures none { IfNone result (¬ Contains (names_of self.now) name.now) }
     {
-        match self.names.get_index_of(name) {
+        match self.cells.find(name) {
             Some(place) => Some(CellId(place as u32)),
             None => None,
         }
     }
-}
-
-// The names of cells, to be looked up.
-fn index(alloc: Global, cells: &[Cell]) -> Result<IndexSet<Vec<u8>>, AllocError>
-    requires { IsDistinct bytes_eq (names_of cells.now) }
-    ensures { IfOk result (λ set. map bytes_of set.keys ≡ names_of cells.now) }
-{
-    let mut names = IndexSet::new(alloc);
-    for cell in cells {
-        names.insert(Vec::from_slice(alloc, cell.name().as_bytes())?)?;
-    }
-    Ok(names)
 }

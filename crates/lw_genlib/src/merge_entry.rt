@@ -1,8 +1,8 @@
 // Merges an entry into the cell of its name: one more form.
 ghost use Rattle.std.specs.Prelude.{◌≡◌, ◌&&◌, ◌==◌, IfOk, true};
-ghost use Rattle.std.specs.List.{zip, list_all, position, IsDistinct};
+ghost use Rattle.std.specs.List.{zip, list_all, IsDistinct};
 ghost use Rattle.std.specs.Str.{bytes_eq};
-ghost use Rattle.lw_genlib.specs.Cells.{CellParts, IsCell};
+ghost use Rattle.lw_genlib.specs.Cells.{IsCell};
 ghost use Rattle.lw_genlib.specs.Entries as words;
 ghost use Rattle.lw_genlib.specs.Merging as merging;
 
@@ -14,13 +14,6 @@ use crate::truth::have_one_truth;
 use lw_fixed::{Micro, Micros};
 use lw_pool::Name;
 use std::alloc::{AllocError, Global};
-
-/// The index of the cell with a name.
-pub(crate) fn place_of(cells: &[Cell], name: &[u8]) -> Option<usize>
-    ensures { result ≡ position (λ (cell : CellParts). bytes_eq name.now cell.name) cells.now }
-{
-    cells.iter().position(|cell| name == cell.name().as_bytes())
-}
 
 fn is_same_pin(name: &Name, delay: Micro, pin: &Name, other: Micro) -> bool
     ensures { result ≡ merging.is_same_pin (name.now, delay) (pin.now, other) }

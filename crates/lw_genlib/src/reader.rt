@@ -1,6 +1,5 @@
 // Reads a library line by line.
 ghost use Rattle.std.specs.Prelude.{◌≡◌, ◌++◌, [], ◌∷◌, List, Ok, All, MatchResult, map};
-ghost use Rattle.lw_genlib.specs.declared.fault.LibFault.TheVariants.{Memory};
 ghost use Rattle.lw_genlib.specs.Cells.{IsWord};
 ghost use Rattle.lw_genlib.specs.Streams.{StreamItem, word_on, text_end, items_on};
 ghost use Rattle.lw_genlib.specs.Libraries.{library_by};
@@ -161,10 +160,10 @@ fn finish(alloc: Global, last: u32, state: ReaderState) -> Result<Library, LibFa
     let _ = &so_far.cells;
     match expect {
         Expect::Piece(entry) => match end_entry(alloc, OpenCells { so_far, entry }) {
-            Ok(so_far) => library_in(alloc, so_far),
+            Ok(so_far) => Ok(library_in(so_far)),
             Err(fault) => Err(fault),
         },
-        Expect::Latch => library_in(alloc, so_far),
+        Expect::Latch => Ok(library_in(so_far)),
         _ => {
             drop(expect);
             drop(so_far);
@@ -173,11 +172,9 @@ fn finish(alloc: Global, last: u32, state: ReaderState) -> Result<Library, LibFa
     }
 }
 
-fn library_in(alloc: Global, so_far: CellsSoFar) -> Result<Library, LibFault>
-    ensures { MatchResult result (λ library. library ≡ so_far.cells) (λ fault. fault ≡ Memory) }
+// The library of the cells so far.
+fn library_in(so_far: CellsSoFar) -> Library
+    ensures { result ≡ so_far.cells }
 {
-    match Library::new(alloc, so_far.cells) {
-        Ok(library) => Ok(library),
-        Err(_) => Err(LibFault::Memory),
-    }
+    Library::new(so_far.cells)
 }

@@ -3,7 +3,8 @@ ghost use Rattle.lw_genlib.specs.Cells.{IsWord, IsSmall};
 ghost use Rattle.lw_words.specs.Limits.{longest_word};
 
 use crate::function::Function;
-use crate::{Cell, Field, Target, Token};
+use crate::named_cells::NamedCells;
+use crate::{Field, Target, Token};
 use lw_fixed::Micro;
 use lw_pool::Name;
 use std::marker::Model;
@@ -81,7 +82,7 @@ impl Model for Entry {
 /// The cells of the entries that are at their end.
 #[derive(Drop)]
 pub(crate) struct CellsSoFar {
-    pub(crate) cells: Vec<Cell>,
+    pub(crate) cells: NamedCells,
     // How many entries there were.
     pub(crate) entries: u32,
 }
@@ -97,9 +98,9 @@ impl Model for CellsSoFar {
 
     ghost coded = { Prim.hlevel (codes, cell_code) };
 
-    ghost view = { λ b. record { cells = b.cells.items; entry = None } };
+    ghost view = { λ b. record { cells = b.cells; entry = None } };
 
-    ghost invariant = { λ b. AreCells b.cells.items b.entries };
+    ghost invariant = { λ b. AreCells b.cells b.entries };
 }
 
 /// The pins that a name means, and the larger of their delays so far.

@@ -1,52 +1,25 @@
 -- Names that are set apart from the chains.
 use Rattle.std.proofs.Common.{ℕ, ◌≡◌, ◌≢◌, ◌<◌, ◌+◌, ◌⊎◌, inl, inr, Bool, true, false, List, [], ◌∷◌, ◌++◌, length, Option, Some, None, unwrap_or, set, get_or, refl, ap, sym, subst, ◌∙◌, arith, length-append}
-use Rattle.std.proofs.lemmas.Bool.{cases_Bool, false≢true}
+use Rattle.std.proofs.lemmas.Bool.{false≢true}
 use Rattle.std.proofs.lemmas.List.{get_or_append_left, length-set}
-use Rattle.std.proofs.lemmas.Map.Text.{is_eq-slice_cmp}
 use Rattle.std.proofs.Math.Seq.{get_or-append_seam}
-use Rattle.std.specs.BTreeMap.{BTreeMap}
-use Rattle.std.specs.BTreeMap as tree
-use Rattle.std.specs.Cmp.{eq_by_cmp_equiv}
-use Rattle.std.specs.Cmp.Lexicographic.{slice_cmp, nat_list_cmp_total}
 use Rattle.std.specs.Global.{Vec}
-use Rattle.std.specs.Map.{lookup, IsKeyTest, AreApart}
-use Rattle.std.specs.Map as map
-use Rattle.std.specs.Ordering.{nat_cmp}
-use Rattle.std.specs.Str.{bytes_eq}
-use Rattle.lw_facts.proofs.Lists.{bytes_eq_is}
 use Rattle.lw_dag.specs.Names.{is_among}
-use Rattle.lw_named_netlist.specs.Chains.{AreLinks, AreNumbered, CanHang, FindsPlace, FindsSome, IsBucket, IsKept, KeepsOthers, apart_at, bucket_in, name_at}
+use Rattle.lw_places.specs.Places.{KeepsOthers, place_in}
+use Rattle.lw_named_netlist.specs.Chains.{AreLinks, AreNumbered, CanHang, FindsPlace, FindsSome, IsBucket, IsKept, bucket_in, name_at}
 use Rattle.lw_named_netlist.proofs.Chains.{chains-apart, chains-more, chains-same}
 use Rattle.lw_named_netlist.proofs.Found.{found-all}
-
-differ : (name other : List ℕ) → name ≢ other → bytes_eq name other ≡ false
-differ name other apart = by_test (cases_Bool (bytes_eq name other))
-  where
-    by_test : (bytes_eq name other ≡ true) ⊎ (bytes_eq name other ≡ false) → bytes_eq name other ≡ false
-    by_test (inl same) = absurd (apart (bytes_eq_is name other same))
-    by_test (inr is) = is
-
-other-places : (eq : Vec ℕ → Vec ℕ → Bool) (test : Vec ℕ → Bool) (old new : List (Vec ℕ × ℕ)) → map.KeepsOthers eq test old new → (other : Vec ℕ → Bool) → IsKeyTest eq other → AreApart test other → lookup other new ≡ lookup other old
-unfolding map.KeepsOthers
-other-places eq test old new keeps = keeps
-
--- one name was set apart
-pub keeps-others : (m n : BTreeMap (Vec ℕ) ℕ) (key : Vec ℕ) (name : List ℕ) (place : ℕ) → key.items ≡ name
-    → tree.UpdatesBy (λ (x y : Vec ℕ). slice_cmp nat_cmp x.items y.items) (λ (k : Vec ℕ). slice_cmp nat_cmp key.items k.items) m n (Some place) → KeepsOthers name m.entries n.entries
-keeps-others m n key name place is h = subst (λ l. KeepsOthers l m.entries n.entries) is (λ other apart.
-    other-places _ _ m.entries n.entries h.3 _ (λ x y. (eq_by_cmp_equiv nat_list_cmp_total).congr other x.items y.items) (λ k e.
-    is_eq-slice_cmp other k.items ∙ differ other k.items (λ same. apart (bytes_eq_is key.items k.items (sym (is_eq-slice_cmp key.items k.items) ∙ e) ∙ sym same))))
 
 pub own-place : (own k : ℕ) (at : Option ℕ) → Some own ≡ at → at ≡ Some k → own ≡ k
 own-place own k at found is = ap (λ o. unwrap_or o 0) (found ∙ is)
 
 -- a name that is in no chain is sought among those that are set apart
-pub found-apart : (names : List (List ℕ)) (count : ℕ) (apart : List (Vec ℕ × ℕ)) (name : List ℕ) (r : Option ℕ) → ((k : ℕ) → k < count → IsKept names apart k → name_at names k ≢ name) → FindsSome names count (λ k. apart_at apart name ≡ Some k) name r → FindsPlace names count name r
+pub found-apart : (names : List (List ℕ)) (count : ℕ) (apart : List (Vec ℕ × ℕ)) (name : List ℕ) (r : Option ℕ) → ((k : ℕ) → k < count → IsKept names apart k → name_at names k ≢ name) → FindsSome names count (λ k. place_in apart name ≡ Some k) name r → FindsPlace names count name r
 found-apart names count apart name (Some p) chained f = record { within = f.within; some = f.some; none = tt }
 found-apart names count apart name None chained f = record {
   within = tt;
   some = tt;
-  none = λ k lt same. chained k lt (λ is. f.none k lt (ap (apart_at apart) (sym same) ∙ is) same) same;
+  none = λ k lt same. chained k lt (λ is. f.none k lt (ap (place_in apart) (sym same) ∙ is) same) same;
 }
 
 -- chains stay where a name was set apart that is not in them
@@ -62,7 +35,7 @@ links-more names n apart heads next b head is can =
     rw (is, length-set heads b (n + 1)) (chains-more (bucket_in (length heads)) (length heads) (IsKept names apart) names n heads next b can.own.own can.own.low can.placed refl can.chains)
 
 -- or it is set apart
-pub links-apart : (names : List (List ℕ)) (n : ℕ) (apart : List (Vec ℕ × ℕ)) (heads next : List ℕ) (b head : ℕ) → head ≡ get_or heads b 0 → CanHang names n apart heads next b → apart_at apart (name_at names n) ≡ Some n → AreLinks names (n + 1) apart heads (set next n head)
+pub links-apart : (names : List (List ℕ)) (n : ℕ) (apart : List (Vec ℕ × ℕ)) (heads next : List ℕ) (b head : ℕ) → head ≡ get_or heads b 0 → CanHang names n apart heads next b → place_in apart (name_at names n) ≡ Some n → AreLinks names (n + 1) apart heads (set next n head)
 links-apart names n apart heads next b head is can gone =
     rw (is) (chains-apart (bucket_in (length heads)) (length heads) (IsKept names apart) names n heads next b can.own.own can.own.low can.placed refl can.chains (λ keeps. keeps gone))
 
@@ -75,7 +48,7 @@ pub can-hang : (names : List (List ℕ)) (name : List ℕ) (old new : List (Vec 
 can-hang names name old new heads next b are fresh others own few = record {
   chains =
       chains-same (bucket_in (length heads)) (length heads) (IsKept names old) (IsKept (names ++ name ∷ []) new) names (names ++ name ∷ []) (length names) heads next (next ++ 0 ∷ [])
-      (λ k lt keeps is. keeps (ap (apart_at new) (stays k lt) ∙ (others (name_at names k) (λ e. stands-nowhere names name fresh k lt (sym e)) ∙ is)))
+      (λ k lt keeps is. keeps (ap (place_in new) (stays k lt) ∙ (others (name_at names k) (λ e. stands-nowhere names name fresh k lt (sym e)) ∙ is)))
       stays
       (λ j lt. get_or_append_left next (0 ∷ []) 0 j (omega (arith, lt, are.places)))
       are.chains;

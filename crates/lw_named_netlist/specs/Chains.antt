@@ -1,13 +1,10 @@
 -- Chains of the places of names, by which a name is found among them, and names that are set apart from the chains.
 use Rattle.std.specs.Prelude.{ℕ, suc, ◌≡◌, ◌≢◌, ◌<◌, ◌≤◌, ◌+◌, ◌*◌, ◌%◌, Option, Some, None, IfSome, IfNone, List, []}
 use Rattle.std.specs.Prelude.{◌∷◌, length, slice_index_or}
-use Rattle.std.specs.BTreeMap.{is_at}
-use Rattle.std.specs.Cmp.Lexicographic.{slice_cmp}
 use Rattle.std.specs.Global.{Vec}
 use Rattle.std.specs.List.{IsDistinct}
-use Rattle.std.specs.Map.{lookup}
-use Rattle.std.specs.Ordering.{nat_cmp}
 use Rattle.std.specs.Str.{bytes_eq}
+use Rattle.lw_places.specs.Places.{place_in}
 use Rattle.lw_named_netlist.specs.Closing.{twice_after}
 
 abbrev pub hash_from : ℕ → List ℕ → ℕ
@@ -34,13 +31,9 @@ pub record AreChains (bucket : List ℕ → ℕ) (size : ℕ) (kept : ℕ → Ty
   pub chained : (j k : ℕ) → j < count → slice_index_or next j 0 ≡ suc k
       → bucket (name_at names k) ≡ bucket (name_at names j)
 
--- the place at which a name is set apart
-abbrev pub apart_at : List (Vec ℕ × ℕ) → List ℕ → Option ℕ
-apart_at apart name = lookup (is_at (λ (key : Vec ℕ). slice_cmp nat_cmp name key.items)) apart
-
 -- The name at a place is not set apart there.
 abbrev pub IsKept : List (List ℕ) → List (Vec ℕ × ℕ) → ℕ → Type 0
-IsKept names apart k = apart_at apart (name_at names k) ≢ Some k
+IsKept names apart k = place_in apart (name_at names k) ≢ Some k
 
 -- Chains of those of the first so many names that are not set apart, in as many buckets as there are heads.
 abbrev pub AreLinks : List (List ℕ) → ℕ → List (Vec ℕ × ℕ) → List ℕ → List ℕ → Type 0
@@ -78,10 +71,6 @@ pub record FindsSome (names : List (List ℕ)) (count : ℕ) (kept : ℕ → Typ
   pub within : IfSome result (λ k. k < count)
   pub some : IfSome result (λ k. name_at names k ≡ name)
   pub none : IfNone result ((k : ℕ) → k < count → kept k → name_at names k ≢ name)
-
--- All names but one are set apart as before.
-abbrev pub KeepsOthers : List ℕ → List (Vec ℕ × ℕ) → List (Vec ℕ × ℕ) → Type 0
-KeepsOthers name old new = (other : List ℕ) → name ≢ other → apart_at new other ≡ apart_at old other
 
 -- One more name comes into its chain, unless it is set apart.
 pub record CanHang (names : List (List ℕ)) (place : ℕ) (apart : List (Vec ℕ × ℕ)) (heads next : List ℕ)

@@ -2,12 +2,14 @@
 // long, by their order. So no choice of names makes the search for one of them long.
 ghost use Rattle.std.specs.Prelude.{◌≡◌, ◌<◌, ◌≤◌, ◌+◌, ℕ, length, IfOk};
 ghost use Rattle.std.specs.Prelude.{slice_index_or};
+ghost use Rattle.lw_places.specs.Places.{KeepsOthers};
 ghost use Rattle.lw_named_netlist.specs.Chains.{AreLinked, AreLinks, CanHang, CanLink, FindsPlace};
-ghost use Rattle.lw_named_netlist.specs.Chains.{FindsSome, IsBucket, IsKept, KeepsOthers};
+ghost use Rattle.lw_named_netlist.specs.Chains.{FindsSome, IsBucket, IsKept};
 ghost use Rattle.lw_named_netlist.specs.Chains.{LinksNames, bucket_in, hash_from, name_at};
 
 use crate::SpelledNames;
-use crate::apart::{Apart, is_apart, place_apart, set_apart};
+use crate::apart::{is_apart, place_apart};
+use lw_places::{Places, set_place};
 use std::alloc::{AllocError, Global};
 
 // A chain of so many names is long.
@@ -37,7 +39,7 @@ pub(crate) fn bucket_of(name: &[u8], size: usize) -> usize
 fn place_chained(
     names: &SpelledNames,
     count: usize,
-    apart: &Apart,
+    apart: &Places,
     heads: &[u32],
     next: &[u32],
     bucket: usize,
@@ -62,7 +64,7 @@ fn place_chained(
 pub(crate) fn place_in(
     names: &SpelledNames,
     count: usize,
-    apart: &Apart,
+    apart: &Places,
     heads: &[u32],
     next: &[u32],
     bucket: usize,
@@ -81,7 +83,7 @@ pub(crate) fn place_in(
 /// The place of a name.
 pub(crate) fn find(
     names: &SpelledNames,
-    apart: &Apart,
+    apart: &Places,
     heads: &[u32],
     next: &[u32],
     name: &[u8],
@@ -113,7 +115,7 @@ fn is_long(next: &[u32], head: u32) -> bool {
 /// Sets a name apart if the chain is long that it would come into.
 pub(crate) fn spare(
     alloc: Global,
-    apart: &mut Apart,
+    apart: &mut Places,
     next: &[u32],
     head: u32,
     name: &[u8],
@@ -122,7 +124,7 @@ pub(crate) fn spare(
     ensures { KeepsOthers name.now apart.old.entries apart.new.entries }
 {
     if is_long(next, head) {
-        return set_apart(alloc, apart, name, place);
+        return set_place(alloc, apart, name, place);
     }
     Ok(())
 }
@@ -130,7 +132,7 @@ pub(crate) fn spare(
 /// Puts one more name into its chain, unless it is set apart.
 pub(crate) fn hang(
     names: &SpelledNames,
-    apart: &Apart,
+    apart: &Places,
     heads: &mut [u32],
     next: &mut [u32],
     bucket: usize,
@@ -149,7 +151,7 @@ pub(crate) fn hang(
 }
 
 /// Makes chains for names. No chain was made before.
-pub(crate) fn relink(names: &SpelledNames, apart: &Apart, heads: &mut [u32], next: &mut [u32])
+pub(crate) fn relink(names: &SpelledNames, apart: &Places, heads: &mut [u32], next: &mut [u32])
     requires few { length names.now < 4294967295 }
     requires some { 0 < length heads.old }
     requires places { length names.now ≤ length next.old }
@@ -169,7 +171,7 @@ pub(crate) fn relink(names: &SpelledNames, apart: &Apart, heads: &mut [u32], nex
 pub(crate) fn link(
     alloc: Global,
     names: &SpelledNames,
-    apart: &mut Apart,
+    apart: &mut Places,
     heads: &mut [u32],
     next: &mut [u32],
 ) -> Result<Option<usize>, AllocError>

@@ -5,10 +5,10 @@ ghost use Rattle.lw_named_netlist.specs.Closing.{drivers, gate_link, needs_of, o
 ghost use Rattle.lw_dag.specs.Names.{number_in};
 ghost use Rattle.lw_named_netlist.specs.Numbered.{FindsDriven, HaveNumbers, TellsTwice, numbered};
 
-use crate::apart::Apart;
 use crate::buckets::link;
 use crate::signals::Signals;
 use crate::{GateDraft, NetlistFault, SpelledGate, SpelledNames, Wire};
+use lw_places::Places;
 use lw_pool::{Name, Numbers};
 use std::alloc::{AllocError, Global};
 
@@ -51,7 +51,7 @@ pub(crate) fn numbers(alloc: Global, names: SpelledNames) -> Result<Signals, Net
     }
     let mut heads = vec![in alloc; 0; 2 * names.len() + 1]?;
     let mut next = vec![in alloc; 0; names.len()]?;
-    let mut apart = Apart::new(alloc);
+    let mut apart = Places::new(alloc);
     let twice = link(alloc, &names, &mut apart, &mut heads, &mut next)?;
     if let Some(place) = twice {
         let name = Name::from_slice(alloc, names.get(place))?;

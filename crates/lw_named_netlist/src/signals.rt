@@ -4,8 +4,8 @@ ghost use Rattle.std.specs.Prelude.{Some, slice_get};
 ghost use Rattle.lw_dag.specs.Names.{is_among};
 ghost use Rattle.lw_named_netlist.specs.Chains.{AreNumbered};
 
-use crate::apart::Apart;
 use crate::{SpelledNames, buckets};
+use lw_places::Places;
 use std::alloc::{AllocError, Global};
 use std::marker::Model;
 
@@ -19,7 +19,7 @@ const NAMES: usize = 1 << 30;
 #[derive(Drop)]
 pub struct Signals {
     names: SpelledNames,
-    apart: Apart,
+    apart: Places,
     heads: Vec<u32>,
     next: Vec<u32>,
 }
@@ -50,10 +50,10 @@ impl Signals {
     {
         let heads = vec![in alloc; 0; BUCKETS]?;
         let names = SpelledNames::new(alloc);
-        Ok(Signals::new(names, Apart::new(alloc), heads, Vec::new(alloc)))
+        Ok(Signals::new(names, Places::new(alloc), heads, Vec::new(alloc)))
     }
 
-    pub(crate) fn new(names: SpelledNames, apart: Apart, heads: Vec<u32>, next: Vec<u32>) -> Self
+    pub(crate) fn new(names: SpelledNames, apart: Places, heads: Vec<u32>, next: Vec<u32>) -> Self
         requires { AreNumbered names apart.entries heads.items next.items }
         ensures { result ≡ names }
     {
@@ -133,7 +133,7 @@ impl Signals {
 // Appends a name that is not there. Where there is no memory no name is added.
 fn push(
     names: &mut SpelledNames,
-    apart: &mut Apart,
+    apart: &mut Places,
     heads: &mut Vec<u32>,
     next: &mut Vec<u32>,
     name: &[u8],
@@ -173,7 +173,7 @@ fn has_at(names: &SpelledNames, place: usize, name: &[u8]) -> bool
 // Makes the buckets more than the names, of which there are not too many for one more.
 fn make_room(
     names: &SpelledNames,
-    apart: &Apart,
+    apart: &Places,
     heads: &mut Vec<u32>,
     next: &mut Vec<u32>,
 ) -> Result<(), AllocError>

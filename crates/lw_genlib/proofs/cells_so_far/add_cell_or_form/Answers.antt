@@ -13,6 +13,6 @@ pub returns-in-Some : goal.returns-in-Some
 returns-in-Some c =
     let here : Some c.in-Some.place ≡ merging.place_of c.args.before.so_far.cells c.args.entry =
     c.in-Some.ensures ∙ ap₂ (λ (n : List ℕ) (cs : List CellParts). position (λ (cell : CellParts). bytes_eq n cell.name) cs)
-    (c.as_bytes.ensures.bytes ∙ ap (λ (e : words.Entry). e.name) c.entry.view_is) (c.deref.ensures.value ∙ ap (λ (b : CellsWithRoom). b.so_far.cells) c.before-2.view_is) in
+    (c.as_bytes.ensures.bytes ∙ ap (λ (e : words.Entry). e.name) c.entry.view_is) (ap (λ (b : CellsWithRoom). b.so_far.cells) c.before-2.view_is) in
     subst (λ (o : Option ℕ). Gives (library.with_cells (merging.merged_at c.args.before.so_far.cells c.args.entry o)) c.with_form-more.result)
     here c.with_form-more.ensures

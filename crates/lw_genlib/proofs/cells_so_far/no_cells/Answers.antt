@@ -5,4 +5,4 @@ use Rattle.lw_genlib.proofs.MergeLemmas.{no-cells}
 use Rattle.lw_genlib.proofs.cells_so_far.no_cells.Goals as goal
 
 pub invariant_of-result : goal.invariant_of-result
-invariant_of-result c = subst (λ (cs : List CellParts). AreCells cs 0) (sym c.new.ensures.items) no-cells
+invariant_of-result c = subst (λ (cs : List CellParts). AreCells cs 0) (sym c.new.ensures) no-cells

@@ -1,18 +1,15 @@
-use Rattle.std.proofs.Common.{List, [], ◌∷◌, sym, ap, ◌∙◌, subst, Result}
+use Rattle.std.proofs.Common.{List, sym, ap, ◌∙◌, subst, Result}
 use Rattle.lw_genlib.specs.declared.fault.LibFault.{LibFault}
 use Rattle.lw_genlib.specs.Cells.{CellParts}
-use Rattle.lw_genlib.specs.Streams.{text_end}
-use Rattle.lw_genlib.specs.Libraries.{CellsSoFar, library_by}
-use Rattle.lw_genlib.specs.Standing.{resume}
+use Rattle.lw_genlib.specs.Libraries.{CellsSoFar}
 use Rattle.lw_genlib.specs.Tells.{TellsErr}
-use Rattle.lw_genlib.proofs.Lines.{answer-of, end-at_piece, end-at_latch, end-inside, cells-ended, fault-ended}
+use Rattle.lw_genlib.proofs.Lines.{as_cells, end-at_piece, end-at_latch, end-inside, cells-ended, fault-ended}
 use Rattle.lw_genlib.proofs.reader.finish.Goals as goal
 
 pub returns-in-Ok : goal.returns-in-Ok
 returns-in-Ok c =
-    answer-of c.library_in.result (library_by (resume c.args.state (text_end c.args.last ∷ []))) c.in-Ok.so_far.cells
-    (end-at_piece c.args.state c.in-Piece.entry c.args.last c.in-Piece.is ∙ cells-ended c.args.state.so_far c.in-Ok.so_far c.in-Piece.entry c.in-Ok.ensures)
-    c.library_in.ensures
+    end-at_piece c.args.state c.in-Piece.entry c.args.last c.in-Piece.is
+    ∙ (cells-ended c.args.state.so_far c.in-Ok.so_far c.in-Piece.entry c.in-Ok.ensures ∙ ap as_cells (sym c.library_in.ensures))
 
 pub returns-in-Err : goal.returns-in-Err
 returns-in-Err c =
@@ -21,9 +18,8 @@ returns-in-Err c =
 
 pub returns-in-Latch : goal.returns-in-Latch
 returns-in-Latch c =
-    answer-of c.library_in-in-Latch.result (library_by (resume c.args.state (text_end c.args.last ∷ []))) c.args.state.so_far.cells
-    (end-at_latch c.args.state c.args.last c.in-Latch.is (sym (ap (λ (b : CellsSoFar). b.entry) c.so_far.view_is)))
-    c.library_in-in-Latch.ensures
+    end-at_latch c.args.state c.args.last c.in-Latch.is (sym (ap (λ (b : CellsSoFar). b.entry) c.so_far.view_is))
+    ∙ ap as_cells (sym c.library_in-in-Latch.ensures)
 
 pub returns-in_default : goal.returns-in_default
 returns-in_default c = end-inside c.args.state c.args.last c.in_default.not-Piece c.in_default.not-Latch

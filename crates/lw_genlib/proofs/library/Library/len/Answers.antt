@@ -4,5 +4,5 @@ use Rattle.lw_genlib.proofs.library.Library.len.Goals as goal
 
 pub overflow_cast-result : goal.overflow_cast-result
 overflow_cast-result c =
-    let few : length c.self.inside.cells.items ≤ 4096 = few_cells _ c.self.invariant.kept in
+    let few : length c.self.inside.cells ≤ 4096 = few_cells _ c.self.invariant in
     search rules
