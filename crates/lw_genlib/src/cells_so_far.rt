@@ -134,10 +134,13 @@ fn with_form(
     let CellsSoFar { cells, entries } = so_far;
     let NamedCells { mut cells, places } = cells;
     match merge_into(alloc, &mut cells[place], entry, delays) {
-        Ok(()) => Ok(CellsSoFar {
-            cells: NamedCells { cells, places },
-            entries: entries + 1,
-        }),
+        Ok(()) => {
+            let named = NamedCells { cells, places };
+            Ok(CellsSoFar {
+                cells: named,
+                entries: entries + 1,
+            })
+        }
         Err(fault) => {
             drop(cells);
             drop(places);

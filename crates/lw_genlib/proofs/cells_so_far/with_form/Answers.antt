@@ -6,17 +6,23 @@ use Rattle.lw_genlib.specs.Cells.{CellParts}
 use Rattle.lw_genlib.specs.Kept.{AreCells}
 use Rattle.lw_genlib.specs.Expects.{HasRoom}
 use Rattle.lw_genlib.specs.Merging as merging
+use Rattle.lw_genlib.proofs.CellPlaces.{placed_same}
 use Rattle.lw_genlib.proofs.MergeLemmas.{cells-merged, merged-there, fault-there}
 use Rattle.lw_genlib.proofs.Listed.{cells-fault}
-use Rattle.lw_genlib.proofs.CellPlaces.{placed_same}
 use Rattle.lw_genlib.proofs.cells_so_far.with_form.Goals as goal
+
+pub invariant_of-named : goal.invariant_of-named
+invariant_of-named c =
+    placed_same c.cells.inside.cells.items c.args.place c.index_mut.result.now c.merge_into.new.cell c.cells.inside.places.entries c.cells.invariant c.index_mut.ensures.value
+    (ap (λ (cell : CellParts). cell.name) c.in-Ok.ensures.form)
 
 pub invariant_of-result : goal.invariant_of-result
 invariant_of-result c =
     let cells : c.args.before.so_far.cells ≡ c.cells.inside.cells.items = sym (c.cells.view_is ∙ ap (λ (b : library.CellsSoFar). b.cells) c.so_far.view_is) in
+    let are : AreCells c.cells.inside.cells.items c.so_far.inside.entries = subst (λ (cs : List CellParts). AreCells cs c.so_far.inside.entries) (sym c.cells.view_is) c.so_far.invariant in
     subst (λ (cell : CellParts). AreCells (set c.cells.inside.cells.items c.args.place cell) (c.so_far.inside.entries + 1)) (sym c.in-Ok.ensures.form)
     (cells-merged c.cells.inside.cells.items c.so_far.inside.entries c.args.place c.index_mut.result.now (merging.form_over c.index_mut.result.now.pins c.args.entry.now)
-    c.so_far.invariant (subst HasRoom cells c.args.before.room) (subst (λ (cs : List CellParts). c.args.place < length cs) cells c.requires.place) c.index_mut.ensures.value c.in-Ok.ensures.kept)
+    are (subst HasRoom cells c.args.before.room) (subst (λ (cs : List CellParts). c.args.place < length cs) cells c.requires.place) c.index_mut.ensures.value c.in-Ok.ensures.kept)
 
 pub returns-in-Ok : goal.returns-in-Ok
 returns-in-Ok c =
@@ -35,12 +41,9 @@ returns-in-Err c =
 pub merge_into-requires-clause-pins_differ : goal.merge_into-requires-clause-pins_differ
 merge_into-requires-clause-pins_differ c =
     let cells : c.args.before.so_far.cells ≡ c.cells.inside.cells.items = sym (c.cells.view_is ∙ ap (λ (b : library.CellsSoFar). b.cells) c.so_far.view_is) in
-    let listed = c.so_far.invariant.library.each c.args.place c.index_mut.result.now (subst (λ (cs : List CellParts). c.args.place < length cs) cells c.requires.place) in
+    let are : AreCells c.cells.inside.cells.items c.so_far.inside.entries = subst (λ (cs : List CellParts). AreCells cs c.so_far.inside.entries) (sym c.cells.view_is) c.so_far.invariant in
+    let listed = are.library.each c.args.place c.index_mut.result.now (subst (λ (cs : List CellParts). c.args.place < length cs) cells c.requires.place) in
     subst (λ (cell : CellParts). IsDistinct bytes_eq cell.pins) (sym c.index_mut.ensures.value) listed.pins_differ
 
 pub merge_into-requires-clause-delays : goal.merge_into-requires-clause-delays
 merge_into-requires-clause-delays c = c.requires.delays
-
-pub invariant_of-cells : goal.invariant_of-cells
-invariant_of-cells c =
-    placed_same c.cells.inside.cells.items c.args.place c.index_mut.result.now c.merge_into.new.cell c.cells.inside.places.entries c.cells.invariant c.index_mut.ensures.value (ap (λ (cell : CellParts). cell.name) c.in-Ok.ensures.form)
