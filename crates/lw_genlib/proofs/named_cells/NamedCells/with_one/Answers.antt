@@ -1,8 +1,8 @@
 use Rattle.std.proofs.Common.{◌≡◌, ◌∙◌, List, Some, false, length, sym, ap, subst, arith}
 use Rattle.std.specs.List.{list_any}
 use Rattle.std.specs.Str.{bytes_eq}
-use Rattle.lw_places.specs.Places.{ArePlaces, KeepsOthers, place_in}
-use Rattle.lw_genlib.specs.Cells.{CellParts, names_of}
+use Rattle.lw_places.specs.Places.{KeepsOthers, place_in}
+use Rattle.lw_genlib.specs.Cells.{CellParts}
 use Rattle.lw_genlib.proofs.CellPlaces.{placed_more}
 use Rattle.lw_genlib.proofs.named_cells.NamedCells.with_one.Goals as goal
 
