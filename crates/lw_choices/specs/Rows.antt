@@ -109,7 +109,8 @@ AreInputsListed g old new =
     → IsListing (task g pats cells starts) 0 0 (plain_rows new)
 
 -- what may stand at the classes, by the cells of a library that the patterns are of, and they can be numbered
-pub record AreAllChoices (g : Graph) (pats : List Pattern) (cells : List CellParts) (rows : List ListedChoice) : Type 0 where
+pub record AreAllChoices (g : Graph) (pats : List Pattern) (cells : List CellParts)
+    (rows : List ListedChoice) : Type 0 where
   pub few : length rows < number_count
   pub choices : (starts : List Micro) → AreOfCells (area_cost cells).pin_counts pats
       → AreListedChoices (task g pats cells starts) (plain_rows rows)
