@@ -5,7 +5,8 @@
 //! in order:
 //!
 //! * `area`: the area of a cell with those of its pins, cut at 2^62 (`AreaCost`);
-//! * `rows`: a choice at its class (`ListedChoice`);
+//! * `rows`: a choice at its class (`ListedChoice`), and all of them, with their pins in one list
+//!   (`Listing`);
 //! * `pin_uses`: the pins of a match with their delays, sorted;
 //! * `listed`: a list of matches, and where one that is alike is found by a hash;
 //! * `choices`: the inputs, and behind them the matches of a store, or of a search at each class
@@ -52,4 +53,4 @@ pub use area::{AreaCost, MOST_AREA, joined};
 pub use chains::Chains;
 pub use choices::list_choices;
 pub use pin_groups::{PinGroups, lane_of, pin_groups_of};
-pub use rows::{Gate, ListedChoice, Stand};
+pub use rows::{Gate, ListedChoice, Listing, Stand};
