@@ -1,5 +1,5 @@
 -- Choices that are kept stay as they are where a listing grows.
-use Rattle.std.proofs.Common.{◌≡◌, ℕ, suc, ◌+◌, ◌-◌, ◌≤◌, ◌⊎◌, inl, inr, length, map, take, drop, reverse, List, [], ◌∷◌, ◌++◌, Some, option_map, slice_get, refl, ap, sym, ◌∙◌, subst, arith}
+use Rattle.std.proofs.Common.{◌≡◌, ℕ, suc, ◌+◌, ◌-◌, ◌≤◌, ◌⊎◌, inl, inr, length, map, min, take, drop, reverse, List, [], ◌∷◌, ◌++◌, Some, option_map, slice_get, refl, ap, sym, ◌∙◌, subst, arith}
 use mathlib.Core.List.{reverse-cons}
 use Rattle.std.specs.List.{slice_range}
 use Rattle.std.proofs.Math.Seq.{drop-append_seam, take-length}
@@ -10,7 +10,7 @@ use Rattle.lw_facts.proofs.Lists.{slice_range_append}
 use Rattle.lw_pool.specs.declared.id.CellId.{CellId}
 use Rattle.lw_pool.specs.declared.id.ClassId.{ClassId}
 use Rattle.lw_pool.specs.Numbers.{numbers}
-use Rattle.lw_choices.specs.Choices.{Choice, pin_count}
+use Rattle.lw_choices.specs.Choices.{pin_count}
 use Rattle.lw_choices.specs.Choices.Part.{gate}
 use Rattle.lw_choices.specs.declared.rows.KeptStand.{KeptStand}
 use Rattle.lw_choices.specs.declared.rows.KeptStand.TheVariants.{Input, Gate}
@@ -31,7 +31,9 @@ part_behind xs ys n e =
 
 part_kept : (pins more : List ℕ) (s : KeptStand) → pin_end s ≤ length pins → kept_part (pins ++ more) s ≡ kept_part pins s
 part_kept pins more (Input i) le = refl
-part_kept pins more (Gate g) le = ap (gate g.cell.0) (slice_range_append pins more g.first (g.first + g.count) (omega arith) le)
+part_kept pins more (Gate g) le =
+    let low : g.first + g.count ≤ length pins = le in
+    ap (gate g.cell.0) (slice_range_append pins more g.first (g.first + g.count) (omega (arith, low)) low)
 
 rows_kept : (pins more : List ℕ) (rows : List Row) → ((k : ℕ) (r : Row) → slice_get rows k ≡ Some r → pin_end r.stand ≤ length pins) → map (kept_row (pins ++ more)) rows ≡ map (kept_row pins) rows
 rows_kept pins more [] within = refl
@@ -51,14 +53,14 @@ pub row_pushed : (pins : List ClassId) (rows : List Row) (r : Row) → kept_rows
 row_pushed pins rows r = map-append (kept_row (numbers pins)) rows (r ∷ [])
 
 -- so it is with a cell whose pins stand behind the others
-pub gate_pushed : (pins added : List ClassId) (rows : List Row) (class : ClassId) (cell : CellId) (n : ℕ) → n ≡ length added → AreKeptIn (length pins) rows
-    → kept_rows (pins ++ added) (rows ++ (record { class = class; stand = Gate (record { cell = cell; first = length pins; count = n }) }) ∷ []) ≡ kept_rows pins rows ++ (record { class = class.0; part = gate cell.0 (numbers added) }) ∷ []
-gate_pushed pins added rows class cell n e in' =
-    let r : Row = record { class = class; stand = Gate (record { cell = cell; first = length pins; count = n }) } in
+pub gate_pushed : (pins added : List ClassId) (rows : List Row) (class : ClassId) (cell : CellId) (first n : ℕ) → first ≡ length pins → n ≡ length added → AreKeptIn (length pins) rows
+    → kept_rows (pins ++ added) (rows ++ (record { class = class; stand = Gate (record { cell = cell; first = first; count = n }) }) ∷ []) ≡ kept_rows pins rows ++ (record { class = class.0; part = gate cell.0 (numbers added) }) ∷ []
+gate_pushed pins added rows class cell first n f e in' =
+    let r : Row = record { class = class; stand = Gate (record { cell = cell; first = first; count = n }) } in
     let width = length-map pins (λ (c : ClassId). c.0) in
     let size = length-map added (λ (c : ClassId). c.0) in
-    let here : slice_range (numbers (pins ++ added)) (length pins) (length pins + n) ≡ numbers added =
-        ap (λ ps. slice_range ps (length pins) (length pins + n)) (map-append (λ (c : ClassId). c.0) pins added) ∙ (ap (λ k. slice_range (numbers pins ++ numbers added) k (k + n)) (sym width) ∙ part_behind (numbers pins) (numbers added) n (omega (arith, e, size))) in
+    let here : slice_range (numbers (pins ++ added)) first (first + n) ≡ numbers added =
+        ap (λ ps. slice_range ps first (first + n)) (map-append (λ (c : ClassId). c.0) pins added) ∙ (ap (λ k. slice_range (numbers pins ++ numbers added) k (k + n)) (f ∙ sym width) ∙ part_behind (numbers pins) (numbers added) n (e ∙ sym size)) in
     row_pushed (pins ++ added) rows r ∙ (λ j. pins_more pins added rows in' j ++ (record { class = class.0; part = gate cell.0 (here j) }) ∷ [])
 
 -- where a row stands behind the others
@@ -83,11 +85,12 @@ kept_later count more rows le in' = record {
 
 -- the pins are few
 pub few_kept : (count : ℕ) (pins : List ℕ) (s : KeptStand) → IsKeptIn count s → pin_count (kept_part pins s) ≤ 16
-few_kept count pins (Input i) is = omega arith
+few_kept count pins (Input i) is = let none : 0 ≤ 16 = omega arith in none
 few_kept count pins (Gate g) is =
-    let few = is.few in
-    let size = length-take (g.first + g.count - g.first) (drop g.first pins) in
-    omega (arith, size, few)
+    let few : g.count ≤ 16 = is.few in
+    let size : length (slice_range pins g.first (g.first + g.count)) ≡ min (g.first + g.count - g.first) (length (drop g.first pins)) = length-take (g.first + g.count - g.first) (drop g.first pins) in
+    let all : length (slice_range pins g.first (g.first + g.count)) ≤ 16 = omega (arith, size, few) in
+    all
 
 -- the order is turned round
 pub rows_turned : (pins : List ℕ) (rows : List Row) → map (kept_row pins) (reverse rows) ≡ reverse (map (kept_row pins) rows)

@@ -1,5 +1,5 @@
 -- Listings of what may stand at classes grow by inputs and matches.
-use Rattle.std.proofs.Common.{◌≡◌, ℕ, zero, suc, ◌+◌, ◌<◌, ◌≤◌, ◌⊎◌, inl, inr, length, map, reverse, List, [], ◌∷◌, ◌++◌, Contains, Some, slice_get, refl, ap, sym, ◌∙◌, subst, arith}
+use Rattle.std.proofs.Common.{◌≡◌, ℕ, ◌+◌, ◌<◌, ◌≤◌, ◌⊎◌, inl, inr, length, reverse, List, [], ◌∷◌, ◌++◌, Contains, Some, slice_get, refl, ap, sym, ◌∙◌, subst, arith}
 use native.Mathlib.Nat.{eq-or-lt_of_le}
 use Rattle.std.proofs.lemmas.List.Sorted.{Contains-permutation, IsPermutation-refl, IsPermutation-reverse, IsPermutation-sym}
 use Rattle.std.proofs.lemmas.Option.{same_Some, slice_get_within}

@@ -1,5 +1,4 @@
 -- What may stand at a class, as the code reads it.
-use Rattle.std.specs.Prelude.{ℕ}
 use Rattle.lw_pool.specs.declared.id.ClassId.{ClassId}
 use Rattle.lw_pool.specs.Numbers.{numbers}
 use Rattle.lw_choices.specs.declared.rows.Gate.{Gate as GateOfMatch}

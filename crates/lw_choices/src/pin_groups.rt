@@ -60,7 +60,7 @@ pub fn pin_groups_of(
     ensures count { IfOk result (λ pin_groups. pin_groups.links.count ≡ classes) }
     ensures pin_groups { IfOk result (AreUses lib.now rows.now) }
 {
-    let mut pin_groups = no_uses(alloc, classes)?;
+    let mut pin_groups = no_uses(alloc, classes, rows)?;
     add_all(alloc, &mut pin_groups, rows, lib)?;
     Ok(pin_groups)
 }
@@ -199,20 +199,22 @@ fn add_choice(
     }
 }
 
-// Groups of no pins, over so many classes.
-fn no_uses(alloc: Global, classes: usize) -> Result<PinGroups, AllocError>
+// Groups of no pins, over so many classes, with room for the pins of these choices.
+fn no_uses(alloc: Global, classes: usize, rows: &Listing) -> Result<PinGroups, AllocError>
     ensures { IfOk result (HasNoUsesFor classes) }
 {
     let links = Chains::new(alloc, classes)?;
-    let members = Chains::new(alloc, 0)?;
+    let members = Chains::with_room(alloc, 0, rows.pins())?;
+    let owners = Vec::with_capacity(alloc, rows.pins())?;
+    let firsts = Vec::with_capacity(alloc, rows.len())?;
     Ok(PinGroups {
         links,
         delays: Vec::new(alloc),
         lanes: Vec::new(alloc),
         lane_delays: Vec::new(alloc),
         members,
-        owners: Vec::new(alloc),
-        firsts: Vec::new(alloc),
+        owners,
+        firsts,
         by_group: no_group_choices(alloc),
     })
 }

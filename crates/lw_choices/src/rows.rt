@@ -1,5 +1,6 @@
 // What may stand at which class.
-ghost use Rattle.std.specs.Prelude.{◌≡◌, ◌≤◌, length};
+ghost use Rattle.std.specs.Prelude.{◌≡◌, ◌≤◌, ◌+◌, length};
+ghost use Rattle.std.specs.List.{slice_range};
 ghost use Rattle.lw_pool.specs.Numbers.{numbers};
 ghost use Rattle.lw_choices.specs.Kept.{kept_part, pin_end};
 ghost use Rattle.lw_choices.specs.Stands.{plain_part};
@@ -96,6 +97,11 @@ impl Listing {
         self.rows.len()
     }
 
+    /// How many pins they have together. No clause says so: it is asked for room alone.
+    pub(crate) fn pins(&self) -> usize {
+        self.pins.len()
+    }
+
     /// The choice with this number.
     pub fn at(&self, number: usize) -> ListedChoice
         requires { number < length self.now }
@@ -151,6 +157,15 @@ impl Listing {
 // How many pins all choices have at most.
 const MOST_PINS: usize = 4_294_967_295;
 
+// The pins of a cell, among those of all.
+fn pins_of(pins: &[ClassId], gate: KeptGate) -> &[ClassId]
+    requires { gate.first + gate.count ≤ length pins.now }
+    ensures { result.now ≡ slice_range pins.now gate.first (gate.first + gate.count) }
+{
+    let first = gate.first as usize;
+    &pins[first..first + gate.count as usize]
+}
+
 // What is kept, with its pins among those of all.
 fn stand_of(pins: &[ClassId], kept: KeptStand) -> Stand
     requires { pin_end kept ≤ length pins.now }
@@ -158,12 +173,9 @@ fn stand_of(pins: &[ClassId], kept: KeptStand) -> Stand
 {
     match kept {
         KeptStand::Input(input) => Stand::Input(input),
-        KeptStand::Gate(gate) => {
-            let first = gate.first as usize;
-            Stand::Gate(Gate {
-                cell: gate.cell,
-                pins: &pins[first..first + gate.count as usize],
-            })
-        }
+        KeptStand::Gate(gate) => Stand::Gate(Gate {
+            cell: gate.cell,
+            pins: pins_of(pins, gate),
+        }),
     }
 }

@@ -1,9 +1,9 @@
 -- The groups of a class are let come one by one.
-use Rattle.std.proofs.Common.{◌≡◌, ℕ, zero, suc, ◌+◌, ◌-◌, ◌<◌, ◌≤◌, ◌⊎◌, inl, inr, length, List, [], ◌∷◌, Contains, Option, Some, None, option_map, slice_get, slice_set, slice_index_or, refl, ap, sym, ◌∙◌, subst, subst₂, arith}
+use Rattle.std.proofs.Common.{◌≡◌, ℕ, zero, suc, ◌+◌, ◌-◌, ◌<◌, ◌≤◌, ◌⊎◌, inl, inr, length, List, [], ◌∷◌, Contains, Option, Some, None, slice_get, slice_set, refl, ap, sym, ◌∙◌, subst, subst₂, arith}
 use native.Mathlib.Decide.{ℕ_discrete}
 use Rattle.std.specs.List.Sorted.{IsPermutation}
 use Rattle.std.proofs.lemmas.List.Sorted.{Contains-permutation, IsPermutation-sym, length_permutation}
-use Rattle.std.proofs.lemmas.Option.{same_Some, slice_get-map, slice_get_within}
+use Rattle.std.proofs.lemmas.Option.{same_Some, slice_get_within}
 use Rattle.std.proofs.lemmas.Bool.{cases_lt}
 use Rattle.lw_choices.specs.Areas.{total}
 use Rattle.lw_choices.specs.Chains.{IsLast}
@@ -14,7 +14,7 @@ use Rattle.lw_choices.specs.PinGroups.{AreUses}
 use Rattle.lw_curves.specs.Turns.{turns_of}
 use Rattle.lw_choices.specs.declared.pin_groups.PinGroups.{PinGroups}
 use Rattle.lw_curves.specs.Settling.{Turns, turns, Comes, AreGroupsAdded, AreInTime, IsLetWait, NoneComes}
-use Rattle.lw_choices.proofs.Lists.{get_some, got, read_at, in_tail}
+use Rattle.lw_choices.proofs.Lists.{in_tail}
 use Rattle.lw_curves.proofs.Stepping.{in_cons, waits_back}
 
 -- The groups from a bound on come, and the next one is the last before it.

@@ -1,4 +1,4 @@
-use Rattle.std.proofs.Common.{◌≡◌, ◌<◌, ◌≤◌, ◌∙◌, All, Some, None, true, length, map, refl, slice_index_or, sym, ap, subst, subst₂, arith}
+use Rattle.std.proofs.Common.{◌≡◌, ◌<◌, ◌≤◌, ◌∙◌, All, Some, None, true, length, map, refl, slice_index_or, sym, ap, subst, arith}
 use Rattle.lw_facts.proofs.Lists.{all_at}
 use Rattle.lw_choices.specs.Areas.{total}
 use Rattle.lw_curves.specs.Backing.{Held, AreBacked, spot_in}

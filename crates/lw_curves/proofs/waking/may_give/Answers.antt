@@ -1,4 +1,4 @@
-use Rattle.std.proofs.Common.{◌≡◌, ◌<◌, length, min, sym, subst, subst₂, arith}
+use Rattle.std.proofs.Common.{◌≡◌, ◌<◌, length, min, subst, subst₂, arith}
 use Rattle.std.proofs.lemmas.Option.{slice_get_within}
 use Rattle.lw_choices.specs.Areas.{most_area}
 use Rattle.lw_curves.specs.Fronts.{IsLessOr}
