@@ -60,7 +60,7 @@ gate_pushed pins added rows class cell first n f e in' =
     let width = length-map pins (λ (c : ClassId). c.0) in
     let size = length-map added (λ (c : ClassId). c.0) in
     let here : slice_range (numbers (pins ++ added)) first (first + n) ≡ numbers added =
-        ap (λ ps. slice_range ps first (first + n)) (map-append (λ (c : ClassId). c.0) pins added) ∙ (ap (λ k. slice_range (numbers pins ++ numbers added) k (k + n)) (f ∙ sym width) ∙ part_behind (numbers pins) (numbers added) n (e ∙ sym size)) in
+    ap (λ ps. slice_range ps first (first + n)) (map-append (λ (c : ClassId). c.0) pins added) ∙ (ap (λ k. slice_range (numbers pins ++ numbers added) k (k + n)) (f ∙ sym width) ∙ part_behind (numbers pins) (numbers added) n (e ∙ sym size)) in
     row_pushed (pins ++ added) rows r ∙ (λ j. pins_more pins added rows in' j ++ (record { class = class.0; part = gate cell.0 (here j) }) ∷ [])
 
 -- where a row stands behind the others

@@ -98,11 +98,7 @@ fn list_class(
 }
 
 // Lists the matches of a store, the last one first.
-fn list_stored(
-    alloc: Global,
-    store: &mut Store,
-    lib: &Library,
-) -> Result<Listing, AllocError>
+fn list_stored(alloc: Global, store: &mut Store, lib: &Library) -> Result<Listing, AllocError>
     requires { store.old.done ≡ 0 }
     ensures { IfOk result (AreStoredListed store.old.lists lib.now) }
 {
