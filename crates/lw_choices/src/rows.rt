@@ -124,15 +124,16 @@ impl Listing {
         Ok(())
     }
 
-    /// Appends a cell with its pins at a class. Past 2^32 - 1 pins it says that memory is out.
+    /// Appends a cell with its pins at a class. Past 2^32 - 17 pins it says that memory is out.
     pub(crate) fn push_gate(&mut self, class: ClassId, gate: Gate) -> Result<(), AllocError>
         requires { length gate.pins.now ≤ 16 }
         ensures { OnOk result (self.new ≡ self.old ++ choice_of class gate ∷ []) }
     {
-        let (first, count) = (self.pins.len(), gate.pins.len());
-        if first > MOST_PINS || count > MOST_PINS - first {
+        let first = self.pins.len();
+        if first > MOST_PINS {
             return Err(AllocError);
         }
+        let count = gate.pins.len();
         self.pins.extend_from_slice(gate.pins)?;
         let kept = KeptGate {
             cell: gate.cell,
@@ -154,8 +155,9 @@ impl Listing {
     }
 }
 
-// How many pins all choices have at most.
-const MOST_PINS: usize = 4_294_967_295;
+// How many pins there may be where those of one more choice are appended: the number of each is below
+// 2^32 then.
+const MOST_PINS: usize = 4_294_967_279;
 
 // The pins of a cell, among those of all.
 fn pins_of(pins: &[ClassId], gate: KeptGate) -> &[ClassId]

@@ -7,7 +7,7 @@ use Rattle.lw_choices.proofs.choices.list_choices.Goals as goal
 
 pub returns : goal.returns
 returns c = record {
-  few = let same = ap length c.turn_round.ensures in let long = length-reverse c.list_inputs.new.rows in omega (arith, same, long);
+  few = let same = ap length c.turn_round.ensures in let long = length-reverse c.list_inputs.new.rows in omega (arith, same, long, c.len.ensures);
   choices = λ starts of_cells.
       let s = task c.args.graph.now c.args.pats.now c.args.lib.now starts in
       let rows = c.list_inputs.new.rows in

@@ -40,7 +40,7 @@ pub returns-clause-pin_groups : goal.returns-clause-pin_groups
 returns-clause-pin_groups c =
     let xs = c.args.rows.now in
     let u = c.loop-choice.pin_groups in
-    let n : c.loop-choice.choice ≡ length xs = omega (arith, c.loop-choice-test.false, c.loop-choice.auto.choice-end, c.len.ensures) in
+    let n : c.loop-choice.choice ≡ length xs = omega (arith, c.loop-choice-test.false, c.loop-choice.auto.choice-end, c.len-choice-end.ensures) in
     let pins = subst (λ k. AreUsesTo c.args.lib.now xs k 0 u) n c.loop-choice.invariant.pin_groups in
     let by_group = c.in_ok-by_group.by_group in
     let count : c.len-groups.result ≡ u.members.count = omega (arith, c.len-groups.ensures.len, c.loop-choice.invariant.of.are.count) in

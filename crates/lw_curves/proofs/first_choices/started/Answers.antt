@@ -25,6 +25,6 @@ pub returns : goal.returns
 returns c = record {
   horizon_is = c.loop-number.invariant.horizon;
   first = λ g pats cells are.
-      let n : c.loop-number.number ≡ length c.args.rows.now = omega (arith, c.loop-number-test.false, c.loop-number.auto.number-end, c.len.ensures) in
+      let n : c.loop-number.number ≡ length c.args.rows.now = omega (arith, c.loop-number-test.false, c.loop-number.auto.number-end, c.len-number-end.ensures) in
       started_all (task g pats cells c.args.starts.now) c.args.rows.now c.loop-number.number c.loop-number.queue n c.loop-number.invariant.started are;
 }
