@@ -155,8 +155,8 @@ impl Listing {
     }
 }
 
-// How many pins there may be where those of one more choice are appended: the number of each is below
-// 2^32 then.
+// How many pins there are at most where those of one more choice are appended, 16 at most: where
+// each begins is a number below 2^32 then.
 const MOST_PINS: usize = 4_294_967_279;
 
 // The pins of a cell, among those of all.
