@@ -1,8 +1,11 @@
+pub mod Ended
 pub mod Laying
 pub mod Names
 pub mod Netlists
+pub mod Numbered
 pub mod Paired
 pub mod Refused
 pub mod Roots
 pub mod Steps
+pub mod Tried
 pub mod Valued

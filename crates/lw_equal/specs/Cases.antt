@@ -1,5 +1,5 @@
 -- Cases in hand, and what is known of pairs of nets.
-use Rattle.std.specs.Prelude.{ℕ, ◌<◌, ◌≡◌, ⊤, Bool, List, [], length, slice_index_or, All, Contains, ◌⊎◌}
+use Rattle.std.specs.Prelude.{ℕ, ◌<◌, ◌≡◌, ⊤, Bool, Some, List, [], length, slice_get, slice_index_or, All, Contains}
 use Rattle.lw_aig.specs.declared.gate.Gate.{Gate}
 use Rattle.lw_equal.specs.declared.answer.Answer.{Answer}
 use Rattle.lw_equal.specs.declared.answer.Answer.TheVariants.{Equal, Differ, Undecided}
@@ -9,6 +9,7 @@ use Rattle.lw_equal.specs.declared.deciding.Judgement.TheVariants.{Same, Apart, 
 use Rattle.lw_equal.specs.declared.pairing.Pair.{Pair}
 use Rattle.lw_equal.specs.declared.point.Point.{Point}
 use Rattle.lw_equal.specs.declared.side.Side.{Side}
+use Rattle.lw_equal.specs.declared.trying.Ends.{Ends}
 use Rattle.lw_equal.specs.Answers.{HaveOneValue, IsDifference, IsShared}
 use Rattle.lw_equal.specs.Known.{IsKnown}
 use Rattle.lw_equal.specs.Laid.{ArePlaces, BeginsWith, IsLaid}
@@ -59,3 +60,14 @@ abbrev pub Settles : Side → Side → List Pair → Answer → Type 0
 Settles one other pairs Equal = AreJudged one other pairs []
 Settles one other pairs (Differ d) = IsDifference one other d.point d.inputs.items
 Settles one other pairs (Undecided undecided) = LeavesOpen one other pairs undecided
+
+-- the literals of both nets of a pair
+pub record AreEndsOf (case : Case) (pair : Pair) (both : Ends) : Type 0 where
+  pub left : slice_get case.left.now.literals.items pair.left.0 ≡ Some both.left
+  pub right : slice_get case.right.now.literals.items pair.right.0 ≡ Some both.right
+
+-- by pair, the literals of both nets
+pub record AreEnds (case : Case) (pairs : List Pair) (ends : List Ends) : Type 0 where
+  pub one_each : length ends ≡ length pairs
+  pub each : (j : ℕ) (p : Pair) (d : Ends) → j < length pairs
+      → AreEndsOf case (slice_index_or pairs j p) (slice_index_or ends j d)

@@ -6,3 +6,4 @@ pub mod Laid
 pub mod Pairs
 pub mod Ports
 pub mod Sides
+pub mod Trying

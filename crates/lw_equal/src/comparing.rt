@@ -14,6 +14,7 @@ use crate::known::Known;
 use crate::pairing::{Pair, all_pairs};
 use crate::placing::{Laid, lay};
 use crate::ports::compare_ports;
+use crate::small::{NO_SEARCH, solve_small};
 use crate::{Answer, Counts, Fault, Outcome, Side};
 use lw_sweep::{Limits, Sweep};
 use std::alloc::{AllocError, Global};
@@ -23,14 +24,6 @@ const MOST_INPUTS: usize = 2147483647;
 
 // How many times the conflicts of other comparisons those of a point may have.
 const EFFORT: u32 = 10;
-
-// No comparison is searched.
-const NO_SEARCH: Limits = Limits {
-    tries: 0,
-    conflicts: 0,
-    steps: 0,
-    sums: false,
-};
 
 // Nothing is looked for at a point.
 const NO_EFFORT: Effort = Effort {
@@ -177,8 +170,63 @@ fn solve_within(
     })
 }
 
-// Decides each pair: by patterns alone, where they tell a pair apart, and else with searches, in
-// the end with sums in one form.
+// Decides each pair with searches, in the end with sums in one form.
+fn search(
+    alloc: Global,
+    one: &Known,
+    other: &Side,
+    more: &[Side],
+    pairs: &[Pair],
+    limits: Limits,
+) -> Result<Outcome, AllocError>
+    requires known { IsKnown one.now }
+    requires other { IsSide other.now }
+    requires more { All IsSide more.now }
+    requires pairs { All (IsPair one.now.side.now other.now) pairs.now }
+    requires some { 0 < length pairs.now }
+    requires few { length one.now.inputs.keys < 2 ^ 31 }
+    ensures { IfOk result (λ outcome.
+        Settles one.now.side.now other.now pairs.now outcome.answer) }
+{
+    let first = solve_within(alloc, one, other, more, pairs, limits)?;
+    if !first.wants_sums {
+        return Ok(first.outcome);
+    }
+    drop(first);
+    let last = solve_within(alloc, one, other, more, pairs, with_sums(limits))?;
+    Ok(last.outcome)
+}
+
+// Decides each pair by all assignments, where the search left one undecided.
+fn finish(
+    alloc: Global,
+    one: &Known,
+    other: &Side,
+    pairs: &[Pair],
+    found: Outcome,
+) -> Result<Outcome, AllocError>
+    requires known { IsKnown one.now }
+    requires other { IsSide other.now }
+    requires pairs { All (IsPair one.now.side.now other.now) pairs.now }
+    requires few { length one.now.inputs.keys < 2 ^ 31 }
+    requires found { Settles one.now.side.now other.now pairs.now found.answer }
+    ensures { IfOk result (λ outcome.
+        Settles one.now.side.now other.now pairs.now outcome.answer) }
+{
+    let open = matches!(&found.answer, Answer::Undecided(_));
+    if !open {
+        return Ok(found);
+    }
+    let Some(answer) = solve_small(alloc, one, other, pairs)? else {
+        return Ok(found);
+    };
+    let counts = found.counts;
+    drop(found);
+    Ok(Outcome { answer, counts })
+}
+
+// Decides each pair: by patterns alone, where they tell a pair apart, else with searches, and what
+// these leave by all assignments.
 fn solve(
     alloc: Global,
     one: &Known,
@@ -212,13 +260,8 @@ fn solve(
         return Ok(seen.outcome);
     }
     drop(seen);
-    let first = solve_within(alloc, one, other, more, pairs, limits)?;
-    if !first.wants_sums {
-        return Ok(first.outcome);
-    }
-    drop(first);
-    let last = solve_within(alloc, one, other, more, pairs, with_sums(limits))?;
-    Ok(last.outcome)
+    let found = search(alloc, one, other, more, pairs, limits)?;
+    finish(alloc, one, other, pairs, found)
 }
 
 /// Compares two sides at each output, and at what each latch reads, within these limits; `more` may

@@ -74,7 +74,7 @@ fn found_inputs(alloc: Global, sweep: &Sweep, inputs: usize) -> Result<Vec<bool>
 }
 
 // Keeps these values of the inputs, if the sides differ there.
-fn look(
+pub(crate) fn look(
     alloc: Global,
     case: &Case,
     pair: &Pair,
@@ -189,7 +189,7 @@ fn judge(
 }
 
 // A copy of a point.
-fn copy_of(alloc: Global, point: &Point) -> Result<Point, AllocError>
+pub(crate) fn copy_of(alloc: Global, point: &Point) -> Result<Point, AllocError>
     ensures { IfOk result (λ copy. copy ≡ point.now) }
 {
     let name = Name::from_slice(alloc, point.name.as_bytes())?;

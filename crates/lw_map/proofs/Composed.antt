@@ -51,7 +51,7 @@ use Rattle.lw_map.proofs.PortNames.{few_outputs}
 use Rattle.lw_pool.specs.Numbers.{numbers}
 use Rattle.lw_net.specs.Ports.{output_port}
 
-port_names : (net : NetworkParts) (outputs : List NetId) → map (name_in net) outputs ≡ map port_name (map (output_port net) outputs)
+pub port_names : (net : NetworkParts) (outputs : List NetId) → map (name_in net) outputs ≡ map port_name (map (output_port net) outputs)
 port_names net [] = refl
 port_names net (o ∷ outputs) = ap (λ (names : List (List ℕ)). name_in net o ∷ names) (port_names net outputs)
 

@@ -12,7 +12,7 @@ pub mod Once
 pub mod CertificateOnce
 pub mod Roots
 pub mod ChoiceLemmas
-mod GateCount
+pub mod GateCount
 pub mod Composed
 pub mod Leaves
 mod Traded

@@ -1,0 +1,3 @@
+pub mod Ands
+pub mod Standing
+pub mod Pairs
