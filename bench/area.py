@@ -3,10 +3,10 @@
 
   area.py [-t | -r] [-l LIB] [-e EFFORTS] [-p PART]
 
-For each circuit of bench/circuits and bench/further and each effort (EFFORTS, 123 without the option) it maps with the deadlines 'each', 'max',
-'102%' and ABC's delay, by a library of bench/libs (mcnc without the option): the circuit as given beside ABC's 'map', and ABC's netlist after
-four rounds beside itself. It prints a table of means of ratios to ABC's netlist, with processor time and memory beside 'lwmap map'. With -p
-every third circuit is taken, from PART on. 'sh bench/all.sh' prints the same tables.
+For each circuit of bench/circuits and bench/further and each effort (EFFORTS, 123 without the option) it maps without links (-n), with the
+deadlines 'each', 'max', '102%' and ABC's delay, by a library of bench/libs (mcnc without the option): the circuit as given beside ABC's
+'map', and ABC's netlist after four rounds beside itself. It prints a table of means of ratios to ABC's netlist, with processor time and
+memory beside 'lwmap map'. With -p every third circuit is taken, from PART on. 'sh bench/all.sh' prints the same tables.
 
 With -r it writes bench/area.csv, a line 'circuit,deadline,area' for each circuit as given and each deadline but ABC's delay, at effort 2 with
 mcnc. With -t it is a test: none of these areas may be above the recorded one, nor above that of 'lwmap map'. Areas that are smaller are
@@ -52,7 +52,7 @@ def circuit(room, library, network, commands, efforts, deadlines):
     for effort in efforts:
         for deadline in deadlines:
             word, key = f"{f['abc']:.6f}" if deadline == "abc" else deadline, f"{effort} {deadline}"
-            run = room.once([program.path("lwarea"), "-e", effort, "-t", word, library.path, path], "recovered.blif")
+            run = room.once([program.path("lwarea"), "-n", "-e", effort, "-t", word, library.path, path], "recovered.blif")
             if not run.ok():
                 f["failed"].append(f"-e {effort} -t {word}: ended with {run.status}")
                 continue
@@ -101,7 +101,7 @@ def areas(room, library, network):
     found, failed = {}, []
     _, least = room.mapped(library, network, "map")
     for deadline in RECORDED:
-        run = room.once([program.path("lwarea"), "-e", "2", "-t", deadline, library.path, network], "recovered.blif")
+        run = room.once([program.path("lwarea"), "-n", "-e", "2", "-t", deadline, library.path, network], "recovered.blif")
         found[deadline] = library.size(run.out)[1] if run.ok() else None
         if run.ok() and least and found[deadline] > least[1] + 1e-9:
             failed.append(f"-t {deadline}: area {found[deadline]}, that of map is {least[1]}")

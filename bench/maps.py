@@ -31,8 +31,8 @@ class Circuit:
                 self.figures["verdicts"].append(self.room.equivalent(self.network, self.library.plain(self.room, run.out)))
 
     def recovered(self, key, path):
-        """lwarea at its default deadline and effort, by which the greatest arrival is that of 'map'."""
-        run = self.room.once([program.path("lwarea"), self.library.path, path], "recovered.blif")
+        """lwarea without links at its default deadline and effort, by which the greatest arrival is that of 'map'."""
+        run = self.room.once([program.path("lwarea"), "-n", self.library.path, path], "recovered.blif")
         if run.ok():
             self.figures[key + " recovered"], self.figures[key + " recovered area"] = self.library.size(run.out)
 

@@ -274,7 +274,7 @@ def loads_circuit(room, library, liberty, network, script):
         return f
     netlists = [("lwmap", ours, run.out, library.path), ("abc", theirs, room.path("abc.blif"), library.peers)]
     if program.has("lwarea"):
-        run = room.once([program.path("lwarea"), library.path, given], "recovered.blif")
+        run = room.once([program.path("lwarea"), "-n", library.path, given], "recovered.blif")
         netlists += [("lwarea", library.size(run.out), run.out, library.path)] if run.ok() else []
     for who, size, path, cells in netlists:
         f[who + " own"], f[who + " own area"] = size

@@ -3,7 +3,9 @@
 
   area.py COUNT [SEED]
 
-For each of COUNT cases a library and a network are drawn (tests/draw.py), with latches and arrivals, and at times with a fault.
+For each of COUNT cases a library and a network are drawn (tests/draw.py), with latches and arrivals, and at times with a fault. Links are
+not looked for (-n), so that the search space is that of 'map'. Then it runs with links and a further network: another one, or the first
+with a line changed. The netlist has to have the values of the first, by its deadlines, and -k has to accept its certificate.
 Each effort runs with deadlines of all forms. A refusal has to be that of 'map', with the name of this program. A netlist has to
 have the ports and latches of the network and its values, for all assignments or for some of many; each output has to arrive by
 its deadline, with 'each' exactly at its least time; the area, each gate counted once, may not be above that of the netlist of
@@ -126,18 +128,77 @@ class Judge:
             self.passed += 1
 
 
+    def joined(self, draw, least, words):
+        """A run with a further network, of which only the first one's values, deadlines and ports are known."""
+        effort, word = draw.choice("123"), draw.choice(["each", "max", "102%", "7"])
+        given = [*words, "-t", word, "LIB", "IN", "MORE"]
+        first, got = [subprocess.run([self.program, "-e", one, *given], capture_output=True, timeout=300) for one in ("0", effort)]
+        fault = fault_of_joined(draw, least, word, first, got)
+        if not fault and got.returncode == 0:
+            certified = subprocess.run([self.program, *words, "-e", effort, "-c", "-t", "each", "LIB", "IN", "MORE"], capture_output=True, timeout=300)
+            with open("MAPPED", "wb") as file:
+                file.write(certified.stdout)
+            checked = subprocess.run([self.program, "-k", *words, "LIB", "IN", "MORE", "MAPPED"], capture_output=True, timeout=300)
+            fault = None if checked.stdout == b"yes\n" or has_shared_names(least.cells) else f"-k: {checked.stderr!r}"
+        if fault:
+            self.failed.append(f"-e {effort} " + " ".join(given) + ": " + fault)
+        else:
+            self.passed += 1
+
+
+def has_shared_names(cells):
+    """Whether a cell gives its output the name of a pin, which a line of a netlist cannot tell apart."""
+    return any(cell.output in cell.pins for cell in cells)
+
+
+def fault_of_joined(draw, least, word, first, got):
+    """What is wrong with a run over a further network, beside that at effort 0; or None."""
+    if least.refused and least.refused.status != 6:
+        wanted = least.refused.status, b"", b"lwarea: " + shown(least.refused.text) + b"\n"
+        return None if (got.returncode, got.stdout, got.stderr) == wanted else f"wanted {wanted}, got {got}"
+    leaves = set(least.network.leaves())
+    try:
+        strange = not set(reference.network_of(b"MORE").leaves()) <= leaves
+        refused = b"lwarea: MORE: no input of the first network: " if strange else None
+    except Refused as fault:
+        refused = b"lwarea: " + shown(fault.text) + b"\n"
+    if refused:
+        return None if got.returncode == 3 and not got.stdout and got.stderr.startswith(refused) else f"wanted {refused!r}, got {got}"
+    if got.returncode == 6 and least.refused:
+        return None
+    if got.returncode or got.stderr or first.returncode:
+        return f"status {got.returncode}, at effort 0 {first.returncode}: {got.stderr!r}"
+    model, fastest = [reference.read_mapped(text, b"OUT", least.cells) for text in (got.stdout, first.stdout)]
+    if not got.stdout.startswith(reference.joined(reference.head_lines(least.network))):
+        return "other ports"
+    tried = vectors(draw, len(least.network.leaves()))
+    if reference.simulation(least.network, least.network.roots(), tried) != reference.simulation(model, model.root_nets, tried):
+        return "other values"
+    arrivals = reference.arrivals_of(model, least.network.starts())
+    if not least.refused and any(arrivals[net] > due for net, due in zip(model.root_nets, least.deadlines(word))):
+        return f"later than with one network, {least.deadlines(word)}"
+    area, most = [sum(gate.cell.area for gate in one.gates) for one in (model, fastest)]
+    return None if area <= most else f"area {area}, that of effort 0 is {most}"
+
+
 def try_case(judge, draw):
     with open("LIB", "w", newline="") as file:
         file.write(drawn.library(draw))
     with open("IN", "w", newline="") as file:
         file.write(drawn.network(draw))
     width, idempotent = draw.choice([2, 3, 4, 6]), draw.random() < 0.25
-    words = ["-w", str(width)] + (["-i"] if idempotent else [])
+    words = ["-n", "-w", str(width)] + (["-i"] if idempotent else [])
     least = Least(width, idempotent)
     for effort in "0123":
         for word in ["each", "max", draw.choice(["100%", "102%", "150%", "999%"]), draw.choice(["0", "2.5", "7", "100000"])]:
             judge.run(draw, least, (width, idempotent), words, word, effort, False)
         judge.run(draw, least, (width, idempotent), words, "each", effort, True)
+    with open("IN") as file:
+        lines = file.read().splitlines()
+    for _ in range(2):
+        with open("MORE", "w", newline="") as file:
+            file.write("".join(line + "\n" for line in drawn.damaged(draw, lines)) if lines and draw.random() < 0.7 else drawn.network(draw))
+        judge.joined(draw, least, words[1:])
 
 
 def main():

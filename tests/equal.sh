@@ -54,28 +54,60 @@ counts_on_standard_error() {
         grep -qxE 'lwequal: points 9, nodes [0-9]+, pairs equal [0-9]+, apart [0-9]+, left [0-9]+, conflicts [0-9]+' err || { cat err && return 1; }
 }
 
-# (with few conflicts they stay undecided)
+# (with few conflicts, and more inputs than have all their assignments tried, they stay undecided)
 limit_is_reached() {
-    multiplier 6 0 1 >ONE && multiplier 6 5 -1 >OTHER
+    multiplier 11 0 1 >ONE && multiplier 11 10 -1 >OTHER
     run -n 1 ONE OTHER
     status $? 2 && holds err && [ -s out ] && ! grep -qv '^undecided m[0-9]*$' out
 }
 
 # What latches read is undecided by the names of their outputs, and a difference is told before what is undecided.
 limit_is_reached_at_latches() {
-    for way in '0 1' '5 -1'; do
+    for way in '0 1' '10 -1'; do
         # shellcheck disable=SC2086
-        multiplier 6 $way | sed 's/^\.outputs.*/.outputs/' | awk '/^\.end/ { for (k = 0; k < 12; k++) print ".latch m" k " q" k " 2" } 1' >"BY${way#* }"
+        multiplier 11 $way | sed 's/^\.outputs.*/.outputs/' | awk '/^\.end/ { for (k = 0; k < 22; k++) print ".latch m" k " q" k " 2" } 1' >"BY${way#* }"
     done
     run -n 1 BY1 BY-1
     status $? 2 && holds err && [ -s out ] && ! grep -qv '^undecided latch q[0-9]*$' out
 }
 
 difference_beside_what_is_undecided() {
-    multiplier 6 0 1 | sed 's/^\.outputs/& f/; s/^\.end/.names a0 f\n1 1\n&/' >ONE
-    multiplier 6 5 -1 | sed 's/^\.outputs/& f/; s/^\.end/.names a0 f\n0 1\n&/' >OTHER
+    multiplier 11 0 1 | sed 's/^\.outputs/& f/; s/^\.end/.names a0 f\n1 1\n&/' >ONE
+    multiplier 11 10 -1 | sed 's/^\.outputs/& f/; s/^\.end/.names a0 f\n0 1\n&/' >OTHER
     run -n 1 ONE OTHER
     status $? 1 && holds err && head -n 1 out >first && holds first 'differ f'
+}
+
+# What the search leaves of networks of few inputs is decided by all assignments.
+all_assignments_of_multipliers() {
+    multiplier 8 0 1 >ONE && multiplier 8 7 -1 >OTHER
+    run -n 0 ONE OTHER
+    status $? 0 && holds out equal && holds err
+}
+
+# A multiplier whose last gate is 0 where the product is 199 * 197: of both assignments the first in number is told, where the first
+# input is the lowest bit.
+gate_that_differs_under_two_assignments() {
+    multiplier 8 0 1 >ONE
+    multiplier 8 7 -1 | awk -v product=39203 'function bit(k) { return int(product / 2 ^ k) % 2 }
+        $1 == ".names" && $3 == "m15" {
+            names = ".names " $2
+            rows = ""
+            for (k = 0; k < 15; k++) {
+                names = names " m" k
+                rows = rows "1"
+                for (j = 0; j < 15; j++) rows = rows (j == k ? 1 - bit(k) : "-")
+                rows = rows " 1\n"
+            }
+            printf "%s m15\n%s", names, rows
+            getline
+            next
+        }
+        { print }' >OTHER
+    run -n 0 ONE OTHER
+    status $? 1 && holds err && confirmed ONE OTHER || return
+    awk 'BEGIN { print "differ m15"; for (k = 0; k < 8; k++) printf "a%d %d\nb%d %d\n", k, int(199 / 2 ^ k) % 2, k, int(197 / 2 ^ k) % 2 }' >wanted
+    same out wanted
 }
 
 library_of_too_many_bytes() {
@@ -194,8 +226,8 @@ for it in "$tests"/equal/*/; do
     attempt "${it##*/}" row "$it"
 done
 for it in adders_are_equal wrong_gate_is_found two_runs_agree counts_on_standard_error limit_is_reached limit_is_reached_at_latches \
-    difference_beside_what_is_undecided library_of_too_many_bytes \
-    network_of_too_many_bytes standard_output_is_full standard_error_is_closed file_by_a_pipe folder_is_no_file \
+    difference_beside_what_is_undecided all_assignments_of_multipliers gate_that_differs_under_two_assignments \
+    library_of_too_many_bytes network_of_too_many_bytes standard_output_is_full standard_error_is_closed file_by_a_pipe folder_is_no_file \
     word_that_is_not_utf8 out_of_memory a_million_gates most_ports netlists_of_lwmap; do
     [ $# -eq 0 ] || case " $* " in *" $it "*) ;; *) continue ;; esac
     attempt "$it" "$it"

@@ -123,17 +123,24 @@ run "more signals than lwmap takes" 1 'large.blif: the network has more than 262
 run "an area within 110% of the least delay" 0 'every step was shown' -q --area 110% -l $library bench/circuits/rca8_y.blif
 # What lwarea makes is kept, and smaller; without it all goes on with lwmap.
 if sh release/program.sh lwarea >/dev/null 2>&1; then
-    run "a smaller netlist of the least delay" 0 '^  kept .* lwarea -w 6 -t max' -q -l $library bench/circuits/rca8_y.blif
-    run "a smaller netlist under a certificate" 0 '^  kept .* lwarea -w 6 -t each' -q --area each -l $library bench/circuits/rca8_y.blif
-    grep -q '^#@ label' "$room/made/mapped.blif" && grep -q 'shown: front to netlist, by theorem and lwmap check' "$room/out"
-    verdict "a smaller netlist under a certificate: checked" $?
-    run "a smaller netlist within a time" 0 '^  kept .* lwarea -w 6 -t 9,' -q --area 9 -l $library bench/circuits/rca8_y.blif
+    run "all networks joined" 0 '^  kept .* lwarea -e 2 -t max, with 9 networks' -q -l $library bench/circuits/rca8_y.blif
+    [ "$(grep -c '^shown' "$room/out")" -eq 2 ] && grep -q '^shown: network as given to netlist, by the theorem of lwarea$' "$room/out"
+    verdict "all networks joined: no step of ABC is compared" $?
+    run "all networks joined, under a certificate" 0 '^  kept .* lwarea -e 2 -t each' -q --area each -l $library bench/circuits/rca8_y.blif
+    grep -q '^#@ label' "$room/made/mapped.blif" && grep -q 'shown: network as given to netlist, by theorem and lwarea -k' "$room/out"
+    verdict "all networks joined, under a certificate: checked" $?
+    run "all networks joined, within a time" 0 '^  kept .* lwarea -e 2 -t 9,' -q --area 9 -l $library bench/circuits/rca8_y.blif
+    run "an area flow and turns joined, too" 0 '^  kept .* lwarea -e 3 -t max, with 1[2-5] networks' -q --effort best -l $library bench/circuits/rca8_y.blif
+    run "one network made smaller" 0 '^  kept .* lwarea -w 6 -t max, after' -q --effort fast -l $library bench/circuits/rca8_y.blif
+    run "one network made smaller, under a certificate" 0 'by theorem and lwarea -k' -q --effort fast --area each -l $library bench/circuits/rca8_y.blif
+    run "latches joined" 0 '^  kept .* lwarea -e 2 -t max, with 9 networks' -q -l $library "$room/sub.blif"
 else
     echo "skipped: there is no program lwarea, so no netlist got a smaller area"
 fi
 printf '#!/bin/sh\necho lwarea: out of memory >&2; exit 8\n' >"$room/lwarea" && chmod +x "$room/lwarea"
 LWAREA_PROGRAM=$room/lwarea python3 lwflow -q -o "$room/made" -l $library bench/circuits/rca8_y.blif >"$room/out" 2>"$room/err" &&
-    grep -q '^  kept .* lwmap -w 6' "$room/out" && grep -q '^left out: lwarea -w 6 -t max, after 3 rounds: lwarea: out of memory' "$room/out"
+    grep -q '^  kept .* lwmap -w 6' "$room/out" && grep -q '^left out: lwarea -w 6 -t max, after 3 rounds: lwarea: out of memory' "$room/out" &&
+    grep -q '^left out: lwarea -e 2 -t max, with 9 networks: lwarea: out of memory' "$room/out"
 verdict "an lwarea that fails is left out" $?
 for status in 0 1; do
     printf '#!/bin/sh\nexit %s\n' $status >"$room/lwequal" && chmod +x "$room/lwequal"

@@ -1,9 +1,9 @@
 """What area may cost in delay: netlists with less area for the networks of a search, and the order in which netlists are kept.
 
-lwarea makes these, so that each output arrives by its deadline with an area of at most that of lwmap's netlist. Where it is not there,
-'lwmap trade' does for a deadline that is later than the least delay.
+lwarea makes these, so that each output arrives by its deadline: of the design with all networks as its choices (joined.py), or else of
+single networks. Where it is not there, 'lwmap trade' does for a deadline that is later than the least delay.
 """
-from . import genlib, program, runs, search
+from . import genlib, joined, program, runs, search
 from .script import Fault
 from .search import Netlist
 
@@ -37,7 +37,7 @@ def asked(work, area, netlist):
 
 def recovered(work, netlist, time):
     """lwarea's netlist of the network of one of lwmap's, or None."""
-    network, width, effort = netlist.network, str(netlist.width), str(work.effort.area)
+    network, width, effort = netlist.network, str(netlist.width), str(work.effort.area[-1])
     by, file = f"lwarea -w {width} -t {time}", f"lwarea{width}.{network.file}"
     options = ["-e", effort, "-t", time]
     command = [program.path("lwarea"), "-w", width]
@@ -47,7 +47,8 @@ def recovered(work, netlist, time):
         work.lose(f"{by}, {network.said}", ended, work.search)
         return None
     certified = [*command, "-c", *options] if time == "each" else None
-    return Netlist(file, network, by, network.said, search.figures(work, file), search.Maker("lwarea", netlist.width, certified))
+    checked = [program.path("lwarea"), "-k", "-w", width]
+    return Netlist(file, network, by, network.said, search.figures(work, file), search.Maker("lwarea", netlist.width, certified, checked))
 
 
 def trade(work, latest):
@@ -66,8 +67,23 @@ def trade(work, latest):
         work.keep([Netlist(file, network, by, network.said, search.figures(work, file), search.Maker("lwmap trade"))])
 
 
+def join(work, area):
+    """Netlists of the design with all networks as its choices: whether there are any."""
+    it = joined.Join(work)
+    it.grow()
+    words = ["each"] if area[0] == "each" else ["max", "102%"]
+    found = it.kept(words)
+    if found and area[0] in ("percent", "time"):
+        word = asked(work, area, min(found, key=Netlist.rank))
+        it.kept([word] if word and word not in words else [])
+    return bool(found)
+
+
 def recover(work, area):
-    """Netlists with less area, of the networks whose netlists come first."""
+    """Netlists with less area: of all networks joined, or of those networks whose netlists come first."""
+    if program.has("lwarea") and work.effort.joined and join(work, area):
+        return
+    search.loop(work)
     if not program.has("lwarea"):
         trade(work, deadline(work, area))
         return

@@ -16,7 +16,7 @@ The best netlist has the smallest delay, and among these the smallest area. With
 netlist under its loads, and the delay of the sized one counts; with --no-loads the delays of the cells count.
 """
 MORE = """
-The folder gets mapped.blif (the mapper's netlist, with its certificate if lwmap made it), mapped.v (that netlist, or with
+The folder gets mapped.blif (the mapper's netlist, with its certificate if it has one), mapped.v (that netlist, or with
 Liberty the sized one, as Verilog with the design's ports), cells.v (its cells), report.html and report.json (every try, what was
 shown, the critical path, arrivals and cells) and log.txt. Files are moved into place at the end; if no netlist was found, nothing
 changes.
@@ -31,12 +31,13 @@ status  0  a netlist, and every step from the design to it was shown
 
 what --area asks for
   max    among the netlists of the smallest delay the smallest one (the default)
-  each   lwmap's netlist of the smallest delay, in which every output is as early as its front end allows
+  each   the netlist of lwmap or lwarea of the smallest delay, in which every output is as early as its networks allow
   N%     the smallest netlist within N percent of the smallest delay, N from 100
   T      the smallest netlist within the delay T, in the library's unit
 
-For the networks whose netlists come first, lwarea makes smaller ones with that deadline. Where it is not there, 'lwmap trade' does
-for N% and T, up to 5,000 nodes and if loads do not count.
+lwarea gets the design as given, with all networks that ABC made as further choices, which nobody has to trust: its netlists rest on a
+proof from the design as given. It gets the deadlines max and 102%, and that of --area. With --effort fast it gets single networks.
+Where it is not there, 'lwmap trade' does for N% and T, up to 5,000 nodes and if loads do not count.
 
 example: ./lwflow -l bench/libs/mcnc.genlib examples/verilog/processor.v
          processor.lwflow/report.html says then which try won, by how much, and what was shown

@@ -153,7 +153,8 @@ def heads_of(loads):
 def commands(found):
     """What the names of the commands before the mappers mean, of those that occur."""
     meaning = [("as given", "the design without any command of ABC"), ("if4", fronts.FRONTS["if4"]), ("dch+map", f"{fronts.FRONTS['dch+map']}"),
-               ("round", fronts.ROUND), ("loop", "a netlist of this search as a network again")]
+               ("round", fronts.ROUND), ("loop", "a netlist of this search as a network again"),
+               ("networks", "the design as given, with all networks that ABC made as further choices")]
     names = " ".join(one["front"] for one in found["netlists"])
     said = [f"<b>{text(name)}</b> is {f'<code>{text(what)}</code>' if ';' in what else text(what)}" for name, what in meaning if name in names]
     return f'<p class="soft">After the comma stands what ABC did before the mapper: {"; ".join(said)}.</p>'
@@ -236,9 +237,10 @@ def drawing(found):
 REASONS = [
     ("theorem", "lwmap is written in Rattle, a Rust with contracts. A proof checker has verified once and for all that every netlist of lwmap "
                 "computes its network and that none in its search space is earlier."),
-    ("theorem of lwarea", "lwarea is written in the same language. Every netlist of it computes its network, each output arrives by its deadline, "
-                          "and the area is at most that of lwmap's netlist."),
+    ("theorem of lwarea", "lwarea is written in the same language. Every netlist of it computes its network, and each output arrives by its "
+                          "deadline. Networks that ABC made are further choices, of which lwarea believes nothing that it has not proved."),
     ("lwmap check", "This netlist carries a certificate. lwmap check, which is proved too, has verified the netlist with it."),
+    ("lwarea -k", "This netlist carries a certificate. lwarea -k, which is proved too, has verified the netlist with it."),
     ("by lwequal", "lwequal looked for an assignment of the inputs under which the two networks differ. That there is none where it says so is "
                    "proved, too."),
     ("by cec", "ABC's checker cec looked for an assignment of the inputs under which the two networks differ, and found that there is none."),

@@ -4,7 +4,7 @@ import os
 import re
 from collections import namedtuple
 
-from . import abc, equality, program, registers, runs, search, timing
+from . import abc, equality, registers, runs, search, timing
 from .script import Fault
 
 Step = namedtuple("Step", "what verdict why")
@@ -74,25 +74,25 @@ class Prover:
         return Step(f"{one.name} to {other.name}, by {by}", verdict, why)
 
     def checked(self, netlist):
-        """A netlist of ours: equivalent by theorem, and lwmap check looks at its certificate, if it can have one."""
+        """A netlist of ours: equivalent by theorem, and our programs look at its certificate, if it can have one."""
         work, maker = self.work, netlist.maker
-        by_theorem = Step(f"front to netlist, by the theorem of {maker.program}", "equal", "")
+        what = "network as given to netlist" if netlist.network.parent is None else "front to netlist"
+        by_theorem = Step(f"{what}, by the theorem of {maker.program}", "equal", "")
         if not maker.certified:
             return by_theorem
-        given, width = work.restored(netlist.network.file), str(netlist.width)
-        made, checked = "certified.blif", "lwmap check"
-        ended = runs.run([*maker.certified, work.library.file, given], work.path("certify.log"), cwd=work.room, limit=work.search * 2,
-                         out=work.path(made))
+        given, made = work.restored(netlist.network.file), "certified.blif"
+        checked = "lwarea -k" if maker.program == "lwarea" else "lwmap check"
+        files = [work.library.file, given, *maker.more]
+        ended = runs.run([*maker.certified, *files], work.path("certify.log"), cwd=work.room, limit=work.search * 2, out=work.path(made))
         if ended.status:
             return by_theorem._replace(why="no certificate: " + runs.tail(ended.log))
         netlist.certified = made
-        command = [program.path(), "check", "-w", width, work.library.file, given, made]
-        ended = runs.run(command, work.path("check.log"), cwd=work.room, limit=work.proof, out=work.path("check.out"))
+        ended = runs.run([*maker.checked, *files, made], work.path("check.log"), cwd=work.room, limit=work.proof, out=work.path("check.out"))
         answer = runs.tail(work.path("check.out"))
         if answer.startswith("yes"):
-            return Step(f"front to netlist, by theorem and {checked}", "equal", "")
+            return Step(f"{what}, by theorem and {checked}", "equal", "")
         why = answer or runs.tail(ended.log) or f"over {work.proof:.0f} s"
-        return Step(f"front to netlist, by theorem; {checked}", "different" if answer.startswith("no") else "undecided", why)
+        return Step(f"{what}, by theorem; {checked}", "different" if answer.startswith("no") else "undecided", why)
 
     def sizing(self, netlist):
         """The step from the mapper's netlist to the sized one."""

@@ -1,7 +1,7 @@
 """The search for the netlists of a network of logic: front ends by ABC, lwmap after each, and ABC's own mapper beside it.
 
 A network (Network) is a file in the room, with the one that it was made from and how: by ABC, which cec has to confirm, or by
-lwmap, whose netlists are equivalent to what it read by theorem. All of them are without latches. What is mapped and timed has
+lwmap and lwarea, whose netlists are equivalent to what they read by theorem. All of them are without latches. What is mapped and timed has
 the latches and the arrivals of the design (restored).
 """
 import os
@@ -11,15 +11,17 @@ from concurrent.futures import ThreadPoolExecutor
 from . import abc, blif, fronts, genlib, library, program, runs, timing
 from .script import Fault
 
-# Fronts and rounds of ABC, turns of the loop, widths, seconds of a step and of a proof; the effort of lwarea, and for how many netlists.
-Effort = namedtuple("Effort", "fronts rounds loop widths search proof area recovered")
+# Fronts and rounds of ABC, turns of the loop, widths, seconds of a step and of a proof; the efforts of lwarea, and for how many networks
+# it runs each by itself; whether it runs for all of them joined, and how many turns may add a network to these.
+Effort = namedtuple("Effort", "fronts rounds loop widths search proof area recovered joined turns")
 EFFORTS = {
-    "fast": Effort(("if4",), 1, 0, (6,), 2, 2, 1, 2),
-    "normal": Effort(("if4", "dch+map"), 3, 0, (6,), 10, 10, 2, 4),
-    "best": Effort(("if4", "dch+map"), 4, 20, (6, 8), 30, 40, 3, 4),
+    "fast": Effort(("if4",), 1, 0, (6,), 2, 2, (1,), 2, False, 0),
+    "normal": Effort(("if4", "dch+map"), 3, 0, (6,), 10, 10, (2,), 4, True, 0),
+    "best": Effort(("if4", "dch+map"), 4, 20, (6, 8), 30, 40, (2, 3), 4, True, 3),
 }
-# The program whose theorem speaks of a netlist, its width, and its command with a certificate, without the files; None where it has none.
-Maker = namedtuple("Maker", "program width certified", defaults=(None, None))
+# The program whose theorem speaks of a netlist, its width, and without the files its command with a certificate, None where it has none,
+# and the one that checks this; the further networks that it had.
+Maker = namedtuple("Maker", "program width certified checked more", defaults=(None, None, None, ()))
 GIVEN = "as given"
 LARGE = 1500
 SIGNALS = 262144
@@ -222,11 +224,11 @@ def map_one(work, network, width):
     if ended.status or ended.late:
         work.lose(f"lwmap -w {width}, {network.said}", ended, work.search)
         return None
-    return Netlist(file, network, f"lwmap -w {width}", network.said, figures(work, file), Maker("lwmap map", width, [*command, "-c"]))
+    return Netlist(file, network, f"lwmap -w {width}", network.said, figures(work, file), Maker("lwmap map", width, [*command, "-c"], [program.path(), "check", "-w", str(width)]))
 
 
 def last_step(work, networks):
-    """Our netlists of some networks. Each is mapped for itself; what joins networks belongs here, and takes the whole list."""
+    """lwmap's netlists of some networks, each by itself."""
     pairs = [(network, width) for network in networks for width in work.effort.widths]
     wide = {network.file: widest(work.path(network.file)) for network in networks}
     pairs = [(network, width) for network, width in pairs if width == min(work.effort.widths) or wide[network.file] > min(work.effort.widths)]
@@ -275,15 +277,14 @@ def search(work):
     if work.size + len(work.ports.inputs) + len(work.ports.latches) > SIGNALS:
         raise Fault(TOO_LARGE)
     work.write("cut.blif", blif.cut(work.path(work.design)))
-    base = Network("cut.blif", GIVEN)
-    made, netlists = fronts_of(work, base)
-    last_step(work, [base] + made)
+    work.base = Network("cut.blif", GIVEN)
+    made, netlists = fronts_of(work, work.base)
+    last_step(work, [work.base] + made)
     keep_theirs(work, netlists)
     if not work.netlists:
         why = "; ".join(dict.fromkeys(work.lost))
         why += "; --no-loads sizes nothing" if "sizing" in why else ""
         raise Fault("no netlist: " + why)
-    loop(work)
     return work.netlists
 
 

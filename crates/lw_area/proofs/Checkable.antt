@@ -16,12 +16,13 @@ use Rattle.lw_laws.specs.Covers.{Pattern, Timing, tree_of}
 use Rattle.lw_laws.specs.Delays.{delay_cost}
 use Rattle.lw_laws.specs.Extracts.{class_at, net_classes}
 use Rattle.lw_laws.specs.Graphs.{Graph, most_classes}
-use Rattle.lw_laws.specs.Headline.{IsMapping, Port as PlainPort}
+use Rattle.lw_laws.specs.Headline.{CoversForms, IsMapping, Port as PlainPort}
+use Rattle.lw_laws.specs.Listings.{Listing, listing_of}
 use Rattle.lw_laws.specs.Mapped.{root_class}
-use Rattle.lw_laws.specs.MappedNetlists.{AreNetNames, root_classes}
+use Rattle.lw_laws.specs.MappedNetlists.{AreNetNames, IsMatchNetlistOfForms, root_classes}
 use Rattle.lw_laws.specs.Matches.{IsLeastCover}
 use Rattle.lw_laws.specs.Networks.{Network}
-use Rattle.lw_laws.specs.Netlists.{Netlist}
+use Rattle.lw_laws.specs.Netlists.{AreByDepth, Netlist}
 use Rattle.lw_laws.specs.Rounds.{labels_in}
 use Rattle.lw_laws.proofs.Lists.{slice_get_some}
 use Rattle.lw_laws.proofs.MappedNames.{match_names_are}
@@ -44,7 +45,7 @@ use Rattle.lw_label.specs.Delays.{most_time}
 use Rattle.lw_label.proofs.CellLaws.{timing_up}
 use Rattle.lw_netlist.specs.declared.gate.Gate.{Gate}
 use Rattle.lw_netlist.specs.declared.gate.Port.{Port}
-use Rattle.lw_netlist.specs.Netlists.{NetlistParts}
+use Rattle.lw_netlist.specs.Netlists.{IsNetlist, NetlistParts}
 use Rattle.lw_netlist.specs.Plain as netlist
 use Rattle.lw_netlist.specs.Plain.{HasCell, IsOver, mapped_ports, plain_port, port_name}
 use Rattle.lw_mapped.specs.declared.certificate.Certificate.{Certificate}
@@ -68,7 +69,7 @@ use Rattle.lw_map.proofs.Ranges.{label_below, unfolds_low}
 use Rattle.lw_answers.specs.Checked.{AreApart}
 use Rattle.lw_answers.proofs.FormGraphs.{form_graph}
 use Rattle.lw_top.proofs.NetNames.{nets-named}
-use Rattle.lw_area.specs.Recovered.{IsCertificateOver, IsRecovered, class_number}
+use Rattle.lw_area.specs.Recovered.{IsCertificateOver, class_number, form_in}
 use Rattle.lw_area.specs.Words.{Settings}
 
 -- the names of outputs side by side
@@ -96,7 +97,16 @@ classes_below most (Some c ∷ classes) (g ∷ gates) e low =
     let tail : map (option_map class_number) classes ≡ map Some gates = cc in
     All-cons (λ class. IfSome class (λ (c : ClassId). c.0 < most)) (Some c) classes (subst (λ k. k < most) (sym head) (low 0 g refl)) (classes_below most classes gates tail (λ j d at. low (suc j) d at))
 
-module _ (settings : Settings) (cells : List CellParts) (model : Parsed) (wide : IsWide settings.options) (kept : AreKept model) (lib : IsLibrary cells) (within : IsWithinLimits settings.options model.network) (n : NetlistParts) (is : IsRecovered settings cells model.network model.starts n) where
+-- what is known of a netlist over a listing of forms
+pub record IsOverListing (settings : Settings) (cells : List CellParts) (parts : NetworkParts) (starts : List Micro) (o : Listing) (n : NetlistParts) : Type 0 where
+  pub kept : IsNetlist n
+  pub model_name : n.model ≡ parts.model
+  pub covers : CoversForms settings.options.mode settings.options.width o.signals (form_in settings parts) (network.plain parts) (ports_of parts) (library_patterns cells) (timing_of cells starts) (truth_of_cells cells) (netlist.plain n) (mapped_ports n)
+  pub matches : IsMatchNetlistOfForms settings.options.mode parts.inputs o (form_in settings parts) (ports_of parts) (library_patterns cells) (map length (timing_of cells starts).delays) (netlist.plain n) n.names (mapped_ports n)
+  pub by_depth : AreByDepth (netlist.plain n)
+
+-- Over the forms of one network alone.
+module _ (settings : Settings) (cells : List CellParts) (model : Parsed) (wide : IsWide settings.options) (kept : AreKept model) (lib : IsLibrary cells) (within : IsWithinLimits settings.options model.network) (n : NetlistParts) (is : IsOverListing settings cells model.network model.starts (listing_of settings.options.width (network.plain model.network)) n) where
   abbrev options : Options
   options = settings.options
 

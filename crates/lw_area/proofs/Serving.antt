@@ -1,64 +1,43 @@
 -- What was written, and what it is a text of.
-use Rattle.std.proofs.Common.{ℕ, Bool, List, map, Option, Result, Ok, Err, IfOk, refl, arith}
-use Rattle.std.proofs.lemmas.List.{length-map, length-take-le}
-use Rattle.std.proofs.lemmas.Slice.Zip.{AllZip-long}
+use Rattle.std.proofs.Common.{ℕ, Bool, List, Option, Result, Ok, Err, IfOk}
 use Rattle.lw_io.specs.declared.file.File.{File}
-use Rattle.lw_net.specs.Ports.{output_port}
-use Rattle.lw_net.specs.Networks.{name_in}
-use Rattle.lw_blif.specs.declared.parsed.Parsed.{Parsed}
-use Rattle.lw_blif.specs.BlifNetworks.{IsModel}
-use Rattle.lw_genlib.specs.Cells.{CellParts}
-use Rattle.lw_netlist.specs.Plain.{plain_port}
-use Rattle.lw_mapped.specs.Texts.{IsFramed}
-use Rattle.lw_map.specs.declared.mapping.CertifiedNetlist.{CertifiedNetlist}
 use Rattle.lw_area.specs.declared.outcome.Answer.{Answer}
 use Rattle.lw_area.specs.declared.outcome.Ending.{Ending}
-use Rattle.lw_area.specs.declared.outcome.Ending.TheVariants.{Done, WriteFault, Refused}
+use Rattle.lw_area.specs.declared.outcome.Ending.TheVariants.{Done, Mapped, WriteFault, Refused}
 use Rattle.lw_area.specs.declared.refusal.Refusal.{Refusal}
-use Rattle.lw_area.specs.Outcomes.{CanBeWritten, Gives, IsMade, IsTextFor, Meets, WritesOut}
-use Rattle.lw_area.specs.Words.{Asked, Settings}
-
--- a netlist that was made
-module _ (settings : Settings) (cells : List CellParts) (model : Parsed) (fits : IsModel model) (made : CertifiedNetlist) (is : IsMade settings cells model made) where
-  -- the frame and the starts fit it
-  framed : IsFramed made.netlist model.frame model.starts
-  framed =
-      let inputs = is.recovered.covers.inputs in
-      let own = fits.frame.own_inputs in
-      let roots = fits.frame.own_outputs in
-      let starts = fits.starts.one_each in
-      let zipped = AllZip-long _ (map (output_port model.network) model.network.outputs) (map plain_port made.netlist.outputs) is.recovered.covers.output_names in
-      let a = length-map model.network.outputs (output_port model.network) in
-      let b = length-map made.netlist.outputs plain_port in
-      let d = length-map model.network.outputs (name_in model.network) in
-      let named = fits.network.named in
-      let names = length-take-le model.network.inputs model.network.names (omega arith) in
-      record {
-        inputs = omega arith;
-        outputs = omega arith;
-        one_start = omega arith;
-      }
-
-  pub made_given : Gives settings cells model (Ok (record { library = cells; model = model; mapped = made }))
-  made_given = (
-    record {
-      within = is.within;
-      netlist = made.netlist;
-      recovered = is.recovered;
-      certificate = made.certificate;
-      asked = is.asked;
-      written = refl;
-    },
-    record { over = is.over; framed = framed; one_each = is.one_each },
-  )
+use Rattle.lw_area.specs.declared.sources.Sources.{Sources}
+use Rattle.lw_area.specs.Outcomes.{CanBeWritten, Gives, IsTextFor, Meets, WritesPage, WritesText}
+use Rattle.lw_area.specs.Words.{Settings, Task, checking, mapping, usage, version}
 
 -- what is given can be written
-pub writable : (settings : Settings) (cells : List CellParts) (model : Parsed) (r : Result Answer Refusal) → Gives settings cells model r → IfOk r CanBeWritten
-writable settings cells model (Ok a) gives = gives.1
-writable settings cells model (Err e) gives = tt
+pub writable : (settings : Settings) (s : Sources) (r : Result Answer Refusal) → Gives settings s r → IfOk r CanBeWritten
+writable settings s (Ok a) gives = gives.1
+writable settings s (Err e) gives = tt
 
--- a text of what was asked for was written, or a prefix of one
-pub served : {O : Type 0} (told : Option (List File)) (before now : ℕ) (taken : O → Option (List ℕ)) (is_finished : O → Bool) (faults : O → ℕ) (old new : O) (asked : Asked) (text : List ℕ) (e : Ending) → IsTextFor told asked text → WritesOut taken is_finished faults old new text e → Meets told before now taken is_finished faults old new asked e
-served told before now taken is_finished faults old new asked text Done is written = (text, is, written)
-served told before now taken is_finished faults old new asked text WriteFault is written = (text, is, written)
-served told before now taken is_finished faults old new asked text (Refused r) is written = absurd written
+module _ {O : Type 0} (told : Option (List File)) (before now : ℕ) (taken : O → Option (List ℕ)) (is_finished : O → Bool) (faults : O → ℕ) (old new : O) where
+  -- a page was written, or a prefix of it
+  pub usage_served : (text : List ℕ) (e : Ending) → IsTextFor told usage text → WritesPage taken is_finished faults old new text e → Meets told before now taken is_finished faults old new usage e
+  usage_served text Done is written = (text, is, written)
+  usage_served text WriteFault is written = (text, is, written)
+  usage_served text (Mapped notes) is written = absurd written
+  usage_served text (Refused r) is written = absurd written
+
+  pub version_served : (text : List ℕ) (e : Ending) → IsTextFor told version text → WritesPage taken is_finished faults old new text e → Meets told before now taken is_finished faults old new version e
+  version_served text Done is written = (text, is, written)
+  version_served text WriteFault is written = (text, is, written)
+  version_served text (Mapped notes) is written = absurd written
+  version_served text (Refused r) is written = absurd written
+
+  -- a yes was written, or a prefix of it
+  pub yes_served : (task : Task) (mapped : List ℕ) (text : List ℕ) (e : Ending) → IsTextFor told (checking task mapped) text → WritesPage taken is_finished faults old new text e → Meets told before now taken is_finished faults old new (checking task mapped) e
+  yes_served task mapped text Done is written = (text, is, written)
+  yes_served task mapped text WriteFault is written = (text, is, written)
+  yes_served task mapped text (Mapped notes) is written = absurd written
+  yes_served task mapped text (Refused r) is written = absurd written
+
+  -- the text of a netlist was written, or a prefix of it
+  pub text_served : (task : Task) (text : List ℕ) (e : Ending) → IsTextFor told (mapping task) text → WritesText taken is_finished faults old new text e → Meets told before now taken is_finished faults old new (mapping task) e
+  text_served task text Done is written = absurd written
+  text_served task text WriteFault is written = (text, is, written)
+  text_served task text (Mapped notes) is written = (text, is, written)
+  text_served task text (Refused r) is written = absurd written

@@ -1,86 +1,120 @@
 -- One step after another, over files that may be known.
-use Rattle.std.proofs.Common.{inl, inr, ℕ, ◌≤◌, List, Option, Result, Ok, Err, refl, arith}
+use Rattle.std.proofs.Common.{◌≡◌, inl, inr, ℕ, ◌≤◌, List, Option, Some, Result, Ok, Err, refl, ap, subst, arith}
 use Rattle.lw_io.specs.declared.file.File.{File}
 use Rattle.lw_io.specs.Files.{bytes_of}
 use Rattle.lw_files.specs.declared.fault.FileFault.{FileFault}
 use Rattle.lw_files.specs.declared.fault.FileFault.TheVariants.{Unread, Memory}
 use Rattle.lw_files.specs.Reading as file
-use Rattle.lw_files.specs.Sources.{FileStep, ReadsLibrary, ReadsModel}
+use Rattle.lw_files.specs.Sources.{FileStep}
 use Rattle.lw_files.specs.Steps.{Files, followed_by}
-use Rattle.lw_files.proofs.Steps.{stop, answered}
 use Rattle.lw_genlib.specs.Cells.{CellParts}
 use Rattle.lw_blif.specs.declared.parsed.Parsed.{Parsed}
 use Rattle.lw_map.specs.declared.fault.MapFault.TheVariants as map_fault
 use Rattle.lw_area.specs.declared.outcome.Answer.{Answer}
 use Rattle.lw_area.specs.declared.refusal.Refusal.{Refusal}
-use Rattle.lw_area.specs.declared.refusal.Refusal.TheVariants.{Library, Network, Unmapped}
-use Rattle.lw_area.specs.Answers.{HasReason, IsTaskAnswer, Recovers, Step, in_library, in_network}
-use Rattle.lw_area.specs.Outcomes.{ComesTo, Gives, answer_text}
+use Rattle.lw_area.specs.declared.refusal.Refusal.TheVariants.{Library, Network, Further, Mapped, Unmapped}
+use Rattle.lw_area.specs.declared.sources.Further as sources
+use Rattle.lw_area.specs.declared.sources.Sources.{Sources}
+use Rattle.lw_area.specs.Answers.{Recovers}
+use Rattle.lw_area.specs.Checks.{in_mapped}
+use Rattle.lw_area.specs.Outcomes as outcome
+use Rattle.lw_area.specs.Outcomes.{Gives, answer_text}
+use Rattle.lw_area.specs.Sources.{ComesTo, HasReason, IsSourcesOf, ReadsAll, Step, in_further, in_library, in_network}
 use Rattle.lw_area.specs.Words.{Task}
 
-module _ {A B : Type 0} (told : Option (List File)) (first : Step A) (next : A → Step B) where
-  refused : (before now : ℕ) (e : Refusal) → HasReason told before now first e → HasReason told before now (followed_by first next) e
-  refused before now (Library Unread) (inl rose) = inl rose
-  refused before now (Library Unread) (inr found) = inr (found.0, found.1, inr (Library Unread, found.2, refl))
-  refused before now (Network Unread) (inl rose) = inl rose
-  refused before now (Network Unread) (inr found) = inr (found.0, found.1, inr (Network Unread, found.2, refl))
-  refused before now (Library Memory) known = tt
-  refused before now (Network Memory) known = tt
-  refused before now (Unmapped map_fault.Memory) known = tt
-  refused before now other known = stop told first next other known
+-- a reason of one step is one of another that refuses for it
+module _ {A B : Type 0} (told : Option (List File)) (before mid now : ℕ) (s : Step A) (t : Step B) (le : before ≤ mid) (moves : (e : Refusal) (files : List File) → told ≡ Some files → s (bytes_of files) (Err e) → t (bytes_of files) (Err e)) where
+  pub moved : (e : Refusal) → HasReason told mid now s e → HasReason told before now t e
+  moved (Library Unread) (inl rose) = inl (omega arith)
+  moved (Library Unread) (inr (files, known, is)) = inr (files, known, moves (Library Unread) files known is)
+  moved (Network Unread) (inl rose) = inl (omega arith)
+  moved (Network Unread) (inr (files, known, is)) = inr (files, known, moves (Network Unread) files known is)
+  moved (Further place Unread) (inl rose) = inl (omega arith)
+  moved (Further place Unread) (inr (files, known, is)) = inr (files, known, moves (Further place Unread) files known is)
+  moved (Mapped Unread) (inl rose) = inl (omega arith)
+  moved (Mapped Unread) (inr (files, known, is)) = inr (files, known, moves (Mapped Unread) files known is)
+  moved (Library Memory) reason = tt
+  moved (Network Memory) reason = tt
+  moved (Further place Memory) reason = tt
+  moved (Mapped Memory) reason = tt
+  moved (Unmapped map_fault.Memory) reason = tt
+  moved other reason = λ files known. moves other files known (reason files known)
 
-  -- a step after the first refuses
-  refused_later : (before mid now : ℕ) (x : A) (e : Refusal) → before ≤ mid → file.Known told first (Ok x) → HasReason told mid now (next x) e → HasReason told before now (followed_by first next) e
-  refused_later before mid now x (Library Unread) le known (inl rose) = inl (omega arith)
-  refused_later before mid now x (Library Unread) le known (inr found) = inr (found.0, found.1, inl (x, known found.0 found.1, found.2))
-  refused_later before mid now x (Network Unread) le known (inl rose) = inl (omega arith)
-  refused_later before mid now x (Network Unread) le known (inr found) = inr (found.0, found.1, inl (x, known found.0 found.1, found.2))
-  refused_later before mid now x (Library Memory) le known later = tt
-  refused_later before mid now x (Network Memory) le known later = tt
-  refused_later before mid now x (Unmapped map_fault.Memory) le known later = tt
-  refused_later before mid now x other le known later = answered told first next x (Err other) known later
+module _ {A B : Type 0} (told : Option (List File)) (first : Step A) (next : A → Step B) where
+  -- the first step refuses
+  pub stops : (before now : ℕ) (e : Refusal) → HasReason told before now first e → HasReason told before now (followed_by first next) e
+  stops before now e = moved told before before now first (followed_by first next) (omega arith) (λ f files known is. inr (f, is, refl)) e
+
+  -- a step after the first comes to this
+  pub then_comes : (before mid now : ℕ) (x : A) (r : Result B Refusal) → before ≤ mid → file.Known told first (Ok x) → ComesTo told mid now (next x) r → ComesTo told before now (followed_by first next) r
+  then_comes before mid now x (Ok y) le has comes = λ files known. inl (x, has files known, comes files known)
+  then_comes before mid now x (Err e) le has comes = moved told before mid now (next x) (followed_by first next) le (λ f files known is. inl (x, has files known, is)) e comes
 
 -- what a call that reads a file says of it
-library_reason : {A : Type 0} (told : Option (List File)) (before now : ℕ) (step : FileStep A) (fault : FileFault) → file.HasReason told before now step fault → HasReason told before now (in_library step) (Library fault)
-library_reason told before now step Unread reason = reason
-library_reason told before now step Memory reason = tt
-library_reason told before now step other reason = reason
+module _ {A : Type 0} (told : Option (List File)) (before now : ℕ) (step : FileStep A) where
+  pub library_reason : (fault : FileFault) → file.HasReason told before now step fault → HasReason told before now (in_library step) (Library fault)
+  library_reason Unread reason = reason
+  library_reason Memory reason = tt
+  library_reason other reason = reason
 
-network_reason : {A : Type 0} (told : Option (List File)) (before now : ℕ) (step : FileStep A) (fault : FileFault) → file.HasReason told before now step fault → HasReason told before now (in_network step) (Network fault)
-network_reason told before now step Unread reason = reason
-network_reason told before now step Memory reason = tt
-network_reason told before now step other reason = reason
+  pub network_reason : (fault : FileFault) → file.HasReason told before now step fault → HasReason told before now (in_network step) (Network fault)
+  network_reason Unread reason = reason
+  network_reason Memory reason = tt
+  network_reason other reason = reason
 
-module _ (task : Task) where
-  abbrev pub first : Step (List CellParts)
-  first = in_library (ReadsLibrary task.library)
+  pub further_reason : (place : ℕ) (fault : FileFault) → file.HasReason told before now step fault → HasReason told before now (in_further place step) (Further place fault)
+  further_reason place Unread (inl rose) = inl rose
+  further_reason place Unread (inr (files, known, is)) = inr (files, known, (refl, is))
+  further_reason place Memory reason = tt
+  further_reason place other reason = λ files known. (refl, reason files known)
 
-  abbrev pub second : Step Parsed
-  second = in_network (ReadsModel task.network)
+  pub mapped_reason : (fault : FileFault) → file.HasReason told before now step fault → HasReason told before now (in_mapped step) (Mapped fault)
+  mapped_reason Unread reason = reason
+  mapped_reason Memory reason = tt
+  mapped_reason other reason = reason
 
-  abbrev pub last : List CellParts → Parsed → Step (List ℕ)
-  last cells model = Recovers task.settings cells model
+-- What follows when the sources were read.
+module _ {T : Type 0} (task : Task) (next : List CellParts → Parsed → List sources.Further → Step T) (files : Files) where
+  pub sources_then : (s : Sources) (r : Result T Refusal) → IsSourcesOf task files (Ok s) → next s.library s.model s.further.items files r → ReadsAll task next files r
+  sources_then s r (inl (cells, one, inl (model, two, inl (further, three, (same_cells, same_model, same_further))))) comes =
+      inl (
+        cells,
+        one,
+        inl (
+          model,
+          two,
+          inl (
+            further,
+            three,
+            subst (λ (xs : List CellParts). next xs model further files r) same_cells
+                (subst (λ (m : Parsed). next s.library m further files r) same_model
+                (subst (λ (fs : List sources.Further). next s.library s.model fs files r) same_further comes)),
+          ),
+        ),
+      )
+  sources_then s r (inl (cells, one, inl (model, two, inr (e, three, same)))) comes = cc
+  sources_then s r (inl (cells, one, inr (e, two, same))) comes = cc
+  sources_then s r (inr (e, one, same)) comes = cc
 
-module _ (told : Option (List File)) (task : Task) where
-  pub no_library : (before now : ℕ) (fault : FileFault) → file.HasReason told before now (ReadsLibrary task.library) fault → HasReason told before now (IsTaskAnswer task) (Library fault)
-  no_library before now fault reason =
-      refused told (first task) (λ cells. followed_by (second task) (last task cells)) before now (Library fault) (library_reason told before now (ReadsLibrary task.library) fault reason)
+  pub sources_refused : (e : Refusal) → IsSourcesOf task files (Err e) → ReadsAll task next files (Err e)
+  sources_refused e (inl (cells, one, inl (model, two, inl (further, three, no)))) = absurd no
+  sources_refused e (inl (cells, one, inl (model, two, inr (f, three, same)))) = let is : f ≡ e = cc in inl (cells, one, inl (model, two, inr (f, three, ap Err is)))
+  sources_refused e (inl (cells, one, inr (f, two, same))) = let is : f ≡ e = cc in inl (cells, one, inr (f, two, ap Err is))
+  sources_refused e (inr (f, one, same)) = let is : f ≡ e = cc in inr (f, one, ap Err is)
 
-  module _ (cells : List CellParts) (has_cells : file.Known told (ReadsLibrary task.library) (Ok cells)) where
-    pub no_network : (before mid now : ℕ) (fault : FileFault) → before ≤ mid → file.HasReason told mid now (ReadsModel task.network) fault → HasReason told before now (IsTaskAnswer task) (Network fault)
-    no_network before mid now fault le reason =
-        refused_later told (first task) (λ cs. followed_by (second task) (last task cs)) before mid now cells (Network fault) le has_cells
-        (refused told (second task) (last task cells) mid now (Network fault) (network_reason told mid now (ReadsModel task.network) fault reason))
+module _ {T : Type 0} (told : Option (List File)) (task : Task) (next : List CellParts → Parsed → List sources.Further → Step T) where
+  pub refused_sources : (before now : ℕ) (e : Refusal) → HasReason told before now (IsSourcesOf task) e → HasReason told before now (ReadsAll task next) e
+  refused_sources before now e = moved told before before now (IsSourcesOf task) (ReadsAll task next) (omega arith) (λ f files known is. sources_refused task next (bytes_of files) f is) e
 
-    module _ (model : Parsed) (has_model : file.Known told (ReadsModel task.network) (Ok model)) where
-      both : (r : Result (List ℕ) Refusal) → ((files : Files) → last task cells model files r) → file.Known told (IsTaskAnswer task) r
-      both r comes =
-          answered told (first task) (λ cs. followed_by (second task) (last task cs)) cells r has_cells
-          (answered told (second task) (last task cells) model r has_model (λ files is. comes (bytes_of files)))
+  pub comes_after : (before mid now : ℕ) (s : Sources) → file.Known told (IsSourcesOf task) (Ok s) → before ≤ mid → (r : Result T Refusal) → ComesTo told mid now (next s.library s.model s.further.items) r → ComesTo told before now (ReadsAll task next) r
+  comes_after before mid now s has le (Ok y) comes = λ files known. sources_then task next (bytes_of files) s (Ok y) (has files known) (comes files known)
+  comes_after before mid now s has le (Err e) comes =
+      moved told before mid now (next s.library s.model s.further.items) (ReadsAll task next) le (λ f files known is. sources_then task next (bytes_of files) s (Err f) (has files known) is) e comes
 
-      -- what the parts come to is what the task does
-      pub comes_to : (before now : ℕ) (r : Result Answer Refusal) → Gives task.settings cells model r → ComesTo told before now task r
-      comes_to before now (Ok a) gives = both (Ok (answer_text a)) (λ files. gives.0)
-      comes_to before now (Err (Unmapped map_fault.Memory)) gives = tt
-      comes_to before now (Err (Unmapped fault)) gives = both (Err (Unmapped fault)) (λ files. gives)
-      comes_to before now (Err other) gives = absurd gives
+-- what the parts come to is what the task does
+module _ (told : Option (List File)) (task : Task) (s : Sources) (has : file.Known told (IsSourcesOf task) (Ok s)) where
+  pub comes_to : (before now : ℕ) (r : Result Answer Refusal) → Gives task.settings s r → outcome.ComesTo told before now task r
+  comes_to before now (Ok a) gives = λ files known. sources_then task (Recovers task.settings) (bytes_of files) s (Ok (answer_text a)) (has files known) gives.0
+  comes_to before now (Err (Unmapped map_fault.Memory)) gives = tt
+  comes_to before now (Err (Unmapped fault)) gives = λ files known. sources_then task (Recovers task.settings) (bytes_of files) s (Err (Unmapped fault)) (has files known) gives
+  comes_to before now (Err other) gives = absurd gives

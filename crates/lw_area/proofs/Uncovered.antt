@@ -1,12 +1,13 @@
 -- The answer to a task is that there is no cover exactly where some root has none.
-use Rattle.std.proofs.Common.{◌≡◌, ◌≢◌, ◌↔◌, inl, inr, ℕ, List, map, Some, Result, Ok, Err, Contains, slice_get, slice_index_or, refl, sym, ◌∙◌, subst, arith}
+use Rattle.std.proofs.Common.{◌≡◌, ◌≢◌, ◌↔◌, inl, inr, ℕ, zero, suc, List, [], ◌∷◌, map, Some, Result, Ok, Err, Contains, slice_get, slice_index_or, refl, sym, ◌∙◌, subst, arith}
 use Rattle.std.proofs.lemmas.Option.{get_or_from_slice_get, slice_get_within}
+use Rattle.lw_facts.proofs.Lists.{at_contained}
 use Rattle.lw_pool.specs.declared.id.NetId.{NetId}
-use Rattle.lw_laws.specs.Headline.{Port as PlainPort, StandsForCover}
+use Rattle.lw_laws.specs.Headline.{Port as PlainPort, StandsForCoverOf}
 use Rattle.lw_laws.proofs.Lists.{slice_get_some}
 use Rattle.lw_laws.proofs.NetlistValues.{some_arrivals}
 use Rattle.lw_laws.proofs.Numbers.{slice_get_map}
-use Rattle.lw_net.specs.Plain as network
+use Rattle.lw_net.specs.Networks.{NetworkParts, input_names}
 use Rattle.lw_net.specs.Ports.{output_port}
 use Rattle.lw_blif.specs.declared.parsed.Parsed.{Parsed}
 use Rattle.lw_genlib.specs.Cells.{CellParts}
@@ -21,14 +22,19 @@ use Rattle.lw_files.specs.declared.fault.FileFault.TheVariants as file_fault
 use Rattle.lw_files.specs.Sources.{FileStep, HasCells, HasModel, ReadsLibrary, ReadsModel, text_of}
 use Rattle.lw_files.specs.Steps.{Files, followed_by, gives}
 use Rattle.lw_map.specs.declared.fault.MapFault.TheVariants as map_fault
-use Rattle.lw_map.specs.Mapped.{IsUncovered, IsWithinLimits}
+use Rattle.lw_map.specs.Mapped.{IsWithinLimits}
 use Rattle.lw_map.proofs.Once.{zip_at}
+use Rattle.lw_joined.specs.Places.{ArePlacesOf, IsFirstStrange}
 use Rattle.lw_answers.proofs.Closed.{has_one_model}
 use Rattle.lw_area.specs.declared.refusal.Refusal.{Refusal}
+use Rattle.lw_area.specs.declared.refusal.Refusal.TheVariants as refusal
 use Rattle.lw_area.specs.declared.refusal.Refusal.TheVariants.{Library, Network, Unmapped}
-use Rattle.lw_area.specs.Answers.{IsTaskAnswer, Recovers, in_library, in_network}
+use Rattle.lw_area.specs.declared.sources.Further.{Further}
+use Rattle.lw_area.specs.Answers.{IsTaskAnswer, IsUncoveredIn, Recovers}
 use Rattle.lw_area.specs.Complete.{status_in}
-use Rattle.lw_area.specs.Recovered.{IsRecoveredText}
+use Rattle.lw_area.specs.Promises.{AreRead}
+use Rattle.lw_area.specs.Recovered.{IsRecoveredText, IsSpaceOf, Space, form_in, listing_in}
+use Rattle.lw_area.specs.Sources.{ArePlaced, ReadsFurther, ReadsOne, in_further, in_library, in_network}
 use Rattle.lw_area.specs.Words.{Settings, Task}
 
 -- What is read is one.
@@ -72,61 +78,109 @@ at_place outputs root (place, lt, is) =
     let same : other ≡ root = sym (get_or_from_slice_get outputs place other root at) ∙ is in
     (place, subst (λ (o : NetId). slice_get outputs place ≡ Some o) same at)
 
+-- Further networks are read, or there is a reason that they are not.
+
+module _ (names : List (List ℕ)) (files : Files) where
+  not_strange : (inputs : List (List ℕ)) (places : List ℕ) (name : List ℕ) → ArePlacesOf names inputs places → IsFirstStrange names inputs name → ⊥
+  not_strange inputs places name are is = is.strange (by inputs places is.place are is.at)
+    where
+      by : (inputs : List (List ℕ)) (places : List ℕ) (k : ℕ) → ArePlacesOf names inputs places → slice_get inputs k ≡ Some name → Contains names name
+      by [] places k are e = cc
+      by (x ∷ inputs) [] k are e = absurd are
+      by (x ∷ inputs) (p ∷ places) zero (at, are) e = at_contained names p name (at ∙ e)
+      by (x ∷ inputs) (p ∷ places) (suc k) (at, are) e = by inputs places k are e
+
+  placed_one : (place : ℕ) (model : Parsed) (f : Further) (e : Refusal) → ArePlaced names place model files (Ok f) → ArePlaced names place model files (Err e) → ⊥
+  placed_one place model f (refusal.Strange k name) (same, are) (at, strange) = not_strange (input_names model.network) f.places.items name are strange
+  placed_one place model f other ok no = no
+
+  further_read : (place : ℕ) (word : List ℕ) (model : Parsed) (e : Refusal) → ReadsModel word files (Ok model) → in_further place (ReadsModel word) files (Err e) → ⊥
+  further_read place word model (refusal.Further k fault) ok (at, no) = let is : ◌≡◌ {A = Result Parsed FileFault} (Err fault) (Ok model) = model_one word files (Err fault) (Ok model) no ok in cc
+  further_read place word model other ok no = no
+
+  one_read : (place : ℕ) (word : List ℕ) (f : Further) (e : Refusal) → ReadsOne names place word files (Ok f) → ReadsOne names place word files (Err e) → ⊥
+  one_read place word f e (inl (model, ok, placed)) (inl (other, also, not)) =
+      let is : ◌≡◌ {A = Result Parsed FileFault} (Ok other) (Ok model) = model_one word files (Ok other) (Ok model) also ok in
+      let same : other ≡ model = cc in
+      placed_one place model f e placed (subst (λ (m : Parsed). ArePlaced names place m files (Err e)) same not)
+  one_read place word f e (inl (model, ok, placed)) (inr (g, no, same)) = further_read place word model g ok no
+  one_read place word f e (inr (g, no, same)) also = cc
+
+  all_read : (place : ℕ) (words : List (List ℕ)) (fs : List Further) (e : Refusal) → ReadsFurther names place words files (Ok fs) → ReadsFurther names place words files (Err e) → ⊥
+  all_read place [] fs e ok no = no
+  all_read place (word ∷ words) fs e (inl (f, one, inl (rest, more, is))) (inl (g, also, inl (others, even, no))) = no
+  all_read place (word ∷ words) fs e (inl (f, one, inl (rest, more, is))) (inl (g, also, inr (h, no, same))) = all_read (suc place) words rest h more no
+  all_read place (word ∷ words) fs e (inl (f, one, inl (rest, more, is))) (inr (h, no, same)) = one_read place word f h one no
+  all_read place (word ∷ words) fs e (inl (f, one, inr (h, no, same))) also = cc
+  all_read place (word ∷ words) fs e (inr (h, no, same)) also = cc
+
 -- each output of a netlist that was written has a cover
-covered : (settings : Settings) (cells : List CellParts) (model : Parsed) (text : List ℕ) → IsRecoveredText settings cells model text → (place : ℕ) (output : NetId) → slice_get model.network.outputs place ≡ Some output → IsUncovered settings.options cells model.network model.starts output → ⊥
-covered settings cells model text is place output at lacks =
+covered : (settings : Settings) (cells : List CellParts) (model : Parsed) (further : List Further) (text : List ℕ) → (is : IsRecoveredText settings cells model further text) → (place : ℕ) (output : NetId) → slice_get model.network.outputs place ≡ Some output → IsUncoveredIn settings cells model.network is.space model.starts output → ⊥
+covered settings cells model further text is place output at lacks =
     let net = model.network in
     let n = is.netlist in
     let covers = is.recovered.covers in
     let timing = timing_of cells model.starts in
     let (ds, are) = some_arrivals (netlist.plain n) covers.ordered timing in
-    let (q, stands) = zip_at (λ (p q : PlainPort). StandsForCover settings.options.mode settings.options.width (network.plain net) (library_patterns cells) timing (netlist.plain n) p.net q.net (slice_index_or ds q.net 0)) (map (output_port net) net.outputs) (map plain_port n.outputs) place (output_port net output) (covers.covers ds are) (slice_get_map (output_port net) net.outputs place output at) in
+    let (q, stands) = zip_at (λ (p q : PlainPort). StandsForCoverOf settings.options.mode settings.options.width (listing_in settings is.space).signals (library_patterns cells) timing (netlist.plain n) (form_in settings net p.net) q.net (slice_index_or ds q.net 0)) (map (output_port net) net.outputs) (map plain_port n.outputs) place (output_port net output) (covers.covers ds are) (slice_get_map (output_port net) net.outputs place output at) in
     lacks stands.by stands.is_cover stands.has_tree
 
-module _ (task : Task) (files : Files) (cells : List CellParts) (model : Parsed) (has_cells : ReadsLibrary task.library files (Ok cells)) (has_model : ReadsModel task.network files (Ok model)) where
+module _ (task : Task) (files : Files) (read : AreRead task files) where
+  abbrev net : NetworkParts
+  net = read.model.network
+
   no_library : (e : Refusal) → in_library (ReadsLibrary task.library) files (Err e) → ⊥
-  no_library (Library fault) r = let no : ◌≡◌ {A = Result (List CellParts) FileFault} (Err fault) (Ok cells) = library_one task.library files (Err fault) (Ok cells) r has_cells in cc
+  no_library (Library fault) r = let no : ◌≡◌ {A = Result (List CellParts) FileFault} (Err fault) (Ok read.cells) = library_one task.library files (Err fault) (Ok read.cells) r read.library_is in cc
   no_library other r = r
 
   no_network : (e : Refusal) → in_network (ReadsModel task.network) files (Err e) → ⊥
-  no_network (Network fault) r = let no : ◌≡◌ {A = Result Parsed FileFault} (Err fault) (Ok model) = model_one task.network files (Err fault) (Ok model) r has_model in cc
+  no_network (Network fault) r = let no : ◌≡◌ {A = Result Parsed FileFault} (Err fault) (Ok read.model) = model_one task.network files (Err fault) (Ok read.model) r read.network_is in cc
   no_network other r = r
 
-  -- what the cells and the model come to is the answer
-  recovers : (a : Result (List ℕ) Refusal) → IsTaskAnswer task files a → Recovers task.settings cells model files a
-  recovers a (inl (xs, r, inl (m, s, comes))) =
-      let cells_are : ◌≡◌ {A = Result (List CellParts) FileFault} (Ok xs) (Ok cells) = library_one task.library files (Ok xs) (Ok cells) r has_cells in
-      let model_is : ◌≡◌ {A = Result Parsed FileFault} (Ok m) (Ok model) = model_one task.network files (Ok m) (Ok model) s has_model in
-      let one : xs ≡ cells = cc in
-      let two : m ≡ model = cc in
-      subst (λ (n : Parsed). Recovers task.settings cells n files a) two (subst (λ (ys : List CellParts). Recovers task.settings ys m files a) one comes)
+  -- what the cells and the model come to with further networks is the answer
+  recovers : (a : Result (List ℕ) Refusal) → IsTaskAnswer task files a → (further : List Further) × Recovers task.settings read.cells read.model further files a
+  recovers a (inl (xs, r, inl (m, s, inl (further, t, comes)))) =
+      let cells_are : ◌≡◌ {A = Result (List CellParts) FileFault} (Ok xs) (Ok read.cells) = library_one task.library files (Ok xs) (Ok read.cells) r read.library_is in
+      let model_is : ◌≡◌ {A = Result Parsed FileFault} (Ok m) (Ok read.model) = model_one task.network files (Ok m) (Ok read.model) s read.network_is in
+      let one : xs ≡ read.cells = cc in
+      let two : m ≡ read.model = cc in
+      (further, subst (λ (n : Parsed). Recovers task.settings read.cells n further files a) two (subst (λ (ys : List CellParts). Recovers task.settings ys m further files a) one comes))
+  recovers a (inl (xs, r, inl (m, s, inr (e, refused, is)))) =
+      let model_is : ◌≡◌ {A = Result Parsed FileFault} (Ok m) (Ok read.model) = model_one task.network files (Ok m) (Ok read.model) s read.network_is in
+      let two : m ≡ read.model = cc in
+      absurd (all_read (input_names net) files 0 task.more read.further e read.further_are (subst (λ (n : Parsed). ReadsFurther (input_names n.network) 0 task.more files (Err e)) two refused))
   recovers a (inl (xs, r, inr (e, refused, is))) = absurd (no_network e refused)
   recovers a (inr (e, refused, is)) = absurd (no_library e refused)
 
-  abbrev HasLack : Type 0
-  HasLack = (root : NetId) × Contains model.network.outputs root × IsUncovered task.settings.options cells model.network model.starts root
+  abbrev HasLack : Space → Type 0
+  HasLack space = (root : NetId) × Contains net.outputs root × IsUncoveredIn task.settings read.cells net space read.model.starts root
 
-  named : (a : Result (List ℕ) Refusal) → Recovers task.settings cells model files a → status_in a ≡ 6 → HasLack
-  named (Ok text) m e = absurd (omega (arith, e))
-  named (Err (Unmapped (map_fault.NoCover name))) m e = (m.output, contained model.network.outputs m.place m.output m.at, m.lacks)
-  named (Err (Unmapped map_fault.Forms)) m e = absurd (omega (arith, e))
-  named (Err (Unmapped map_fault.Splits)) m e = absurd (omega (arith, e))
-  named (Err (Unmapped map_fault.Points)) m e = absurd (omega (arith, e))
-  named (Err (Unmapped map_fault.Memory)) m e = absurd (omega (arith, e))
-  named (Err other) m e = absurd m
+  abbrev Decides : Result (List ℕ) Refusal → Type 0
+  Decides a = (space : Space) × (further : List Further) × IsSpaceOf task.settings net further space × ((status_in a ≡ 6) ↔ HasLack space)
 
-  six : (a : Result (List ℕ) Refusal) → Recovers task.settings cells model files a → IsWithinLimits task.settings.options model.network → status_in a ≢ 8 → HasLack → status_in a ≡ 6
-  six (Ok text) m within not_8 (root, c, lacks) =
-      let (place, at) = at_place model.network.outputs root c in
-      absurd (covered task.settings cells model text m place root at lacks)
-  six (Err (Unmapped (map_fault.NoCover name))) m within not_8 lack = refl
-  six (Err (Unmapped map_fault.Forms)) m within not_8 lack = let f = within.forms in absurd (omega arith)
-  six (Err (Unmapped map_fault.Splits)) m within not_8 lack = let f = within.splits in let g = m.1 in absurd (omega arith)
-  six (Err (Unmapped map_fault.Points)) m within not_8 lack = absurd m
-  six (Err (Unmapped map_fault.Memory)) m within not_8 lack = absurd (not_8 refl)
-  six (Err other) m within not_8 lack = absurd m
+  decides : IsWithinLimits task.settings.options net → (a : Result (List ℕ) Refusal) (further : List Further) → Recovers task.settings read.cells read.model further files a → status_in a ≢ 8 → Decides a
+  decides within (Ok text) further m not_8 = (
+    m.space,
+    further,
+    m.over,
+    (
+      λ e. absurd (omega (arith, e)),
+      λ (root, c, lacks). let (place, at) = at_place net.outputs root c in absurd (covered task.settings read.cells read.model further text m place root at lacks),
+    ),
+  )
+  decides within (Err (Unmapped (map_fault.NoCover name))) further m not_8 = (
+    m.space,
+    further,
+    m.over,
+    (λ e. (m.output, contained net.outputs m.place m.output m.at, m.lacks), λ lack. refl),
+  )
+  decides within (Err (Unmapped map_fault.Forms)) further m not_8 = let f = within.forms in absurd (omega arith)
+  decides within (Err (Unmapped map_fault.Splits)) further m not_8 = let f = within.splits in let g = m.1 in absurd (omega arith)
+  decides within (Err (Unmapped map_fault.Points)) further m not_8 = absurd m
+  decides within (Err (Unmapped map_fault.Memory)) further m not_8 = absurd (not_8 refl)
+  decides within (Err other) further m not_8 = absurd m
 
-  pub no_cover_exactly : IsWithinLimits task.settings.options model.network → (a : Result (List ℕ) Refusal) → IsTaskAnswer task files a → status_in a ≢ 8 → (status_in a ≡ 6) ↔ HasLack
+  pub no_cover_exactly : IsWithinLimits task.settings.options net → (a : Result (List ℕ) Refusal) → IsTaskAnswer task files a → status_in a ≢ 8 → Decides a
   no_cover_exactly within a answer not_8 =
-      let m = recovers a answer in
-      (named a m, six a m within not_8)
+      let (further, m) = recovers a answer in
+      decides within a further m not_8

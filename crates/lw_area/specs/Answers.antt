@@ -1,59 +1,57 @@
 -- What the words come to over files.
-use Rattle.std.specs.Prelude.{◌≡◌, ◌⊎◌, ⊤, ℕ, List, Option, Some, Ok, Err}
-use Rattle.lw_io.specs.declared.file.File.{File}
-use Rattle.lw_io.specs.Causes.{Rose}
-use Rattle.lw_io.specs.Files.{bytes_of}
+use Rattle.std.specs.Prelude.{◌≡◌, ◌<◌, ℕ, List, Ok, Err, Some, slice_get, ⊤}
+use Rattle.lw_pool.specs.declared.id.NetId.{NetId}
+use Rattle.lw_fixed.specs.declared.micro.Micro.{Micro}
+use Rattle.lw_laws.specs.Headline.{HasNoCoverOf}
+use Rattle.lw_net.specs.Networks.{NetworkParts, name_in}
 use Rattle.lw_genlib.specs.Cells.{CellParts}
+use Rattle.lw_genlib.specs.Tables.{timing_of}
+use Rattle.lw_pattern.specs.Libraries.{library_patterns}
 use Rattle.lw_blif.specs.declared.parsed.Parsed.{Parsed}
-use Rattle.lw_files.specs.declared.fault.FileFault.TheVariants as file_fault
-use Rattle.lw_files.specs.Reading.{Known}
-use Rattle.lw_files.specs.Sources.{FileStep, ReadsLibrary, ReadsModel}
-use Rattle.lw_files.specs.Steps.{StepTo, followed_by}
-use Rattle.lw_map.specs.Faults.{IsMapFault}
-use Rattle.lw_map.specs.declared.fault.MapFault.TheVariants as map_fault
-use Rattle.lw_area.specs.declared.refusal.Refusal.{Refusal}
-use Rattle.lw_area.specs.declared.refusal.Refusal.TheVariants.{Library, Network, Unmapped}
-use Rattle.lw_area.specs.Recovered.{IsRecoveredText}
+use Rattle.lw_map.specs.Faults.{IsChoiceFault}
+use Rattle.lw_map.specs.declared.fault.MapFault.{MapFault}
+use Rattle.lw_map.specs.declared.fault.MapFault.TheVariants.{NoCover, Memory}
+use Rattle.lw_area.specs.declared.refusal.Refusal.TheVariants.{Unmapped}
+use Rattle.lw_area.specs.declared.sources.Further.{Further}
+use Rattle.lw_area.specs.Recovered.{IsRecoveredText, IsSpaceOf, Space, form_in, listing_in}
+use Rattle.lw_area.specs.Sources.{ReadsAll}
+pub use Rattle.lw_area.specs.Sources.{Step}
 use Rattle.lw_area.specs.Words.{Settings, Task}
+pub use Rattle.lw_area.specs.Sources.{HasReason, in_library, in_network}
 
-abbrev pub Step : Type 0 → Type 1
-Step A = StepTo Refusal A
+-- no cover by the library is of a tree that the rules and the links derive for the output
+abbrev pub IsUncoveredIn : Settings → List CellParts → NetworkParts → Space → List Micro → NetId → Type 0
+IsUncoveredIn settings cells net space starts output =
+    HasNoCoverOf settings.options.mode settings.options.width (listing_in settings space).signals
+    (library_patterns cells) (timing_of cells starts) (form_in settings net output.0)
 
--- a step that reads the library, and one that reads the network
-abbrev pub in_library : {A : Type 0} → FileStep A → Step A
-in_library step files (Ok x) = step files (Ok x)
-in_library step files (Err (Library fault)) = step files (Err fault)
-in_library step files (Err other) = ⊥
+-- The name is that of the first output of the network that has no cover, over a union with others and with links.
+pub record LacksCoverIn (settings : Settings) (cells : List CellParts) (model : Parsed) (further : List Further)
+    (name : List ℕ) : Type 0 where
+  pub space : Space
+  pub over : IsSpaceOf settings model.network further space
+  pub place : ℕ
+  pub output : NetId
+  pub at : slice_get model.network.outputs place ≡ Some output
+  pub named : name ≡ name_in model.network output
+  pub lacks : IsUncoveredIn settings cells model.network space model.starts output
+  pub first : (i : ℕ) (other : NetId) → i < place → slice_get model.network.outputs i ≡ Some other
+      → IsUncoveredIn settings cells model.network space model.starts other → ⊥
 
-abbrev pub in_network : {A : Type 0} → FileStep A → Step A
-in_network step files (Ok x) = step files (Ok x)
-in_network step files (Err (Network fault)) = step files (Err fault)
-in_network step files (Err other) = ⊥
+-- Too many forms or splits of the network alone, or the first output without a cover. Running out of memory needs no
+-- reason.
+abbrev pub IsFaultOf : Settings → List CellParts → Parsed → List Further → MapFault → Type 0
+IsFaultOf settings cells model further (NoCover name) = LacksCoverIn settings cells model further name
+IsFaultOf settings cells model further Memory = ⊤
+IsFaultOf settings cells model further other = IsChoiceFault settings.options model.network other
 
--- What a library and a model come to: a text of a netlist with little area, or the reason that `map` has. Several
--- netlists may be such.
-abbrev pub Recovers : Settings → List CellParts → Parsed → Step (List ℕ)
-Recovers settings cells model files (Ok text) = IsRecoveredText settings cells model text
-Recovers settings cells model files (Err (Unmapped fault)) =
-    IsMapFault settings.options cells model.network model.starts fault
-Recovers settings cells model files (Err other) = ⊥
+-- What a library and networks come to: a text of a netlist with little area, or why there is none. Several netlists may
+-- be such.
+abbrev pub Recovers : Settings → List CellParts → Parsed → List Further → Step (List ℕ)
+Recovers settings cells model further files (Ok text) = IsRecoveredText settings cells model further text
+Recovers settings cells model further files (Err (Unmapped fault)) = IsFaultOf settings cells model further fault
+Recovers settings cells model further files (Err other) = ⊥
 
--- What a task comes to: the library is read, then the network, and the first step that refuses decides.
+-- What a task comes to: the files are read, and the first step that refuses decides.
 abbrev pub IsTaskAnswer : Task → Step (List ℕ)
-IsTaskAnswer task =
-    followed_by (in_library (ReadsLibrary task.library)) (λ cells. followed_by (in_network (ReadsModel task.network))
-    (λ model. Recovers task.settings cells model))
-
--- Why a step refuses: a file was not read because the count of faults rose, or because known files lack it; running out
--- of memory needs no reason; and over known files any other refusal is the step's.
-abbrev pub HasReason : {A : Type 0} → Option (List File) → ℕ → ℕ → Step A → Refusal → Type 0
-HasReason told before now step (Library file_fault.Unread) =
-    Rose before now ⊎ ((files : List File) × (told ≡ Some files)
-    × step (bytes_of files) (Err (Library file_fault.Unread)))
-HasReason told before now step (Network file_fault.Unread) =
-    Rose before now ⊎ ((files : List File) × (told ≡ Some files)
-    × step (bytes_of files) (Err (Network file_fault.Unread)))
-HasReason told before now step (Library file_fault.Memory) = ⊤
-HasReason told before now step (Network file_fault.Memory) = ⊤
-HasReason told before now step (Unmapped map_fault.Memory) = ⊤
-HasReason told before now step other = Known told step (Err other)
+IsTaskAnswer task = ReadsAll task (Recovers task.settings)

@@ -11,41 +11,48 @@ use Rattle.lw_blif.specs.BlifNetworks.{IsModel}
 use Rattle.lw_pattern.specs.Libraries.{library_patterns}
 use Rattle.lw_pool.specs.declared.id.ClassId.{ClassId}
 use Rattle.lw_cost.specs.declared.mark.Mark.{Mark}
-use Rattle.lw_cost.specs.Labels.{AreLeastMarks}
+use Rattle.lw_cost.specs.Labels.{AreLeastMarks, costs_of}
 use Rattle.lw_label.specs.Delays.{time_cost}
 use Rattle.lw_netlist.specs.declared.gate.Port.{Port}
-use Rattle.lw_netlist.specs.Netlists.{most_gates}
+use Rattle.lw_netlist.specs.Netlists.{IsNetlist, most_gates}
 use Rattle.lw_netlist.specs.Plain.{IsOver, mapped_ports, plain}
 use Rattle.lw_mapped.specs.declared.certificate.Certificate.{Certificate}
 use Rattle.lw_extract.specs.declared.ports.Cover.{Cover}
-use Rattle.lw_map.specs.Choices.{AreChoicesOf}
-use Rattle.lw_map.specs.Mapped.{IsMappedNetlist}
 use Rattle.lw_map.specs.Mappings.{AreCertified}
 use Rattle.lw_map.specs.Options.{plain_options}
+use Rattle.lw_joined.specs.Choices.{IsJoined}
 use Rattle.lw_area.specs.declared.recovering.Case.{Case}
 use Rattle.lw_area.specs.Plain.{plain_settings}
-use Rattle.lw_area.specs.Recovered.{IsRecovered}
+use Rattle.lw_area.specs.Recovered.{IsFastestIn, IsRecovered}
+use Rattle.lw_area.specs.Spaces.{space_of}
 
 -- when an output arrives, given when each net does
 abbrev pub time_at : List Micro → Port → Micro
 time_at arrivals port = slice_index_or arrivals port.net.0 (record { 0 = 0 })
 
--- the model of a network with the choices of the settings, and least labels of their classes
+-- the model of a network that was joined to others, with the choices of the settings, and least labels of their classes
 pub record IsCase (k : Case) : Type 0 where
   pub library : IsLibrary k.library.now
   pub network : IsNetwork k.model.now.network
   pub model : IsModel k.model.now
-  pub chosen : AreChoicesOf k.model.now.network k.choices.now
-  pub options : plain_options k.choices.now.options ≡ plain_options k.settings.options
-  pub labels : AreLeastMarks k.choices.now.graph (time_cost k.library.now k.model.now.starts)
+  pub joined : IsJoined k.model.now.network k.joined.now
+  pub options : plain_options k.joined.now.choices.options ≡ plain_options k.settings.options
+  pub labels : AreLeastMarks k.joined.now.choices.graph (time_cost k.library.now k.model.now.starts)
       (library_patterns k.library.now) k.labels.now
 
--- the cover of the netlist that `map` writes
+-- the netlist of the chosen matches, by the labels and the classes at hand
+abbrev pub IsFirstIn : (k : Case) → IsJoined k.model.now.network k.joined.now → Cover → Type 0
+IsFirstIn k is cover =
+    (fastest : IsFastestIn (plain_settings k.settings) k.library.now k.model.now.network
+    (space_of k.model.now.network k.joined.now is) k.model.now.starts cover.netlist)
+    × (fastest.graph ≡ k.joined.now.choices.graph) × (fastest.labels ≡ costs_of k.labels.now)
+    × (fastest.gates ≡ numbers cover.classes)
+
+-- the cover that least labels choose, by whatever links the graph is of
 pub record IsFirst (k : Case) (cover : Cover) : Type 0 where
-  pub mapped : IsMappedNetlist (plain_options k.settings.options) k.library.now k.model.now.network k.model.now.starts
-      cover.netlist
-  pub graph : mapped.is.graph ≡ k.choices.now.graph
-  pub gates : mapped.is.gates ≡ numbers cover.classes
+  pub kept : IsNetlist cover.netlist
+  pub model_name : cover.netlist.model ≡ k.model.now.network.model
+  pub fastest : (is : IsJoined k.model.now.network k.joined.now) → IsFirstIn k is cover
   pub over : IsOver k.library.now cover.netlist
   pub few : length cover.netlist.gates ≤ most_gates
 
@@ -53,15 +60,19 @@ pub record IsFirst (k : Case) (cover : Cover) : Type 0 where
 abbrev pub AreFirstTimes : Case → Cover → List Micro → Type 0
 AreFirstTimes k cover times =
     (arrivals : List ℕ) → AreArrivals (timing_of k.library.now k.model.now.starts) (plain cover.netlist) arrivals
-    → map millionths times
-    ≡ map (λ (port : PlainPort). slice_index_or arrivals port.net 0) (mapped_ports cover.netlist).outputs
+    → map millionths times ≡ map (λ (port : PlainPort). slice_index_or arrivals port.net 0)
+    (mapped_ports cover.netlist).outputs
 
--- a cover whose netlist has little area
+-- a netlist with little area, over the graph and with the classes at hand
+abbrev pub IsChosenIn : (k : Case) → IsJoined k.model.now.network k.joined.now → Cover → Type 0
+IsChosenIn k is cover =
+    (recovered : IsRecovered (plain_settings k.settings) k.library.now k.model.now.network
+    (space_of k.model.now.network k.joined.now is) k.model.now.starts cover.netlist)
+    × (recovered.matches.graph ≡ k.joined.now.choices.graph) × (recovered.matches.gates ≡ numbers cover.classes)
+
+-- a cover whose netlist has little area, by whatever links the graph is of
 pub record IsChosen (k : Case) (cover : Cover) : Type 0 where
-  pub recovered : IsRecovered (plain_settings k.settings) k.library.now k.model.now.network k.model.now.starts
-      cover.netlist
-  pub graph : recovered.matches.graph ≡ k.choices.now.graph
-  pub gates : recovered.matches.gates ≡ numbers cover.classes
+  pub each : (is : IsJoined k.model.now.network k.joined.now) → IsChosenIn k is cover
   pub over : IsOver k.library.now cover.netlist
 
 -- a certificate of these labels and classes, where it is asked for

@@ -3,9 +3,12 @@ pub mod Plain
 pub mod Deadlines
 pub mod Pages
 pub mod Refusals
+pub mod Sources
 pub mod Recovered
+pub mod Spaces
 pub mod Cases
 pub mod Answers
+pub mod Checks
 pub mod Outcomes
 pub mod Promises
 pub mod Complete

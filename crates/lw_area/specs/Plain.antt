@@ -6,16 +6,28 @@ use Rattle.lw_area.specs.declared.words.Task as code_task
 use Rattle.lw_area.specs.declared.words.WrongWord as code_wrong
 use Rattle.lw_area.specs.declared.words.Begun as code_begun
 use Rattle.lw_area.specs.declared.words.Asked as code_asked
-use Rattle.lw_area.specs.declared.words.Asked.TheVariants.{Usage, Version, Mapping}
+use Rattle.lw_area.specs.declared.words.Asked.TheVariants.{Usage, Version, Mapping, Checking}
 use Rattle.lw_area.specs.Words as spec
 
 abbrev pub plain_settings : code_settings.Settings → spec.Settings
 plain_settings s =
-    record { options = plain_options s.options; certified = s.certified; effort = s.effort; deadline = s.deadline }
+    record {
+      options = plain_options s.options;
+      linked = s.linked;
+      certified = s.certified;
+      counted = s.counted;
+      effort = s.effort;
+      deadline = s.deadline;
+    }
 
 abbrev pub plain_task : code_task.Task → spec.Task
 plain_task task =
-    record { settings = plain_settings task.settings; library = task.library.now; network = task.network.now }
+    record {
+      settings = plain_settings task.settings;
+      library = task.library.now;
+      network = task.network.now;
+      more = map string_bytes task.more.now;
+    }
 
 abbrev pub plain_wrong : code_wrong.WrongWord → spec.WrongWord
 plain_wrong wrong = record { word = wrong.word.now; why = wrong.why }
@@ -27,6 +39,7 @@ abbrev pub plain_asked : code_asked.Asked → spec.Asked
 plain_asked Usage = spec.usage
 plain_asked Version = spec.version
 plain_asked (Mapping task) = spec.mapping (plain_task task)
+plain_asked (Checking task mapped) = spec.checking (plain_task task) mapped.now
 
 abbrev pub set_result : Result code_settings.Settings code_wrong.WrongWord → Result spec.Settings spec.WrongWord
 set_result (Ok s) = Ok (plain_settings s)

@@ -1,28 +1,42 @@
 // A network mapped to the cells of a library with little area.
-ghost use Rattle.std.specs.Prelude.{◌≡◌, ◌≤◌, IfErr, IfOk, length};
-ghost use Rattle.lw_laws.specs.Graphs.{most_classes};
-ghost use Rattle.lw_blif.specs.BlifNetworks.{IsModel};
-ghost use Rattle.lw_netlist.specs.Plain.{IsOver};
-ghost use Rattle.lw_map.specs.declared.labelling.Labeller.{Labeller};
-ghost use Rattle.lw_map.specs.Choices.{AreChoicesOf};
-ghost use Rattle.lw_map.specs.Faults.{IsMapFault};
-ghost use Rattle.lw_map.specs.Mappings.{IsMappingOf};
-ghost use Rattle.lw_map.specs.Options.{plain_options};
+ghost use Rattle.std.specs.Prelude.{◌≡◌, IfErr, IfOk};
+ghost use Rattle.lw_joined.specs.Covering.{IsCoverFault, IsCoveredBy};
+ghost use Rattle.lw_map.specs.Faults.{IsChoiceFault};
 ghost use Rattle.lw_area.specs.Cases.{IsCase, IsCertificateFor, IsChosen, IsFirst};
-ghost use Rattle.lw_area.specs.Outcomes.{IsMade};
+ghost use Rattle.lw_area.specs.Outcomes.{IsMade, IsMadeOf, IsMapFaultOf};
 ghost use Rattle.lw_area.specs.Plain.{plain_settings};
+ghost use Rattle.lw_area.specs.Sources.{AreSources};
+ghost use Rattle.lw_area.specs.Spaces.{IsJoinedOf};
 
 use crate::recovering::Case;
+use crate::sources::{Sources, others_of};
+use crate::timing::{Began, Times};
 use crate::words::Settings;
-use lw_blif::Parsed;
 use lw_extract::Cover;
-use lw_genlib::Library;
-use lw_map::{
-    CertifiedNetlist, Choices, Labeller, MapFault, Mapping, certificate, cover, decompose,
-};
+use lw_joined::{Counts, Covered, Joined, Left, cover, join};
+use lw_map::{CertifiedNetlist, MapFault, certificate};
 use lw_mapped::Certificate;
 use lw_pool::Classes;
 use std::alloc::{AllocError, Global};
+use std::time::Clock;
+
+/// What is said of a run beside its answer: the networks that were left out, and what was done to
+/// find links among how many forms of how many networks.
+#[derive(Drop)]
+pub struct Notes {
+    pub left: Vec<Left>,
+    pub counts: Counts,
+    pub networks: usize,
+    pub forms: u32,
+    pub times: Times,
+}
+
+/// A netlist with its certificate where it is asked for, and what is said of the run.
+#[derive(Drop)]
+pub struct Made {
+    pub mapped: CertifiedNetlist,
+    pub notes: Notes,
+}
 
 impl Case<'_> {
     // The first cover, or a smaller one where one is looked for.
@@ -53,7 +67,7 @@ impl Case<'_> {
         requires case { IsCase self.now }
         requires first { IsFirst self.now first }
         ensures { IfOk result (IsMade (plain_settings self.now.settings) self.now.library.now
-            self.now.model.now) }
+            self.now.model.now self.now.joined.now) }
     {
         let cover = self.chosen(first)?;
         let certificate = self.certificate_of(&cover.classes)?;
@@ -64,56 +78,109 @@ impl Case<'_> {
     }
 }
 
-// What a mapping of the choices of a network comes to.
+// What a cover of the joined networks comes to.
 fn made_smaller(
     alloc: Global,
-    library: &Library,
-    model: &Parsed,
+    sources: &Sources,
     settings: Settings,
-    choices: &Choices,
-    mapping: Mapping,
+    joined: &Joined,
+    covered: Covered,
 ) -> Result<CertifiedNetlist, AllocError>
-    requires model { IsModel model.now }
-    requires choices { AreChoicesOf model.now.network choices.now }
-    requires options { plain_options choices.now.options ≡ plain_options settings.options }
-    requires mapping { IsMappingOf Labeller.Rounds library.now model.now.network model.now.starts
-        choices.now mapping }
-    requires over { IsOver library.now mapping.netlist }
-    requires few { length mapping.netlist.gates ≤ most_classes }
-    ensures { IfOk result (IsMade (plain_settings settings) library.now model.now) }
+    requires sources { AreSources sources.now }
+    requires joined { IsJoinedOf (plain_settings settings) sources.now joined.now }
+    requires covered { IsCoveredBy sources.now.library sources.now.model.network
+        sources.now.model.starts joined.now covered }
+    ensures { IfOk result (IsMade (plain_settings settings) sources.now.library
+        sources.now.model joined.now) }
 {
+    let (library, model) = (&sources.library, &sources.model);
     let _ = (library.len(), model.network.inputs());
-    let (netlist, classes, labels) = (mapping.netlist, mapping.classes, mapping.labels);
+    let Covered { cover, labels } = covered;
     let case = Case {
         alloc,
         library,
         model,
-        choices,
+        joined,
         labels: &labels,
         settings,
     };
-    case.certified(Cover { netlist, classes })
+    case.certified(cover)
 }
 
-/// What a library and a model come to: a netlist in which each output arrives by its deadline, with
-/// its certificate where it is asked for.
-pub fn map_smaller(
+/// The networks of some files as choices of the first. `Forms` and `Splits` come exactly where the
+/// first network has more than are dealt with.
+pub(crate) fn joined_of(
     alloc: Global,
-    library: &Library,
-    model: &Parsed,
+    sources: &Sources,
     settings: Settings,
-) -> Result<CertifiedNetlist, MapFault>
-    requires { IsModel model.now }
-    ensures made { IfOk result (IsMade (plain_settings settings) library.now model.now) }
-    ensures fault { IfErr result (IsMapFault (plain_options settings.options) library.now
-        model.now.network model.now.starts) }
+) -> Result<Joined, MapFault>
+    requires { AreSources sources.now }
+    ensures joined { IfOk result (IsJoinedOf (plain_settings settings) sources.now) }
+    ensures fault { IfErr result (IsChoiceFault (plain_settings settings).options
+        sources.now.model.network) }
 {
-    let network = &model.network;
-    let starts = &model.starts;
-    let mut choices = decompose(alloc, network, settings.options)?;
-    let mapping = cover(alloc, library, network, starts, &choices, Labeller::Rounds)?;
-    choices.graph.make_index()?;
-    let made = made_smaller(alloc, library, model, settings, &choices, mapping);
-    drop(choices);
-    Ok(made?)
+    let others = others_of(alloc, &sources.further)?;
+    let network = &sources.model.network;
+    let joined = join(alloc, network, &others, settings.options, settings.linked);
+    drop(others);
+    let mut joined = joined?;
+    if joined.choices.graph.make_index().is_err() {
+        drop(joined);
+        return Err(MapFault::Memory);
+    }
+    Ok(joined)
+}
+
+// The netlist of joined networks.
+fn covered_of(
+    alloc: Global,
+    sources: &Sources,
+    settings: Settings,
+    joined: &Joined,
+) -> Result<CertifiedNetlist, MapFault>
+    requires sources { AreSources sources.now }
+    requires joined { IsJoinedOf (plain_settings settings) sources.now joined.now }
+    ensures made { IfOk result (IsMade (plain_settings settings) sources.now.library
+        sources.now.model joined.now) }
+    ensures fault { IfErr result (IsCoverFault sources.now.library sources.now.model.network
+        sources.now.model.starts joined.now) }
+{
+    let (library, model) = (&sources.library, &sources.model);
+    let covered = cover(alloc, library, &model.network, &model.starts, joined)?;
+    Ok(made_smaller(alloc, sources, settings, joined, covered)?)
+}
+
+/// What a library, a network and further ones come to: a netlist in which each output of the
+/// network arrives by its deadline, with its certificate where it is asked for. Reading the files
+/// took so many milliseconds.
+pub(crate) fn map_smaller<C: Clock>(
+    alloc: Global,
+    clock: &C,
+    read: u128,
+    sources: &Sources,
+    settings: Settings,
+) -> Result<Made, MapFault>
+    requires { AreSources sources.now }
+    ensures made { IfOk result (IsMadeOf (plain_settings settings) sources.now) }
+    ensures fault { IfErr result (IsMapFaultOf (plain_settings settings) sources.now) }
+{
+    let began = Began::now(clock);
+    let joined = joined_of(alloc, sources, settings)?;
+    let linked = began.millis(clock);
+    let began = Began::now(clock);
+    let mapped = covered_of(alloc, sources, settings, &joined)?;
+    Ok(Made {
+        mapped,
+        notes: Notes {
+            networks: joined.ends.len(),
+            forms: joined.choices.forms,
+            counts: joined.counts,
+            left: joined.left,
+            times: Times {
+                read,
+                joined: linked,
+                mapped: began.millis(clock),
+            },
+        },
+    })
 }

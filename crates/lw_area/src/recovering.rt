@@ -1,8 +1,6 @@
 // A smaller cover of a network that is mapped.
 ghost use Rattle.std.specs.Prelude.{◌≡◌, ◌≢◌, ◌<◌, All, IfOk, None, length, map};
-ghost use Rattle.lw_pool.specs.declared.id.NetId.{NetId};
 ghost use Rattle.lw_pattern.specs.Libraries.{library_patterns};
-ghost use Rattle.lw_map.specs.Choices.{root_of};
 ghost use Rattle.lw_area.specs.Cases.{AreFirstTimes, IsCase, IsChosen, IsFirst, time_at};
 
 use crate::deadlines::deadlines_of;
@@ -12,27 +10,25 @@ use lw_bounds::Bounds;
 use lw_cost::{Match, Pins};
 use lw_extract::{Chosen, Cover, attaining_matches};
 use lw_fixed::Micro;
-use lw_form::{FormFault, Forms, forms};
 use lw_genlib::Library;
-use lw_graph::Graph;
+use lw_joined::Joined;
 use lw_label::{DelayCost, Labels};
 use lw_look::{Look, arrivals_of};
-use lw_map::{Choices, ports};
-use lw_net::Network;
+use lw_map::ports;
 use lw_netlist::Port;
 use lw_pattern::{Patterns, patterns};
 use lw_pool::{ClassId, NetId};
 use lw_recover::{Effort, Gate, Nodes, Root, recover};
 use std::alloc::{AllocError, Global};
 
-/// What a smaller cover is looked for in: a library, the model of a network, its choices, the
-/// labels of these, and what was asked for.
+/// What a smaller cover is looked for in: a library, the model of a network, its choices and those
+/// of networks that were joined to it, the labels of these, and what was asked for.
 #[derive(Drop)]
 pub(crate) struct Case<'a> {
     pub alloc: Global,
     pub library: &'a Library,
     pub model: &'a Parsed,
-    pub choices: &'a Choices,
+    pub joined: &'a Joined,
     pub labels: &'a Labels,
     pub settings: Settings,
 }
@@ -54,43 +50,26 @@ fn chosen_of(gate: &Gate) -> Chosen {
     }
 }
 
-// The class of a net's sum of products.
-fn class_at(forms: &Forms, graph: &Graph, net: NetId) -> ClassId
-    requires known { net.0 < length forms.now.sops }
-    requires bases { length graph.now.forms ≡ length forms.now.bases }
-    ensures { result.0 ≡ root_of forms.now graph.now net }
-{
-    let _ = forms.nets();
-    graph.class_of(forms.sop(net))
-}
-
-// Appends the classes of nets.
-fn put_classes(
-    classes: &mut Vec<ClassId>,
-    forms: &Forms,
-    graph: &Graph,
-    nets: &[NetId],
-) -> Result<(), AllocError>
-    requires known { All (λ (net : NetId). net.0 < length forms.now.sops) nets.now }
-    requires bases { length graph.now.forms ≡ length forms.now.bases }
-{
-    for net in nets {
-        classes.push(class_at(forms, graph, *net))?;
+// Appends the class of a net of the union.
+fn put_class(classes: &mut Vec<ClassId>, joined: &Joined, net: NetId) -> Result<(), AllocError> {
+    if let Some(class) = joined.nets.as_slice().get(net.0 as usize) {
+        classes.push(*class)?;
     }
     Ok(())
 }
 
-// The classes of a network's nodes, and of their fan-ins.
-fn nodes_of(alloc: Global, net: &Network, forms: &Forms, graph: &Graph) -> Result<Nodes, AllocError>
-    requires sops { length forms.now.sops ≡ length net.now.names }
-    requires bases { length graph.now.forms ≡ length forms.now.bases }
-{
+// The classes of some nodes of the union, and of their fan-ins.
+fn nodes_of(alloc: Global, joined: &Joined, from: u32, end: u32) -> Result<Nodes, AllocError> {
     let (mut classes, mut fanins) = (Vec::new(alloc), Vec::new(alloc));
     let mut ends = Vec::new(alloc);
-    for node in net.nodes() {
-        classes.push(class_at(forms, graph, node.out))?;
-        put_classes(&mut fanins, forms, graph, node.fanins.as_slice())?;
-        ends.push(fanins.len())?;
+    for node in joined.union.nodes() {
+        if from <= node.out.0 && node.out.0 < end {
+            put_class(&mut classes, joined, node.out)?;
+            for fanin in node.fanins.as_slice() {
+                put_class(&mut fanins, joined, *fanin)?;
+            }
+            ends.push(fanins.len())?;
+        }
     }
     Ok(Nodes {
         classes,
@@ -113,24 +92,17 @@ fn times_at(alloc: Global, outputs: &[Port], arrivals: &[Micro]) -> Result<Vec<M
 
 impl Case<'_> {
     // The networks whose own gates may be a cover: none where these are not tried.
-    fn networks(&self, effort: Effort) -> Result<Vec<Nodes>, AllocError>
-        requires { IsCase self.now }
-    {
+    fn networks(&self, effort: Effort) -> Result<Vec<Nodes>, AllocError> {
         let mut networks = Vec::new(self.alloc);
         if effort != Effort::Chance {
             return Ok(networks);
         }
-        let net = &self.model.network;
-        match forms(self.alloc, net, self.choices.options.width) {
-            Ok(listed) => {
-                let nodes = nodes_of(self.alloc, net, &listed, &self.choices.graph);
-                drop(listed);
-                networks.push(nodes?)?;
-                Ok(networks)
-            }
-            Err(FormFault::Memory) => Err(AllocError),
-            Err(FormFault::Limit) => Ok(networks),
+        let mut from = self.joined.union.inputs();
+        for end in &self.joined.ends {
+            networks.push(nodes_of(self.alloc, self.joined, from, *end)?)?;
+            from = *end;
         }
+        Ok(networks)
     }
 
     // The least times of the outputs, which are those of the first cover.
@@ -149,7 +121,7 @@ impl Case<'_> {
     // The outputs' classes with their deadlines.
     fn roots(&self, times: &[Micro]) -> Result<Vec<Root>, AllocError> {
         let mut roots = Vec::new(self.alloc);
-        for (class, time) in self.choices.roots.as_slice().iter().zip(times) {
+        for (class, time) in self.joined.choices.roots.as_slice().iter().zip(times) {
             roots.push(Root {
                 class: *class,
                 time: time.0,
@@ -165,10 +137,8 @@ impl Case<'_> {
         pats: &Patterns,
         attained: &[Option<Match>],
         times: &[Micro],
-    ) -> Result<Vec<Chosen>, AllocError>
-        requires { IsCase self.now }
-    {
-        let (graph, marks) = (&self.choices.graph, self.labels.marks());
+    ) -> Result<Vec<Chosen>, AllocError> {
+        let (graph, marks) = (&self.joined.choices.graph, self.labels.marks());
         let roots = self.roots(times)?;
         let networks = self.networks(effort)?;
         let found = recover(
@@ -201,10 +171,10 @@ impl Case<'_> {
         requires case { IsCase self.now }
         requires patterns { pats.now ≡ library_patterns self.now.library.now }
     {
-        let (alloc, lib, graph) = (self.alloc, self.library, &self.choices.graph);
+        let (alloc, lib, graph) = (self.alloc, self.library, &self.joined.choices.graph);
         let cost = DelayCost::new(lib, &self.model.starts);
         let bounds = Bounds::settled(alloc, graph, pats, self.labels.marks(), &cost)?;
-        let ports = ports(alloc, &self.model.network, self.choices)?;
+        let ports = ports(alloc, &self.model.network, &self.joined.choices)?;
         let all = attaining_matches(alloc, graph, pats, lib, self.labels, &bounds, &ports, &cost)?;
         drop(bounds);
         self.list(effort, pats, &all, times)
@@ -222,9 +192,9 @@ impl Case<'_> {
         let pats = patterns(alloc, self.library)?;
         let times = deadlines_of(alloc, self.settings.deadline, &self.least(&first)?)?;
         let list = self.found(effort, &pats, &times)?;
-        let ports = ports(alloc, &self.model.network, self.choices)?;
+        let ports = ports(alloc, &self.model.network, &self.joined.choices)?;
         let look = Look {
-            graph: &self.choices.graph,
+            graph: &self.joined.choices.graph,
             pats: &pats,
             lib: self.library,
             starts: &self.model.starts,

@@ -1,5 +1,5 @@
 // The top call.
-ghost use Rattle.std.specs.Prelude.{◌≡◌, ◌≤◌, ◌↔◌, ℕ, List, map, string_bytes, IsErr};
+ghost use Rattle.std.specs.Prelude.{◌≡◌, ◌≤◌, ◌↔◌, [], ℕ, List, map, string_bytes, IsErr};
 ghost use Rattle.lw_io.specs.declared.file.File.{File};
 ghost use Rattle.lw_io.specs.Causes.{Rose};
 ghost use Rattle.lw_io.specs.Files.{bytes_of};
@@ -20,14 +20,16 @@ use crate::telling::{tell_ending, tell_word};
 use crate::words::asked_of;
 use lw_io::{Shelf, Sink};
 use std::alloc::Global;
+use std::time::Clock;
 
 /// Does what the words ask for, and answers the exit status.
 ///
 /// It reads the files that the words name, one after another and each once. The whole answer stands
 /// before the first byte goes to `out`. At a status other than 0 it writes one line to `err`, whose
 /// faults change no status.
-pub fn run<F: Shelf, O: Sink, E: Sink>(
+pub fn run<F: Shelf, O: Sink, E: Sink, C: Clock>(
     alloc: Global,
+    clock: &C,
     words: &[String],
     shelf: &mut F,
     out: &mut O,
@@ -35,26 +37,27 @@ pub fn run<F: Shelf, O: Sink, E: Sink>(
 ) -> u8
     // At 0, over known files and where a netlist was asked for, the text of one went out. It gives
     // each root, which is an output or what a latch reads, the network's value under every
-    // assignment. Each root arrives by its deadline. The area is at most that of the netlist that
-    // `map` writes for these files, and the certificate, where one was asked for, is right.
+    // assignment. Each root arrives by its deadline. The area is at most that of the netlist of the
+    // chosen matches, and the certificate, where one was asked for, is right. It is over a union of
+    // the network with further ones and over links, which are pairs of forms of one value.
     ensures mapping { (files : List File) (task : Task) → F.files shelf.old ≡ Some files →
         AsksFor (map string_bytes words.now) task → result ≡ 0 → ((text : List ℕ)
         × IsRecoveryOf task (bytes_of files) text
         × IsDone O.taken O.is_finished out.old out.new text) }
 
     // With the deadline `each` that netlist is a mapping: each root arrives at the least time of
-    // all covers of all trees that the rules derive for it.
+    // all covers of all trees that the rules and the links derive for it.
     ensures each { (files : List File) (task : Task) → F.files shelf.old ≡ Some files →
         AsksFor (map string_bytes words.now) task → task.settings.deadline ≡ Deadline.Each →
         result ≡ 0 → ((text : List ℕ) × IsFastestOf task (bytes_of files) text
         × IsDone O.taken O.is_finished out.old out.new text) }
 
-    // At 6, over known files, no tree that the rules derive for the root whose name is reported has
-    // a cover.
+    // At 6, over known files, no tree that the rules and the links derive for the root whose name
+    // is reported has a cover.
     ensures no_cover { (files : List File) (task : Task) → F.files shelf.old ≡ Some files →
         AsksFor (map string_bytes words.now) task → result ≡ 6 → ((name : List ℕ) ×
         LacksOutput task (bytes_of files) name × Told E.taken E.faults err.old err.new
-        (refusal_line task (Refusal.Unmapped (MapFault.NoCover name)))) }
+        (refusal_line task [] (Refusal.Unmapped (MapFault.NoCover name)))) }
 
     // Over known files, whatever failed, a status other than 2, 7 and 8 is that of an answer, and
     // so is the line on `err`. Where nothing failed each status is, unless memory runs out.
@@ -87,7 +90,7 @@ pub fn run<F: Shelf, O: Sink, E: Sink>(
             return 1;
         }
     };
-    let ending = serve(alloc, asked, shelf, out);
+    let ending = serve(alloc, clock, asked, shelf, out);
     let _ = tell_ending(&asked, &ending, err);
     ending.status()
 }

@@ -25,5 +25,5 @@ fn main(rt: HostRuntime) -> ExitCode {
     let mut shelf = FileShelf::new(&rt);
     let mut out = StdSink::new(rt.stdout());
     let mut err = StdSink::new(rt.stderr());
-    ExitCode::from(run(rt.alloc(), &words, &mut shelf, &mut out, &mut err))
+    ExitCode::from(run(rt.alloc(), &rt, &words, &mut shelf, &mut out, &mut err))
 }

@@ -1,3 +1,4 @@
+use Rattle.std.proofs.Common.{refl}
 use Rattle.lw_area.proofs.Made.{first_of}
 use Rattle.lw_area.proofs.mapping.made_smaller.Goals as goal
 
@@ -5,11 +6,11 @@ pub certified-requires-clause-case : goal.certified-requires-clause-case
 certified-requires-clause-case c = record {
   library = c.len.ensures.kept;
   network = c.inputs.ensures.kept;
-  model = c.requires.model;
-  chosen = c.requires.choices;
-  options = c.requires.options;
-  labels = c.requires.mapping.least;
+  model = c.requires.sources.model;
+  joined = c.requires.joined.joined;
+  options = c.requires.joined.options_are;
+  labels = c.requires.covered.least;
 }
 
 pub certified-requires-clause-first : goal.certified-requires-clause-first
-certified-requires-clause-first c = first_of _ _ c.requires.options _ c.requires.mapping.mapped c.requires.mapping.graph c.requires.mapping.gates c.requires.over c.requires.few
+certified-requires-clause-first c = first_of _ c.requires.joined.joined c.requires.joined.options_are c.args.covered refl c.requires.covered
