@@ -43,7 +43,7 @@ _lwarea() {
     -w,*) mapfile -t COMPREPLY < <(compgen -W "2 3 4 5 6 7 8" -- "$word") ;;
     -e,*) mapfile -t COMPREPLY < <(compgen -W "0 1 2 3" -- "$word") ;;
     -t,*) mapfile -t COMPREPLY < <(compgen -W "max each 105% 110%" -- "$word") ;;
-    *,-*) mapfile -t COMPREPLY < <(compgen -W "-w -i -c -e -t -h -v" -- "$word") ;;
+    *,-*) mapfile -t COMPREPLY < <(compgen -W "-w -i -n -c -s -e -t -k -h -v" -- "$word") ;;
     *) mapfile -t COMPREPLY < <(compgen -f -- "$word") ;;
     esac
 }

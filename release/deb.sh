@@ -81,7 +81,7 @@ Description: map logic to library cells with the smallest delay, proved
  faster.
  .
  lwequal compares two networks, and its yes is proved. lwarea gives area back
- where no output needs the speed.
+ where no output needs the speed, and takes structures of further networks.
  .
  lwflow reads Verilog, BLIF or AIGER, tries several commands of ABC with lwmap
  and with ABC's own mapper, keeps the best netlist, compares each step with
