@@ -7,7 +7,7 @@ use Rattle.lw_area.proofs.sources.others_of.Goals as goal
 
 pub loop-one-preserved : goal.loop-one-preserved
 loop-one-preserved c =
-    rw c.in_ok-push.ensures (others_more c.args.further.now c.loop-one.one-index c.one-item.result _ c.loop-one.others.items c.loop-one-test.true c.one-item.is c.loop-one.invariant (refl, c.deref.ensures.value))
+    rw c.in_ok-push.ensures.items (others_more c.args.further.now c.loop-one.one-index c.one-item.result _ c.loop-one.others.items c.loop-one-test.true c.one-item.is c.loop-one.invariant (refl, c.deref.ensures.value))
 
 pub returns : goal.returns
 returns c = subst (λ (fs : List Further). AreOthersOf fs c.loop-one.others.items) (take_all c.loop-one.one-index c.args.further.now c.loop-one-test.false) c.loop-one.invariant
