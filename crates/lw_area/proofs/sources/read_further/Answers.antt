@@ -19,15 +19,15 @@ pub returns-in-At-clause-reads : goal.returns-in-At-clause-reads
 returns-in-At-clause-reads g c = record {
   files = c.in-Ok.ensures.reads.files;
   later = c.in-Ok.ensures.reads.later;
-  comes = λ files known. inl (c.in-Ok.model, c.in-Ok.ensures.reads.reads files known, (refl, rw c.in-At.is at c.in_ok-places_of.ensures));
+  comes = λ files known. inl (c.in-Ok.model, c.in-Ok.ensures.reads.reads files known, (refl, rw c.in-At.is at c.in_ok-places.ensures));
 }
 
 pub returns-in-At-clause-fits : goal.returns-in-At-clause-fits
-returns-in-At-clause-fits g c = places_fit c.args.inputs.now c.in-Ok.model.network c.in-At.places.items c.inputs.ensures.kept (rw c.in-At.is at c.in_ok-places_of.ensures)
+returns-in-At-clause-fits g c = places_fit c.args.inputs.now c.in-Ok.model.network c.in-At.places.items c.inputs.ensures.kept (rw c.in-At.is at c.in_ok-places.ensures)
 
 pub returns-in-Strange-clause-reads : goal.returns-in-Strange-clause-reads
 returns-in-Strange-clause-reads g c = record {
   files = c.in-Ok.ensures.reads.files;
   later = c.in-Ok.ensures.reads.later;
-  comes = λ files known. inl (c.in-Ok.model, c.in-Ok.ensures.reads.reads files known, (refl, rw c.in-Strange.is at c.in_ok-places_of.ensures));
+  comes = λ files known. inl (c.in-Ok.model, c.in-Ok.ensures.reads.reads files known, (refl, rw c.in-Strange.is at c.in_ok-places.ensures));
 }
