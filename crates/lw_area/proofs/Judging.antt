@@ -80,7 +80,7 @@ one_never names reason files place word (inr (e, read, same)) =
 
 module _ (task : Task) (word : List ℕ) where
   never_no : (reason : Reason) (files : Files) → IsVerdictOf task word files (Err (refusal.No reason)) → ⊥
-  never_no reason files (inl (cells, one, inl (model, two, inl (further, three, inl (mapped, four, no))))) = no
+  never_no reason files (inl (cells, one, inl (model, two, inl (further, three, inl (mapped, four, refused))))) = refused
   never_no reason files (inl (cells, one, inl (model, two, inl (further, three, inr (e, four, same))))) =
       let is : e ≡ refusal.No reason = cc in
       subst (λ (r : Refusal). in_mapped (ReadsMapped word cells) files (Err r)) is four

@@ -92,27 +92,27 @@ module _ (names : List (List ℕ)) (files : Files) where
 
   placed_one : (place : ℕ) (model : Parsed) (f : Further) (e : Refusal) → ArePlaced names place model files (Ok f) → ArePlaced names place model files (Err e) → ⊥
   placed_one place model f (refusal.Strange k name) (same, are) (at, strange) = not_strange (input_names model.network) f.places.items name are strange
-  placed_one place model f other ok no = no
+  placed_one place model f other ok refused = refused
 
   further_read : (place : ℕ) (word : List ℕ) (model : Parsed) (e : Refusal) → ReadsModel word files (Ok model) → in_further place (ReadsModel word) files (Err e) → ⊥
-  further_read place word model (refusal.Further k fault) ok (at, no) = let is : ◌≡◌ {A = Result Parsed FileFault} (Err fault) (Ok model) = model_one word files (Err fault) (Ok model) no ok in cc
-  further_read place word model other ok no = no
+  further_read place word model (refusal.Further k fault) ok (at, refused) = let is : ◌≡◌ {A = Result Parsed FileFault} (Err fault) (Ok model) = model_one word files (Err fault) (Ok model) refused ok in cc
+  further_read place word model other ok refused = refused
 
   one_read : (place : ℕ) (word : List ℕ) (f : Further) (e : Refusal) → ReadsOne names place word files (Ok f) → ReadsOne names place word files (Err e) → ⊥
   one_read place word f e (inl (model, ok, placed)) (inl (other, also, not)) =
       let is : ◌≡◌ {A = Result Parsed FileFault} (Ok other) (Ok model) = model_one word files (Ok other) (Ok model) also ok in
       let same : other ≡ model = cc in
       placed_one place model f e placed (subst (λ (m : Parsed). ArePlaced names place m files (Err e)) same not)
-  one_read place word f e (inl (model, ok, placed)) (inr (g, no, same)) = further_read place word model g ok no
-  one_read place word f e (inr (g, no, same)) also = cc
+  one_read place word f e (inl (model, ok, placed)) (inr (g, refused, same)) = further_read place word model g ok refused
+  one_read place word f e (inr (g, refused, same)) also = cc
 
   all_read : (place : ℕ) (words : List (List ℕ)) (fs : List Further) (e : Refusal) → ReadsFurther names place words files (Ok fs) → ReadsFurther names place words files (Err e) → ⊥
-  all_read place [] fs e ok no = no
-  all_read place (word ∷ words) fs e (inl (f, one, inl (rest, more, is))) (inl (g, also, inl (others, even, no))) = no
-  all_read place (word ∷ words) fs e (inl (f, one, inl (rest, more, is))) (inl (g, also, inr (h, no, same))) = all_read (suc place) words rest h more no
-  all_read place (word ∷ words) fs e (inl (f, one, inl (rest, more, is))) (inr (h, no, same)) = one_read place word f h one no
-  all_read place (word ∷ words) fs e (inl (f, one, inr (h, no, same))) also = cc
-  all_read place (word ∷ words) fs e (inr (h, no, same)) also = cc
+  all_read place [] fs e ok refused = refused
+  all_read place (word ∷ words) fs e (inl (f, one, inl (rest, more, is))) (inl (g, also, inl (others, even, refused))) = refused
+  all_read place (word ∷ words) fs e (inl (f, one, inl (rest, more, is))) (inl (g, also, inr (h, refused, same))) = all_read (suc place) words rest h more refused
+  all_read place (word ∷ words) fs e (inl (f, one, inl (rest, more, is))) (inr (h, refused, same)) = one_read place word f h one refused
+  all_read place (word ∷ words) fs e (inl (f, one, inr (h, refused, same))) also = cc
+  all_read place (word ∷ words) fs e (inr (h, refused, same)) also = cc
 
 -- each output of a netlist that was written has a cover
 covered : (settings : Settings) (cells : List CellParts) (model : Parsed) (further : List Further) (text : List ℕ) → (is : IsRecoveredText settings cells model further text) → (place : ℕ) (output : NetId) → slice_get model.network.outputs place ≡ Some output → IsUncoveredIn settings cells model.network is.space model.starts output → ⊥
