@@ -97,7 +97,7 @@ module _ {T : Type 0} (task : Task) (next : List CellParts → Parsed → List s
   sources_then s r (inr (e, one, same)) comes = cc
 
   pub sources_refused : (e : Refusal) → IsSourcesOf task files (Err e) → ReadsAll task next files (Err e)
-  sources_refused e (inl (cells, one, inl (model, two, inl (further, three, refused)))) = absurd refused
+  sources_refused e (inl (cells, one, inl (model, two, inl (further, three, nothing)))) = absurd nothing
   sources_refused e (inl (cells, one, inl (model, two, inr (f, three, same)))) = let is : f ≡ e = cc in inl (cells, one, inl (model, two, inr (f, three, ap Err is)))
   sources_refused e (inl (cells, one, inr (f, two, same))) = let is : f ≡ e = cc in inl (cells, one, inr (f, two, ap Err is))
   sources_refused e (inr (f, one, same)) = let is : f ≡ e = cc in inr (f, one, ap Err is)
