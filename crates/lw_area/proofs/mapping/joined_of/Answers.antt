@@ -23,5 +23,5 @@ returns-clause-joined c =
 
 pub returns-in_err-joined-clause-fault : goal.returns-in_err-joined-clause-fault
 returns-in_err-joined-clause-fault c =
-    let p = err_from_is_err_and c.from_residual.result c.from_residual.ensures.1 in
+    let p = err_from_is_err_and c.from_residual-in_err-joined.result c.from_residual-in_err-joined.ensures.1 in
     rw (p.1, p.2) c.in_err-joined.ensures.fault
