@@ -85,8 +85,8 @@ all_more P xs x all one = All-from_recursion P (xs ++ x ∷ []) (all_append P xs
 
 -- reading further networks refuses for nothing that reading one does not
 pub further_never : (names : List (List ℕ)) (files : Files) (e : Refusal) → ((place : ℕ) (word : List ℕ) → ReadsOne names place word files (Err e) → ⊥) → (place : ℕ) (words : List (List ℕ)) → ReadsFurther names place words files (Err e) → ⊥
-further_never names files e never place [] refused = refused
-further_never names files e never place (word ∷ words) (inl (one, read, inl (rest, more, refused))) = refused
+further_never names files e never place [] nothing = nothing
+further_never names files e never place (word ∷ words) (inl (one, read, inl (rest, more, nothing))) = nothing
 further_never names files e never place (word ∷ words) (inl (one, read, inr (d, more, same))) =
     let is : d ≡ e = cc in
     further_never names files e never (suc place) words (subst (λ (r : Refusal). ReadsFurther names (suc place) words files (Err r)) is more)

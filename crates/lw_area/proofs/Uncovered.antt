@@ -36,6 +36,7 @@ use Rattle.lw_area.specs.Promises.{AreRead}
 use Rattle.lw_area.specs.Recovered.{IsRecoveredText, IsSpaceOf, Space, form_in, listing_in}
 use Rattle.lw_area.specs.Sources.{ArePlaced, ReadsFurther, ReadsOne, in_further, in_library, in_network}
 use Rattle.lw_area.specs.Words.{Settings, Task}
+use Rattle.lw_area.proofs.Steps.{by_last, first, second, third}
 
 -- What is read is one.
 
@@ -137,20 +138,22 @@ module _ (task : Task) (files : Files) (read : AreRead task files) where
   no_network (Network fault) r = let no : ◌≡◌ {A = Result Parsed FileFault} (Err fault) (Ok read.model) = model_one task.network files (Err fault) (Ok read.model) r read.network_is in cc
   no_network other r = r
 
+  model_is : (model : Parsed) → ReadsModel task.network files (Ok model) → model ≡ read.model
+  model_is model two =
+      let is : ◌≡◌ {A = Result Parsed FileFault} (Ok model) (Ok read.model) = model_one task.network files (Ok model) (Ok read.model) two read.network_is in
+      cc
+
+  no_further : (model : Parsed) → ReadsModel task.network files (Ok model) → (e : Refusal) → ReadsFurther (input_names model.network) 0 task.more files (Err e) → ⊥
+  no_further model two e refused =
+      all_read (input_names net) files 0 task.more read.further e read.further_are (subst (λ (n : Parsed). ReadsFurther (input_names n.network) 0 task.more files (Err e)) (model_is model two) refused)
+
   -- what the cells and the model come to with further networks is the answer
   recovers : (a : Result (List ℕ) Refusal) → IsTaskAnswer task files a → (further : List Further) × Recovers task.settings read.cells read.model further files a
-  recovers a (inl (xs, r, inl (m, s, inl (further, t, comes)))) =
-      let cells_are : ◌≡◌ {A = Result (List CellParts) FileFault} (Ok xs) (Ok read.cells) = library_one task.library files (Ok xs) (Ok read.cells) r read.library_is in
-      let model_is : ◌≡◌ {A = Result Parsed FileFault} (Ok m) (Ok read.model) = model_one task.network files (Ok m) (Ok read.model) s read.network_is in
-      let one : xs ≡ read.cells = cc in
-      let two : m ≡ read.model = cc in
-      (further, subst (λ (n : Parsed). Recovers task.settings read.cells n further files a) two (subst (λ (ys : List CellParts). Recovers task.settings ys m further files a) one comes))
-  recovers a (inl (xs, r, inl (m, s, inr (e, refused, is)))) =
-      let model_is : ◌≡◌ {A = Result Parsed FileFault} (Ok m) (Ok read.model) = model_one task.network files (Ok m) (Ok read.model) s read.network_is in
-      let two : m ≡ read.model = cc in
-      absurd (all_read (input_names net) files 0 task.more read.further e read.further_are (subst (λ (n : Parsed). ReadsFurther (input_names n.network) 0 task.more files (Err e)) two refused))
-  recovers a (inl (xs, r, inr (e, refused, is))) = absurd (no_network e refused)
-  recovers a (inr (e, refused, is)) = absurd (no_library e refused)
+  recovers a answer =
+      let m = by_last (first task) (second task) (third task) (Recovers task.settings) files a (λ e r same. no_library e r) (λ e r same. no_network e r) (λ model two e r same. no_further model two e r) answer in
+      let cells_are : ◌≡◌ {A = Result (List CellParts) FileFault} (Ok m.a) (Ok read.cells) = library_one task.library files (Ok m.a) (Ok read.cells) m.one read.library_is in
+      let one : m.a ≡ read.cells = cc in
+      (m.c, subst (λ (n : Parsed). Recovers task.settings read.cells n m.c files a) (model_is m.b m.two) (subst (λ (ys : List CellParts). Recovers task.settings ys m.b m.c files a) one m.comes))
 
   abbrev HasLack : Space → Type 0
   HasLack space = (root : NetId) × Contains net.outputs root × IsUncoveredIn task.settings read.cells net space read.model.starts root
