@@ -11,14 +11,13 @@ use Rattle.lw_net.specs.Ports.{ports_of}
 use Rattle.lw_genlib.specs.Cells.{IsSmall}
 use Rattle.lw_genlib.specs.Tables.{millionths, timing_of, truth_of_cells}
 use Rattle.lw_pattern.specs.Libraries.{library_patterns}
-use Rattle.lw_cost.specs.Labels.{costs_of}
 use Rattle.lw_label.specs.Delays.{most_time}
 use Rattle.lw_netlist.specs.Plain as netlist
 use Rattle.lw_netlist.specs.Plain.{mapped_ports}
 use Rattle.lw_mapped.specs.declared.certificate.Certificate.{Certificate}
 use Rattle.lw_mapped.specs.Texts.{HasGateClasses}
 use Rattle.lw_extract.specs.declared.ports.Cover.{Cover}
-use Rattle.lw_map.specs.Options.{IsWide, Options, plain_options}
+use Rattle.lw_map.specs.Options.{IsWide, Options}
 use Rattle.lw_joined.specs.Choices.{IsJoined}
 use Rattle.lw_joined.specs.Joins.{IsJoin, joined_listing}
 use Rattle.lw_area.specs.declared.recovering.Case.{Case}

@@ -7,7 +7,7 @@ use Rattle.lw_area.specs.declared.words.Deadline.{Deadline}
 use Rattle.lw_area.specs.declared.words.Deadline.TheVariants.{Each}
 use Rattle.lw_area.specs.declared.words.Wrong.TheVariants.{Certified, Late}
 use Rattle.lw_area.specs.Promises.{AsksFor}
-use Rattle.lw_area.specs.Words.{Asked, Begun, Settings, Task, WrongWord, checked_from, checked_of, checking, checking_first, checking_of, files_behind, files_of, files_unless, first_dashed, is_each, mapping, mapping_of, no_option, only_word, option_of, options_of, refused, task_of, then_options, usage, version}
+use Rattle.lw_area.specs.Words.{Asked, Begun, Settings, Task, WrongWord, checked_from, checking, checking_first, checking_of, files_behind, files_of, files_unless, first_dashed, is_each, mapping, mapping_of, no_option, only_word, option_of, options_of, refused, task_of, then_options, usage, version}
 
 each_is : (deadline : Deadline) → is_each deadline ≡ true → deadline ≡ Each
 each_is Each e = refl

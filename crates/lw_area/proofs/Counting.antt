@@ -10,4 +10,4 @@ module _ {S : Type 0} (taken : S → Option (List ℕ)) (faults : S → ℕ) (be
   same = simp append_assoc
 
   pub number_then : {u v w : Writer S} → Writes taken faults u v (before ++ (number ++ [])) → Writes taken faults v w rest → Writes taken faults u w (before ++ (number ++ rest))
-  number_then a b = subst (λ text. Writes taken faults _ _ text) same (Writes-both a b)
+  number_then {u} {v} {w} a b = subst (λ (text : List ℕ). Writes taken faults u w text) same (Writes-both a b)

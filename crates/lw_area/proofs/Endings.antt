@@ -6,7 +6,7 @@ use Rattle.lw_files.specs.declared.fault.FileFault.{FileFault}
 use Rattle.lw_files.specs.declared.fault.FileFault.TheVariants as fault
 use Rattle.lw_files.specs.Faults.{fault_status}
 use Rattle.lw_files.specs.Steps.{Files}
-use Rattle.lw_files.specs.Sources.{ReadsLibrary, ReadsModel}
+use Rattle.lw_files.specs.Sources.{ReadsModel}
 use Rattle.lw_net.specs.Networks.{input_names}
 use Rattle.lw_map.specs.declared.fault.MapFault.{MapFault}
 use Rattle.lw_map.specs.declared.fault.MapFault.TheVariants as map_fault
@@ -17,13 +17,14 @@ use Rattle.lw_area.specs.declared.outcome.Ending.TheVariants.{Done, Mapped, Writ
 use Rattle.lw_area.specs.declared.refusal.Refusal.{Refusal}
 use Rattle.lw_area.specs.declared.refusal.Refusal.TheVariants as refusal
 use Rattle.lw_area.specs.declared.refusal.Refusal.TheVariants.{Library, Network, Further, Strange, Unmapped, No}
-use Rattle.lw_area.specs.Answers.{IsTaskAnswer}
+use Rattle.lw_area.specs.Answers.{IsTaskAnswer, Recovers}
 use Rattle.lw_area.specs.Outcomes.{Meets, ending_line, ending_status}
 use Rattle.lw_area.specs.Promises.{IsRecoveryOf, LacksOutput}
 use Rattle.lw_area.specs.Refusals.{refusal_line, status_of}
-use Rattle.lw_area.specs.Sources.{ReadsFurther, ReadsOne, in_further, in_library, in_network}
+use Rattle.lw_area.specs.Sources.{ReadsFurther, ReadsOne, in_further}
 use Rattle.lw_area.specs.Words.{Asked, Task, WrongWord, mapping}
 use Rattle.lw_area.proofs.Further.{further_never}
+use Rattle.lw_area.proofs.Steps.{first, second, third, last_ok, last_err}
 
 -- words ask for one thing
 pub same_asked : (asked : Asked) (task : Task) → ◌≡◌ {A = Result Asked WrongWord} (Ok asked) (Ok (mapping task)) → asked ≡ mapping task
@@ -35,13 +36,12 @@ not_asked wrong task e = cc
 
 -- an answer that is a text
 pub recovery : (task : Task) (files : Files) (text : List ℕ) → IsTaskAnswer task files (Ok text) → IsRecoveryOf task files text
-recovery task files text (inl (cells, one, inl (model, two, inl (further, three, is)))) = record {
-  read = record { cells = cells; model = model; further = further; library_is = one; network_is = two; further_are = three };
-  is = is;
-}
-recovery task files text (inl (cells, one, inl (model, two, inr (e, three, same)))) = cc
-recovery task files text (inl (cells, one, inr (e, two, same))) = cc
-recovery task files text (inr (e, one, same)) = cc
+recovery task files text answer =
+    let m = last_ok (first task) (second task) (third task) (Recovers task.settings) files text answer in
+    record {
+      read = record { cells = m.a; model = m.b; further = m.c; library_is = m.one; network_is = m.two; further_are = m.three };
+      is = m.comes;
+    }
 
 -- files that are read have no reason against a mapping
 one_maps : (names : List (List ℕ)) (place : ℕ) (word : List ℕ) (files : Files) (f : MapFault) → ReadsOne names place word files (Err (Unmapped f)) → ⊥
@@ -53,19 +53,13 @@ further_map names words files f = further_never names files (Unmapped f) (λ pla
 
 -- an answer that names an output
 pub lacking : (task : Task) (files : Files) (name : List ℕ) → IsTaskAnswer task files (Err (Unmapped (map_fault.NoCover name))) → LacksOutput task files name
-lacking task files name (inl (cells, one, inl (model, two, inl (further, three, lacks)))) = record {
-  read = record { cells = cells; model = model; further = further; library_is = one; network_is = two; further_are = three };
-  lacks = lacks;
-}
-lacking task files name (inl (cells, one, inl (model, two, inr (e, three, same)))) =
-    let is : e ≡ Unmapped (map_fault.NoCover name) = cc in
-    absurd (further_map (input_names model.network) task.more files (map_fault.NoCover name) (subst (λ (r : Refusal). ReadsFurther (input_names model.network) 0 task.more files (Err r)) is three))
-lacking task files name (inl (cells, one, inr (e, two, same))) =
-    let is : e ≡ Unmapped (map_fault.NoCover name) = cc in
-    absurd (subst (λ (r : Refusal). in_network (ReadsModel task.network) files (Err r)) is two)
-lacking task files name (inr (e, one, same)) =
-    let is : e ≡ Unmapped (map_fault.NoCover name) = cc in
-    absurd (subst (λ (r : Refusal). in_library (ReadsLibrary task.library) files (Err r)) is one)
+lacking task files name answer =
+    let no_cover = map_fault.NoCover name in
+    let m = last_err (first task) (second task) (third task) (Recovers task.settings) files (Unmapped no_cover) (λ is. is) (λ is. is) (λ model is. further_map (input_names model.network) task.more files no_cover is) answer in
+    record {
+      read = record { cells = m.a; model = m.b; further = m.c; library_is = m.one; network_is = m.two; further_are = m.three };
+      lacks = m.comes;
+    }
 
 fault_not_one : (f : FileFault) → fault_status f ≡ 1 → ⊥
 fault_not_one fault.Unread e = omega (arith, e)

@@ -1,18 +1,19 @@
 -- The files of further networks, one after another.
-use Rattle.std.proofs.Common.{◌≡◌, inl, inr, ℕ, zero, suc, ◌+◌, ◌<◌, ◌≤◌, All, List, [], ◌∷◌, ◌++◌, length, drop, Some, Result, Ok, Err, slice_get, slice_index_or, append_assoc, refl, ap, sym, ◌∙◌, subst, arith}
-use Rattle.std.proofs.lemmas.List.{append-nil, at_drop_more, length-take-le}
+use Rattle.std.proofs.Common.{◌≡◌, inl, inr, ℕ, zero, suc, ◌+◌, ◌<◌, ◌≤◌, All, List, [], ◌∷◌, ◌++◌, length, get_or, take, drop, Some, Result, Ok, Err, slice_get, slice_index_or, append_assoc, refl, ap, sym, ◌∙◌, subst, arith}
+use Rattle.std.proofs.lemmas.List.{append-nil, at_drop_more, length-take-le, take_more}
 use Rattle.std.proofs.lemmas.List.Elements.{All-from_recursion, recursion_from_All}
 use Rattle.std.proofs.lemmas.Option.{slice_get_within}
-use Rattle.std.proofs.lemmas.Slice.Zip.{AllZip-long}
+use Rattle.std.proofs.lemmas.Slice.Zip.{AllZip-long, all_zipped_more}
 use Rattle.std.specs.List.{AllByRecursion}
 use Rattle.lw_files.specs.Steps.{Files}
 use Rattle.lw_laws.proofs.Lists.{all_append}
 use Rattle.lw_net.specs.Networks.{IsNetwork, NetworkParts, input_names}
 use Rattle.lw_net.specs.Unions.{ArePlacesIn}
+use Rattle.lw_joined.specs.declared.uniting.Other.{Other}
 use Rattle.lw_joined.specs.Places.{ArePlacesOf}
 use Rattle.lw_area.specs.declared.refusal.Refusal.{Refusal}
 use Rattle.lw_area.specs.declared.sources.Further.{Further}
-use Rattle.lw_area.specs.Sources.{ReadsFurther, ReadsOne}
+use Rattle.lw_area.specs.Sources.{AreOthersOf, ReadsFurther, ReadsOne}
 
 -- what comes of a list behind others
 abbrev pub behind : List Further → Result (List Further) Refusal → Result (List Further) Refusal
@@ -74,7 +75,7 @@ pub places_fit : (names : List (List ℕ)) (other : NetworkParts) (places : List
 places_fit names other places kept are =
     let named = kept.named in
     record {
-      one_each = AllZip-long (λ (place : ℕ) (name : List ℕ). slice_get names place ≡ Some name) places (input_names other) are ∙ length-take-le other.inputs other.names (omega arith);
+      one_each = sym (AllZip-long (λ (place : ℕ) (name : List ℕ). slice_get names place ≡ Some name) places (input_names other) are) ∙ length-take-le other.inputs other.names (omega arith);
       within = All-from_recursion (λ (i : ℕ). i < length names) places (each_below names places (input_names other) are);
     }
 
@@ -84,11 +85,17 @@ all_more P xs x all one = All-from_recursion P (xs ++ x ∷ []) (all_append P xs
 
 -- reading further networks refuses for nothing that reading one does not
 pub further_never : (names : List (List ℕ)) (files : Files) (e : Refusal) → ((place : ℕ) (word : List ℕ) → ReadsOne names place word files (Err e) → ⊥) → (place : ℕ) (words : List (List ℕ)) → ReadsFurther names place words files (Err e) → ⊥
-further_never names files e never place [] no = no
-further_never names files e never place (word ∷ words) (inl (one, read, inl (rest, more, no))) = no
+further_never names files e never place [] nothing = nothing
+further_never names files e never place (word ∷ words) (inl (one, read, inl (rest, more, nothing))) = nothing
 further_never names files e never place (word ∷ words) (inl (one, read, inr (d, more, same))) =
     let is : d ≡ e = cc in
     further_never names files e never (suc place) words (subst (λ (r : Refusal). ReadsFurther names (suc place) words files (Err r)) is more)
 further_never names files e never place (word ∷ words) (inr (d, read, same)) =
     let is : d ≡ e = cc in
     never place word (subst (λ (r : Refusal). ReadsOne names place word files (Err r)) is read)
+
+-- one further network more
+pub others_more : (further : List Further) (i : ℕ) (one : Further) (other : Other) (others : List Other) → i < length further → one ≡ get_or further i one → AreOthersOf (take i further) others → (other.net.now ≡ one.network) × (other.places.now ≡ one.places.items) → AreOthersOf (take (i + 1) further) (others ++ other ∷ [])
+others_more further i one other others lt at are is =
+    let parts : take (i + 1) further ≡ take i further ++ one ∷ [] = take_more further i one lt ∙ ap (λ (f : Further). take i further ++ f ∷ []) (sym at) in
+    subst (λ (fs : List Further). AreOthersOf fs (others ++ other ∷ [])) (sym parts) (all_zipped_more (λ (f : Further) (o : Other). (o.net.now ≡ f.network) × (o.places.now ≡ f.places.items)) (take i further) others one other are is)

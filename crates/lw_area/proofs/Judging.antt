@@ -14,7 +14,7 @@ use Rattle.lw_check.specs.declared.verdict.Reason.{Reason}
 use Rattle.lw_check.specs.declared.verdict.Verdict.{Verdict}
 use Rattle.lw_files.specs.declared.fault.FileFault.{FileFault}
 use Rattle.lw_files.specs.Reading as file
-use Rattle.lw_files.specs.Sources.{ReadsLibrary, ReadsMapped, ReadsModel}
+use Rattle.lw_files.specs.Sources.{ReadsMapped, ReadsModel}
 use Rattle.lw_files.specs.Steps.{Files, followed_by}
 use Rattle.lw_map.specs.declared.fault.MapFault.TheVariants as map_fault
 use Rattle.lw_map.specs.Options.{Options}
@@ -27,12 +27,12 @@ use Rattle.lw_area.specs.declared.sources.Further as sources
 use Rattle.lw_area.specs.declared.sources.Sources.{Sources}
 use Rattle.lw_area.specs.Checks.{HasVerdictIn, IsJudged, IsVerdictOf, in_mapped}
 use Rattle.lw_area.specs.Outcomes.{IsRefusedFor}
-use Rattle.lw_area.specs.Sources.{ComesTo, HasReason, IsSourcesOf, ReadsFurther, ReadsOne, Step, in_further, in_library, in_network}
+use Rattle.lw_area.specs.Sources.{ComesTo, HasReason, IsSourcesOf, ReadsOne, Step, in_further}
 use Rattle.lw_area.specs.Spaces.{IsJoinedOf, space_of}
 use Rattle.lw_area.specs.Words.{Settings, Task, checking}
 use Rattle.lw_area.proofs.Further.{further_never}
 use Rattle.lw_area.proofs.Made.{space_over}
-use Rattle.lw_area.proofs.Steps.{comes_after, mapped_reason, refused_sources, stops, then_comes}
+use Rattle.lw_area.proofs.Steps.{comes_after, first, last_err, mapped_reason, refused_sources, second, stops, then_comes, third}
 
 -- the verdict over the joined graph is one over what the network is mapped over
 pub verdict_in : (settings : Settings) (s : Sources) (j : Joined) → IsJoinedOf settings s j → (mapped : Mapped) (v : Verdict) → HasVerdict s.library s.model j mapped v → HasVerdictIn settings s.library s.model s.further.items mapped v
@@ -79,21 +79,20 @@ one_never names reason files place word (inr (e, read, same)) =
     subst (λ (r : Refusal). in_further place (ReadsModel word) files (Err r)) is read
 
 module _ (task : Task) (word : List ℕ) where
+  abbrev judged : List CellParts → Parsed → List sources.Further → Step Verdict
+  judged cells model further = followed_by (in_mapped (ReadsMapped word cells)) (λ mapped. IsJudged task.settings cells model further mapped)
+
+  judged_never : (reason : Reason) (files : Files) (cells : List CellParts) (model : Parsed) (further : List sources.Further) → judged cells model further files (Err (refusal.No reason)) → ⊥
+  judged_never reason files cells model further (inl (mapped, read, nothing)) = nothing
+  judged_never reason files cells model further (inr (e, read, same)) =
+      let is : e ≡ refusal.No reason = cc in
+      subst (λ (r : Refusal). in_mapped (ReadsMapped word cells) files (Err r)) is read
+
   never_no : (reason : Reason) (files : Files) → IsVerdictOf task word files (Err (refusal.No reason)) → ⊥
-  never_no reason files (inl (cells, one, inl (model, two, inl (further, three, inl (mapped, four, no))))) = no
-  never_no reason files (inl (cells, one, inl (model, two, inl (further, three, inr (e, four, same))))) =
-      let is : e ≡ refusal.No reason = cc in
-      subst (λ (r : Refusal). in_mapped (ReadsMapped word cells) files (Err r)) is four
-  never_no reason files (inl (cells, one, inl (model, two, inr (e, three, same)))) =
-      let names = input_names model.network in
-      let is : e ≡ refusal.No reason = cc in
-      further_never names files (refusal.No reason) (one_never names reason files) 0 task.more (subst (λ (r : Refusal). ReadsFurther names 0 task.more files (Err r)) is three)
-  never_no reason files (inl (cells, one, inr (e, two, same))) =
-      let is : e ≡ refusal.No reason = cc in
-      subst (λ (r : Refusal). in_network (ReadsModel task.network) files (Err r)) is two
-  never_no reason files (inr (e, one, same)) =
-      let is : e ≡ refusal.No reason = cc in
-      subst (λ (r : Refusal). in_library (ReadsLibrary task.library) files (Err r)) is one
+  never_no reason files is =
+      let e = refusal.No reason in
+      let m = last_err (first task) (second task) (third task) judged files e (λ r. r) (λ r. r) (λ model r. let names = input_names model.network in further_never names files e (one_never names reason files) 0 task.more r) is in
+      judged_never reason files m.a m.b m.c m.comes
 
   -- a reason against a verdict is one to refuse
   pub judged_refused : (told : Option (List File)) (before now : ℕ) (e : Refusal) → HasReason told before now (IsVerdictOf task word) e → IsRefusedFor told before now (checking task word) e

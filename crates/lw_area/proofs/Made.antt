@@ -1,12 +1,12 @@
 -- The case of a cover in hand, what a netlist that was made is, and why there is none.
-use Rattle.std.proofs.Common.{◌≡◌, ◌∙◌, ◌≤◌, ℕ, All, List, [], ◌∷◌, length, map, refl, ap, sym, subst, arith}
+use Rattle.std.proofs.Common.{◌≡◌, ◌∙◌, ℕ, All, List, [], ◌∷◌, length, map, refl, ap, sym, subst, arith}
 use Rattle.std.specs.List.{AllByRecursion, AllZip}
 use Rattle.std.proofs.lemmas.List.{length-map, length-take-le}
 use Rattle.std.proofs.lemmas.List.Elements.{All-from_recursion, recursion_from_All}
 use Rattle.std.proofs.lemmas.Slice.Zip.{AllZip-long}
 use Rattle.lw_pool.specs.Numbers.{numbers}
 use Rattle.lw_pool.specs.declared.id.NetId.{NetId}
-use Rattle.lw_laws.specs.Graphs.{Graph, most_classes}
+use Rattle.lw_laws.specs.Graphs.{Graph}
 use Rattle.lw_laws.specs.Headline.{HasNoCoverOf}
 use Rattle.lw_laws.specs.MappedNetlists.{IsNetlistOfForms}
 use Rattle.lw_net.specs.Networks.{NetworkParts, name_in}

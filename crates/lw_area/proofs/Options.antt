@@ -1,8 +1,10 @@
 -- Options, one after another.
 use Rattle.std.proofs.Common.{◌≡◌, ◌<◌, ◌≤◌, ◌+◌, ◌-◌, ◌∙◌, ℕ, zero, suc, Bool, true, false, cond, List, [], ◌∷◌, Some, length, get_or, slice_get, take, drop, map, refl, ap, sym, subst, arith}
+use Rattle.std.specs.Prelude.{codes}
+use Rattle.std.specs.Str.{bytes_eq}
 use Rattle.std.proofs.lemmas.List.{length-map, take_all}
 use Rattle.lw_top.specs.Words.{is_file_word}
-use Rattle.lw_area.specs.Words.{Settings, checked_from, checked_of, checking_of, files_behind, files_of, option_of, options_of, then_options}
+use Rattle.lw_area.specs.Words.{Settings, checked_from, checked_of, checking_first, checking_of, files_behind, files_of, no_option, option_of, options_of, then_options}
 
 split : {S : Type 0} (bytes : S → List ℕ) (rest : List S) (d : S) → 1 ≤ length rest → d ≡ get_or rest 0 d → map bytes rest ≡ bytes d ∷ map bytes (drop 1 rest)
 split bytes [] d le same = absurd (omega arith)
@@ -72,3 +74,15 @@ checked_last {S} bytes words d le same s =
     ∙ (ap (checked_from s ws) at
     ∙ (ap (λ (n : ℕ). checking_of (bytes d) (files_of s (take (n - 1) ws))) count
     ∙ ap (λ (xs : List (List ℕ)). checking_of (bytes d) (files_of s xs)) (words_before bytes words (length words - 1))))
+
+-- where `-k` does not stand first
+pub none_first : {S : Type 0} (bytes : S → List ℕ) (words : List S) → length words < 1 → options_of (length words) false no_option (map bytes words) ≡ checking_first (map bytes words)
+none_first bytes [] lt = refl
+none_first bytes (x ∷ words) lt = absurd (omega arith)
+
+pub other_first : {S : Type 0} (bytes : S → List ℕ) (words : List S) (d : S) → 1 ≤ length words → d ≡ get_or words 0 d → bytes_eq (bytes d) (codes "-k") ≡ false → options_of (length words) false no_option (map bytes words) ≡ checking_first (map bytes words)
+other_first bytes [] d le same is = absurd (omega arith)
+other_first {S} bytes (x ∷ words) d le same is =
+    let test : bytes_eq (bytes x) (codes "-k") ≡ false = subst (λ (y : S). bytes_eq (bytes y) (codes "-k") ≡ false) same is in
+    ap (λ (n : ℕ). options_of (suc n) false no_option (bytes x ∷ map bytes words)) (sym (length-map words bytes))
+    ∙ sym (ap (λ (b : Bool). cond b (options_of (length (map bytes words)) true no_option (map bytes words)) (options_of (length (bytes x ∷ map bytes words)) false no_option (bytes x ∷ map bytes words))) test)

@@ -1,6 +1,5 @@
 -- A cover that the look gives.
-use Rattle.std.proofs.Common.{ℕ, ◌≡◌, ◌≢◌, ◌≤◌, ◌∙◌, ◌++◌, All, List, None, length, map, take, refl, ap, ap₂, sym, subst, arith}
-use Rattle.std.specs.List.{AllZip}
+use Rattle.std.proofs.Common.{ℕ, ◌≡◌, ◌≢◌, ◌∙◌, ◌++◌, All, List, None, length, map, take, refl, ap, ap₂, sym, subst, arith}
 use Rattle.std.proofs.lemmas.List.{take_at}
 use Rattle.lw_fixed.specs.declared.micro.Micro.{Micro}
 use Rattle.lw_pool.specs.Numbers.{numbers}
@@ -15,7 +14,7 @@ use Rattle.lw_net.specs.Networks.{NetworkParts, IsNetwork, input_names}
 use Rattle.lw_net.specs.Plain as network
 use Rattle.lw_net.specs.Ports.{ports_of}
 use Rattle.lw_genlib.specs.Cells.{IsLibrary, IsSmall}
-use Rattle.lw_genlib.specs.Tables.{millionths, timing_of, truth_of_cells}
+use Rattle.lw_genlib.specs.Tables.{timing_of, truth_of_cells}
 use Rattle.lw_pattern.specs.Libraries.{library_patterns}
 use Rattle.lw_netlist.specs.Netlists.{NetlistParts, IsNetlist}
 use Rattle.lw_netlist.specs.Plain as netlist

@@ -5,8 +5,9 @@ use Rattle.lw_io.specs.Files.{bytes_of}
 use Rattle.lw_files.specs.declared.fault.FileFault.{FileFault}
 use Rattle.lw_files.specs.declared.fault.FileFault.TheVariants.{Unread, Memory}
 use Rattle.lw_files.specs.Reading as file
-use Rattle.lw_files.specs.Sources.{FileStep}
+use Rattle.lw_files.specs.Sources.{FileStep, ReadsLibrary, ReadsModel}
 use Rattle.lw_files.specs.Steps.{Files, followed_by}
+use Rattle.lw_net.specs.Networks.{input_names}
 use Rattle.lw_genlib.specs.Cells.{CellParts}
 use Rattle.lw_blif.specs.declared.parsed.Parsed.{Parsed}
 use Rattle.lw_map.specs.declared.fault.MapFault.TheVariants as map_fault
@@ -19,7 +20,7 @@ use Rattle.lw_area.specs.Answers.{Recovers}
 use Rattle.lw_area.specs.Checks.{in_mapped}
 use Rattle.lw_area.specs.Outcomes as outcome
 use Rattle.lw_area.specs.Outcomes.{Gives, answer_text}
-use Rattle.lw_area.specs.Sources.{ComesTo, HasReason, IsSourcesOf, ReadsAll, Step, in_further, in_library, in_network}
+use Rattle.lw_area.specs.Sources.{ComesTo, HasReason, IsSourcesOf, ReadsAll, ReadsFurther, Step, in_further, in_library, in_network}
 use Rattle.lw_area.specs.Words.{Task}
 
 -- a reason of one step is one of another that refuses for it
@@ -97,7 +98,7 @@ module _ {T : Type 0} (task : Task) (next : List CellParts → Parsed → List s
   sources_then s r (inr (e, one, same)) comes = cc
 
   pub sources_refused : (e : Refusal) → IsSourcesOf task files (Err e) → ReadsAll task next files (Err e)
-  sources_refused e (inl (cells, one, inl (model, two, inl (further, three, no)))) = absurd no
+  sources_refused e (inl (cells, one, inl (model, two, inl (further, three, nothing)))) = absurd nothing
   sources_refused e (inl (cells, one, inl (model, two, inr (f, three, same)))) = let is : f ≡ e = cc in inl (cells, one, inl (model, two, inr (f, three, ap Err is)))
   sources_refused e (inl (cells, one, inr (f, two, same))) = let is : f ≡ e = cc in inl (cells, one, inr (f, two, ap Err is))
   sources_refused e (inr (f, one, same)) = let is : f ≡ e = cc in inr (f, one, ap Err is)
@@ -118,3 +119,51 @@ module _ (told : Option (List File)) (task : Task) (s : Sources) (has : file.Kno
   comes_to before now (Err (Unmapped map_fault.Memory)) gives = tt
   comes_to before now (Err (Unmapped fault)) gives = λ files known. sources_then task (Recovers task.settings) (bytes_of files) s (Err (Unmapped fault)) (has files known) gives
   comes_to before now (Err other) gives = absurd gives
+
+-- Three steps and then a last one.
+module _ {A B C T : Type 0} (first : Step A) (second : Step B) (third : B → Step C) (last : A → B → C → Step T) (files : Files) where
+  abbrev pub Whole : Result T Refusal → Type 0
+  Whole r = followed_by first (λ a. followed_by second (λ b. followed_by (third b) (λ c. last a b c))) files r
+
+  -- the three steps answered, and the last comes to this
+  pub record IsLast (r : Result T Refusal) : Type 0 where
+    pub a : A
+    pub b : B
+    pub c : C
+    pub one : first files (Ok a)
+    pub two : second files (Ok b)
+    pub three : third b files (Ok c)
+    pub comes : last a b c files r
+
+  -- none of the three refuses
+  pub by_last : (r : Result T Refusal) → ((e : Refusal) → first files (Err e) → Err e ≡ r → ⊥) → ((e : Refusal) → second files (Err e) → Err e ≡ r → ⊥) → ((b : B) → second files (Ok b) → (e : Refusal) → third b files (Err e) → Err e ≡ r → ⊥) → Whole r → IsLast r
+  by_last r not_one not_two not_three (inl (a, one, inl (b, two, inl (c, three, comes)))) = record { a = a; b = b; c = c; one = one; two = two; three = three; comes = comes }
+  by_last r not_one not_two not_three (inl (a, one, inl (b, two, inr (e, refused, same)))) = absurd (not_three b two e refused same)
+  by_last r not_one not_two not_three (inl (a, one, inr (e, refused, same))) = absurd (not_two e refused same)
+  by_last r not_one not_two not_three (inr (e, refused, same)) = absurd (not_one e refused same)
+
+  no_value : (e : Refusal) (x : T) → ◌≡◌ {A = Result T Refusal} (Err e) (Ok x) → ⊥
+  no_value e x same = cc
+
+  one_refusal : (d e : Refusal) → ◌≡◌ {A = Result T Refusal} (Err d) (Err e) → d ≡ e
+  one_refusal d e same = cc
+
+  pub last_ok : (x : T) → Whole (Ok x) → IsLast (Ok x)
+  last_ok x whole = by_last (Ok x) (λ e refused same. no_value e x same) (λ e refused same. no_value e x same) (λ b two e refused same. no_value e x same) whole
+
+  -- a refusal that none of the three gives
+  pub last_err : (e : Refusal) → (first files (Err e) → ⊥) → (second files (Err e) → ⊥) → ((b : B) → third b files (Err e) → ⊥) → Whole (Err e) → IsLast (Err e)
+  last_err e not_one not_two not_three whole =
+      by_last (Err e) (λ d refused same. not_one (subst (λ (f : Refusal). first files (Err f)) (one_refusal d e same) refused)) (λ d refused same. not_two (subst (λ (f : Refusal). second files (Err f)) (one_refusal d e same) refused))
+      (λ b two d refused same. not_three b (subst (λ (f : Refusal). third b files (Err f)) (one_refusal d e same) refused)) whole
+
+-- the steps of a task that read its files
+module _ (task : Task) where
+  abbrev pub first : Step (List CellParts)
+  first = in_library (ReadsLibrary task.library)
+
+  abbrev pub second : Step Parsed
+  second = in_network (ReadsModel task.network)
+
+  abbrev pub third : Parsed → Step (List sources.Further)
+  third model = ReadsFurther (input_names model.network) 0 task.more

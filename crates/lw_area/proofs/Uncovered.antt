@@ -36,6 +36,7 @@ use Rattle.lw_area.specs.Promises.{AreRead}
 use Rattle.lw_area.specs.Recovered.{IsRecoveredText, IsSpaceOf, Space, form_in, listing_in}
 use Rattle.lw_area.specs.Sources.{ArePlaced, ReadsFurther, ReadsOne, in_further, in_library, in_network}
 use Rattle.lw_area.specs.Words.{Settings, Task}
+use Rattle.lw_area.proofs.Steps.{by_last, first, second, third}
 
 -- What is read is one.
 
@@ -92,27 +93,27 @@ module _ (names : List (List ℕ)) (files : Files) where
 
   placed_one : (place : ℕ) (model : Parsed) (f : Further) (e : Refusal) → ArePlaced names place model files (Ok f) → ArePlaced names place model files (Err e) → ⊥
   placed_one place model f (refusal.Strange k name) (same, are) (at, strange) = not_strange (input_names model.network) f.places.items name are strange
-  placed_one place model f other ok no = no
+  placed_one place model f other ok refused = refused
 
   further_read : (place : ℕ) (word : List ℕ) (model : Parsed) (e : Refusal) → ReadsModel word files (Ok model) → in_further place (ReadsModel word) files (Err e) → ⊥
-  further_read place word model (refusal.Further k fault) ok (at, no) = let is : ◌≡◌ {A = Result Parsed FileFault} (Err fault) (Ok model) = model_one word files (Err fault) (Ok model) no ok in cc
-  further_read place word model other ok no = no
+  further_read place word model (refusal.Further k fault) ok (at, refused) = let is : ◌≡◌ {A = Result Parsed FileFault} (Err fault) (Ok model) = model_one word files (Err fault) (Ok model) refused ok in cc
+  further_read place word model other ok refused = refused
 
   one_read : (place : ℕ) (word : List ℕ) (f : Further) (e : Refusal) → ReadsOne names place word files (Ok f) → ReadsOne names place word files (Err e) → ⊥
   one_read place word f e (inl (model, ok, placed)) (inl (other, also, not)) =
       let is : ◌≡◌ {A = Result Parsed FileFault} (Ok other) (Ok model) = model_one word files (Ok other) (Ok model) also ok in
       let same : other ≡ model = cc in
       placed_one place model f e placed (subst (λ (m : Parsed). ArePlaced names place m files (Err e)) same not)
-  one_read place word f e (inl (model, ok, placed)) (inr (g, no, same)) = further_read place word model g ok no
-  one_read place word f e (inr (g, no, same)) also = cc
+  one_read place word f e (inl (model, ok, placed)) (inr (g, refused, same)) = further_read place word model g ok refused
+  one_read place word f e (inr (g, refused, same)) also = cc
 
   all_read : (place : ℕ) (words : List (List ℕ)) (fs : List Further) (e : Refusal) → ReadsFurther names place words files (Ok fs) → ReadsFurther names place words files (Err e) → ⊥
-  all_read place [] fs e ok no = no
-  all_read place (word ∷ words) fs e (inl (f, one, inl (rest, more, is))) (inl (g, also, inl (others, even, no))) = no
-  all_read place (word ∷ words) fs e (inl (f, one, inl (rest, more, is))) (inl (g, also, inr (h, no, same))) = all_read (suc place) words rest h more no
-  all_read place (word ∷ words) fs e (inl (f, one, inl (rest, more, is))) (inr (h, no, same)) = one_read place word f h one no
-  all_read place (word ∷ words) fs e (inl (f, one, inr (h, no, same))) also = cc
-  all_read place (word ∷ words) fs e (inr (h, no, same)) also = cc
+  all_read place [] fs e ok refused = refused
+  all_read place (word ∷ words) fs e (inl (f, one, inl (rest, more, is))) (inl (g, also, inl (others, even, refused))) = refused
+  all_read place (word ∷ words) fs e (inl (f, one, inl (rest, more, is))) (inl (g, also, inr (h, refused, same))) = all_read (suc place) words rest h more refused
+  all_read place (word ∷ words) fs e (inl (f, one, inl (rest, more, is))) (inr (h, refused, same)) = one_read place word f h one refused
+  all_read place (word ∷ words) fs e (inl (f, one, inr (h, refused, same))) also = cc
+  all_read place (word ∷ words) fs e (inr (h, refused, same)) also = cc
 
 -- each output of a netlist that was written has a cover
 covered : (settings : Settings) (cells : List CellParts) (model : Parsed) (further : List Further) (text : List ℕ) → (is : IsRecoveredText settings cells model further text) → (place : ℕ) (output : NetId) → slice_get model.network.outputs place ≡ Some output → IsUncoveredIn settings cells model.network is.space model.starts output → ⊥
@@ -137,20 +138,22 @@ module _ (task : Task) (files : Files) (read : AreRead task files) where
   no_network (Network fault) r = let no : ◌≡◌ {A = Result Parsed FileFault} (Err fault) (Ok read.model) = model_one task.network files (Err fault) (Ok read.model) r read.network_is in cc
   no_network other r = r
 
+  model_is : (model : Parsed) → ReadsModel task.network files (Ok model) → model ≡ read.model
+  model_is model two =
+      let is : ◌≡◌ {A = Result Parsed FileFault} (Ok model) (Ok read.model) = model_one task.network files (Ok model) (Ok read.model) two read.network_is in
+      cc
+
+  no_further : (model : Parsed) → ReadsModel task.network files (Ok model) → (e : Refusal) → ReadsFurther (input_names model.network) 0 task.more files (Err e) → ⊥
+  no_further model two e refused =
+      all_read (input_names net) files 0 task.more read.further e read.further_are (subst (λ (n : Parsed). ReadsFurther (input_names n.network) 0 task.more files (Err e)) (model_is model two) refused)
+
   -- what the cells and the model come to with further networks is the answer
   recovers : (a : Result (List ℕ) Refusal) → IsTaskAnswer task files a → (further : List Further) × Recovers task.settings read.cells read.model further files a
-  recovers a (inl (xs, r, inl (m, s, inl (further, t, comes)))) =
-      let cells_are : ◌≡◌ {A = Result (List CellParts) FileFault} (Ok xs) (Ok read.cells) = library_one task.library files (Ok xs) (Ok read.cells) r read.library_is in
-      let model_is : ◌≡◌ {A = Result Parsed FileFault} (Ok m) (Ok read.model) = model_one task.network files (Ok m) (Ok read.model) s read.network_is in
-      let one : xs ≡ read.cells = cc in
-      let two : m ≡ read.model = cc in
-      (further, subst (λ (n : Parsed). Recovers task.settings read.cells n further files a) two (subst (λ (ys : List CellParts). Recovers task.settings ys m further files a) one comes))
-  recovers a (inl (xs, r, inl (m, s, inr (e, refused, is)))) =
-      let model_is : ◌≡◌ {A = Result Parsed FileFault} (Ok m) (Ok read.model) = model_one task.network files (Ok m) (Ok read.model) s read.network_is in
-      let two : m ≡ read.model = cc in
-      absurd (all_read (input_names net) files 0 task.more read.further e read.further_are (subst (λ (n : Parsed). ReadsFurther (input_names n.network) 0 task.more files (Err e)) two refused))
-  recovers a (inl (xs, r, inr (e, refused, is))) = absurd (no_network e refused)
-  recovers a (inr (e, refused, is)) = absurd (no_library e refused)
+  recovers a answer =
+      let m = by_last (first task) (second task) (third task) (Recovers task.settings) files a (λ e r same. no_library e r) (λ e r same. no_network e r) (λ model two e r same. no_further model two e r) answer in
+      let cells_are : ◌≡◌ {A = Result (List CellParts) FileFault} (Ok m.a) (Ok read.cells) = library_one task.library files (Ok m.a) (Ok read.cells) m.one read.library_is in
+      let one : m.a ≡ read.cells = cc in
+      (m.c, subst (λ (n : Parsed). Recovers task.settings read.cells n m.c files a) (model_is m.b m.two) (subst (λ (ys : List CellParts). Recovers task.settings ys m.b m.c files a) one m.comes))
 
   abbrev HasLack : Space → Type 0
   HasLack space = (root : NetId) × Contains net.outputs root × IsUncoveredIn task.settings read.cells net space read.model.starts root

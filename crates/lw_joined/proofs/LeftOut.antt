@@ -1,7 +1,7 @@
 -- Which others are left out of a union, and the limits that they pass.
 use Rattle.std.proofs.Common.{ℕ, zero, suc, ◌+◌, ◌<◌, ◌≤◌, ◌≡◌, ◌≢◌, ◌⊎◌, inl, inr, Bool, true, false, List, [], ◌∷◌, ◌++◌, length, take, replicate, Option, Some, None, Result, Ok, Err, IfOk, slice_get, refl, ap, sym, ◌∙◌, subst, subst₂, arith}
 use Rattle.std.proofs.lemmas.List.{length-take-le, take-append-le, take_all}
-use Rattle.std.proofs.lemmas.Option.{slice_get_within}
+use Rattle.std.proofs.lemmas.Option.{none-some, slice_get_within}
 use Rattle.lw_facts.proofs.Lists.{get_last, get_last_cases, get_left}
 use Rattle.lw_pool.specs.Numbers.{most_signals}
 use Rattle.lw_laws.specs.Networks as laws
@@ -80,18 +80,15 @@ first_fault o kept Splits (few, many) other = (
 -- Those that are left out.
 
 pub none_left : (o : Offer) (n : ℕ) → LeavesOut o (replicate n true) []
-none_left o n = record { all = λ place at. not_false n place at; each = λ k l at. none_at k l at }
+none_left o n = record {
+  all = λ place at. absurd (not_false n place at);
+  each = λ k l at. absurd (none-some l at);
+}
   where
-    not_false : (n place : ℕ) → slice_get (replicate n true) place ≡ Some false → (k : ℕ) × (l : Left) × (slice_get ([] {A = Left}) k ≡ Some l) × (l.place ≡ place)
+    not_false : (n place : ℕ) → slice_get (replicate n true) place ≡ Some false → ⊥
     not_false zero place at = cc
     not_false (suc n) zero at = cc
-    not_false (suc n) (suc place) at = let (k, l, e, same) = not_false n place at in (k, l, e, absurd (nothing k l e))
-      where
-        nothing : (k : ℕ) (l : Left) → slice_get ([] {A = Left}) k ≡ Some l → ⊥
-        nothing k l e = cc
-
-    none_at : (k : ℕ) (l : Left) → slice_get ([] {A = Left}) k ≡ Some l → (slice_get (replicate n true) l.place ≡ Some false) × IsPast (plain_options o.options) (union_in o (tried_at l.place (replicate n true))) l.limit
-    none_at k l at = cc
+    not_false (suc n) (suc place) at = not_false n place at
 
 -- what was told before is still so
 told_before : (o : Offer) (taken : List Bool) (b : Bool) (l : Left) → (slice_get taken l.place ≡ Some false) × IsPast (plain_options o.options) (union_in o (tried_at l.place taken)) l.limit → (slice_get (taken ++ b ∷ []) l.place ≡ Some false) × IsPast (plain_options o.options) (union_in o (tried_at l.place (taken ++ b ∷ []))) l.limit

@@ -99,7 +99,7 @@ few_listed options net within = subst (λ n. n ≤ most_splits) (sym (network_sp
 
 pub no_limit : (fault : GraphFault) (count : ℕ) → fault ≡ graph_fault.Limit → (◌≡◌ {A = Result Graph GraphFault} (Err fault) (Err graph_fault.Limit)) ↔ (most_splits < count) → count ≤ most_splits → ⊥
 no_limit fault count same is few =
-    let many = is.0 (ap (λ (f : GraphFault). Err {T = Graph} f) same) in
+    let many = is.0 (ap Err same) in
     omega (arith, many, few)
 
 -- The nets' forms are listed.
@@ -141,13 +141,13 @@ module _ (net : NetworkParts) (j : Joined) (new : NumberedForms) (kept : IsNetwo
   abbrev all : Listing
   all = joined_listing width (plain j.union) links
 
-  hold : (x : Signal) → Contains links x → IsLinkOf o x
+  pub hold : (x : Signal) → Contains links x → IsLinkOf o x
   hold = links_hold o j.union.inputs sound new linked
 
   new_are : new ≡ numbered j.union.inputs all
   new_are = forms_are o j.union.inputs sound new linked
 
-  is_graph : IsGraphOf mode net.inputs all g
+  pub is_graph : IsGraphOf mode net.inputs all g
   is_graph =
       let all_sound = links_sound j.union.inputs o links sound hold in
       let long : length new.bases ≡ length all.bases = ap (λ (f : NumberedForms). length f.bases) new_are ∙ length-map all.bases (numbered_base all.bases) in
@@ -167,7 +167,7 @@ module _ (net : NetworkParts) (j : Joined) (new : NumberedForms) (kept : IsNetwo
       ap (λ (f : NumberedForms). root_of f g s) new_are
       ∙ ap (class_of g) (at ∙ ap (number o.bases) (sym same ∙ has_the_forms (plain net) (plain j.union) begins width s.0 own))
 
-  roots_in : (outputs : List NetId) → AllByRecursion (λ (s : NetId). s.0 < length net.names) outputs → map (root_of new g) outputs ≡ form_classes all (own_form width (plain net)) g (map (output_port net) outputs)
+  pub roots_in : (outputs : List NetId) → AllByRecursion (λ (s : NetId). s.0 < length net.names) outputs → map (root_of new g) outputs ≡ form_classes all (own_form width (plain net)) g (map (output_port net) outputs)
   roots_in [] low = refl
   roots_in (s ∷ outputs) (low, rest) = ap₂ (λ (c : ℕ) (cs : List ℕ). c ∷ cs) (root_is s low) (roots_in outputs rest)
 

@@ -51,7 +51,7 @@ stays_none other net many = omega (arith, many, joined_longer net other.net.now 
 pub stays : (union : Option Union) (net : NetworkParts) (ends : List ℕ) → IsUnionOf net ends union → IsUnionOf net (ends ++ []) union
 stays union net ends is = subst (λ es. IsUnionOf net es union) (sym (append-nil ends)) is
 
-take_nil : (n : ℕ) → take n ([] {A = Other}) ≡ []
+take_nil : (n : ℕ) → ◌≡◌ {A = List Other} (take n []) []
 take_nil zero = refl
 take_nil (suc n) = refl
 

@@ -9,7 +9,7 @@ use Rattle.lw_area.proofs.mapping.joined_of.Goals as goal
 
 pub join-joined-requires : goal.join-joined-requires
 join-joined-requires c =
-    others_fit c.args.sources.now.model.network c.args.sources.now.further.items _ c.requires.further c.in_ok-others.ensures
+    rw c.deref-2.ensures.value (others_fit c.args.sources.now.model.network c.args.sources.now.further.items c.in_ok-others.others.items c.requires.further (rw c.deref.ensures.value at c.in_ok-others.ensures))
 
 pub returns-clause-joined : goal.returns-clause-joined
 returns-clause-joined c =
@@ -17,11 +17,11 @@ returns-clause-joined c =
     indexed (λ (j : Joined). IsJoinedOf (plain_settings c.args.settings) c.args.sources.now j) c.in_ok-joined.joined c.make_index.new.self c.make_index.ensures (record {
       joined = is.joined;
       options_are = ap plain_options is.options_are;
-      united = record { others = _; are = c.in_ok-others.ensures; taken = is.taken; is = is.union };
+      united = record { others = c.in_ok-others.others.items; are = rw c.deref.ensures.value at c.in_ok-others.ensures; taken = is.taken; is = rw c.deref-2.ensures.value at is.union };
       unlinked = is.unlinked;
     })
 
 pub returns-in_err-joined-clause-fault : goal.returns-in_err-joined-clause-fault
 returns-in_err-joined-clause-fault c =
-    let p = err_from_is_err_and c.from_residual.result c.from_residual.ensures.1 in
+    let p = err_from_is_err_and c.from_residual-in_err-joined.result c.from_residual-in_err-joined.ensures.1 in
     rw (p.1, p.2) c.in_err-joined.ensures.fault

@@ -1,10 +1,11 @@
-use Rattle.std.proofs.Common.{◌≡◌, ◌∙◌, ℕ, List, [], Some, Ok, length, map, slice_index_or, string_bytes, refl, subst, subst₂, arith}
+use Rattle.std.proofs.Common.{◌≡◌, ◌∙◌, ℕ, List, [], Some, Ok, length, map, slice_index_or, string_bytes, refl, sym, subst, subst₂, arith}
 use Rattle.std.proofs.lemmas.List.{length-map, length-take-le}
 use Rattle.std.proofs.lemmas.Result.{err_from_is_err_and}
 use Rattle.lw_io.specs.Files.{bytes_of}
 use Rattle.lw_net.specs.Networks.{input_names}
 use Rattle.lw_area.specs.Sources.{IsFurtherTo, ReadsFurther, ReadsOne}
-use Rattle.lw_area.proofs.Further.{all_more, all_read, none_read, one_read, one_refused, word_first}
+use Rattle.lw_area.specs.declared.sources.Further.{Further}
+use Rattle.lw_area.proofs.Further.{AreRead, all_more, all_read, none_read, one_read, one_refused, word_first}
 use Rattle.lw_area.proofs.Steps.{moved}
 use Rattle.lw_area.proofs.sources.read_all.Goals as goal
 
@@ -13,7 +14,7 @@ files-init g c = record {
   files = refl;
   later = omega arith;
   fit = λ k d lt. absurd (omega arith);
-  read = λ files known. none_read (input_names c.args.network.now) (map string_bytes c.args.names.now) (bytes_of files);
+  read = λ files known. subst (λ (fs : List Further). AreRead (input_names c.args.network.now) (map string_bytes c.args.names.now) 0 fs (bytes_of files)) (sym c.new-further.ensures.items) (none_read (input_names c.args.network.now) (map string_bytes c.args.names.now) (bytes_of files));
 }
 
 pub files-preserved : goal.files-preserved

@@ -7,17 +7,17 @@ use Rattle.lw_joined.proofs.choices.join.Goals as goal
 
 pub graph_of-requires-clause-begins : goal.graph_of-requires-clause-begins
 graph_of-requires-clause-begins c =
-    let t = c.in_ok-take.ensures.taken in
+    let t = c.in_ok-listed.ensures.taken in
     subst (λ (n : NetworkParts). BeginsWith (plain c.args.net.now) (plain n)) (sym t.1.listed.union) (begins_united c.args.net.now c.args.others.now t.0 c.inputs.ensures.kept)
 
 pub graph_of-requires-clause-listed : goal.graph_of-requires-clause-listed
 graph_of-requires-clause-listed c =
-    let t = c.in_ok-take.ensures.taken in
-    listed_itself c.args.options (united c.args.net.now c.args.others.now t.0) (ends_of c.args.net.now c.args.others.now t.0) c.in_ok-take.field-0.listed t.1.listed
+    let t = c.in_ok-listed.ensures.taken in
+    listed_itself c.args.options (united c.args.net.now c.args.others.now t.0) (ends_of c.args.net.now c.args.others.now t.0) _ t.1.listed
 
 pub returns-clause-joined : goal.returns-clause-joined
 returns-clause-joined c =
-    let t = c.in_ok-take.ensures.taken in
+    let t = c.in_ok-listed.ensures.taken in
     let is = c.in_ok-graph_of.ensures in
     record {
       joined = is.joined;

@@ -13,7 +13,7 @@ returns-in-Within-clause-taken c =
       all,
       record {
         one_each = length-replicate (length o.others.now) true;
-        listed = subst (λ (ts : List Bool). ListsTaken o ts c.in-Within.listed) same (rw c.in-Within.is at c.in_ok-list.ensures);
+        listed = subst (λ (ts : List Bool). ListsTaken o ts c.in-Within.listed) same (rw c.in-Within.is at c.in_ok-listed.ensures);
         left_out = subst (λ (ls : List Left). LeavesOut o all ls) (sym c.new-left.ensures.items) (none_left o (length o.others.now));
       },
     )
