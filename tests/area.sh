@@ -113,13 +113,13 @@ pairs_that_the_limit_leaves_open_are_not_linked() {
             return nodes[1]
         }
         BEGIN {
-            for (p = 1; p <= 9; p++) for (h = 1; h <= 8; h++) names = names " p" p "h" h
+            for (p = 1; p <= 10; p++) for (h = 1; h <= 9; h++) names = names " p" p "h" h
             print ".model m\n.inputs a" names "\n.outputs f"
-            for (p = 1; p <= 9; p++) {
-                fan = ""; for (h = 1; h <= 8; h++) fan = fan " p" p "h" h
-                print ".names" fan " some" p "\n00000000 0"; nodes[++n] = "some" p
+            for (p = 1; p <= 10; p++) {
+                fan = ""; for (h = 1; h <= 9; h++) fan = fan " p" p "h" h
+                print ".names" fan " some" p "\n000000000 0"; nodes[++n] = "some" p
             }
-            for (h = 1; h <= 8; h++) for (p = 1; p <= 9; p++) for (q = p + 1; q <= 9; q++) {
+            for (h = 1; h <= 9; h++) for (p = 1; p <= 10; p++) for (q = p + 1; q <= 10; q++) {
                 print ".names p" p "h" h " p" q "h" h " one" h "." p "." q "\n11 0"; nodes[++n] = "one" h "." p "." q
             }
             print ".names a " all(nodes, n) " f\n10 1\n01 1\n.end"
