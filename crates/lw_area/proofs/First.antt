@@ -1,5 +1,5 @@
 -- The netlist of the chosen matches, by the least times of its outputs.
-use Rattle.std.proofs.Common.{◌≡◌, ◌≤◌, ◌<◌, ◌+◌, ◌*◌, ◌^◌, ℕ, All, List, [], ◌∷◌, Option, Some, length, map, slice_get, slice_index_or, refl, ap, ap₂, sym, ◌∙◌, subst, arith, mul-le-mul_right}
+use Rattle.std.proofs.Common.{◌≡◌, ◌≤◌, ◌<◌, ◌+◌, ◌*◌, ℕ, All, List, [], ◌∷◌, Option, Some, length, map, slice_get, slice_index_or, refl, ap, ap₂, sym, subst, arith, mul-le-mul_right}
 use Rattle.std.specs.List.{AllZip}
 use Rattle.std.proofs.lemmas.List.{length-map}
 use Rattle.lw_fixed.specs.declared.micro.Micro.{Micro}

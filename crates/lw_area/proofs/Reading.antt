@@ -1,7 +1,6 @@
 -- The library, the network and further networks that are read.
-use Rattle.std.proofs.Common.{◌≡◌, inl, ℕ, ◌≤◌, List, Option, Result, Ok, Err, refl, sym, subst, arith}
+use Rattle.std.proofs.Common.{◌≡◌, inl, ℕ, ◌≤◌, List, Option, Ok, Err, refl}
 use Rattle.lw_io.specs.declared.file.File.{File}
-use Rattle.lw_io.specs.Files.{bytes_of}
 use Rattle.lw_files.specs.declared.fault.FileFault.{FileFault}
 use Rattle.lw_files.specs.Reading as file
 use Rattle.lw_files.specs.Sources.{ReadsLibrary, ReadsModel}
@@ -13,7 +12,7 @@ use Rattle.lw_area.specs.declared.refusal.Refusal.{Refusal}
 use Rattle.lw_area.specs.declared.refusal.Refusal.TheVariants.{Library, Network}
 use Rattle.lw_area.specs.declared.sources.Further.{Further}
 use Rattle.lw_area.specs.declared.sources.Sources.{Sources}
-use Rattle.lw_area.specs.Sources.{AreSourcesOf, ComesTo, HasReason, IsSourcesOf, ReadsFurther, Step, in_library, in_network}
+use Rattle.lw_area.specs.Sources.{AreSourcesOf, HasReason, IsSourcesOf, ReadsFurther, Step, in_library, in_network}
 use Rattle.lw_area.specs.Words.{Task}
 use Rattle.lw_area.proofs.Steps.{library_reason, network_reason, stops, then_comes}
 

@@ -1,12 +1,11 @@
 -- What a run comes to.
-use Rattle.std.specs.Prelude.{◌≡◌, ◌≤◌, ⊤, ℕ, Bool, List, [], Option, Result, Ok, Err, IfOk, codes}
+use Rattle.std.specs.Prelude.{◌≡◌, ◌≤◌, ℕ, Bool, List, [], Option, Result, Ok, Err, IfOk, codes}
 use Rattle.lw_io.specs.declared.file.File.{File}
 use Rattle.lw_genlib.specs.Cells.{CellParts}
 use Rattle.lw_blif.specs.declared.parsed.Parsed.{Parsed}
 use Rattle.lw_netlist.specs.Plain.{IsOver}
 use Rattle.lw_mapped.specs.Texts.{HasGateClasses, IsFramed, mapped_text}
 use Rattle.lw_files.specs.Reading.{Known}
-use Rattle.lw_check.specs.declared.verdict.Reason.{Reason}
 use Rattle.lw_check.specs.declared.verdict.Verdict.TheVariants as verdict
 use Rattle.lw_map.specs.declared.fault.MapFault.{MapFault}
 use Rattle.lw_map.specs.declared.mapping.CertifiedNetlist.{CertifiedNetlist}

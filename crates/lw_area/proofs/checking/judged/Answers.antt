@@ -1,5 +1,4 @@
 use Rattle.lw_area.specs.Plain.{plain_settings}
-use Rattle.lw_area.proofs.Made.{indexed}
 use Rattle.lw_area.proofs.Judging.{verdict_in}
 use Rattle.lw_area.proofs.checking.judged.Goals as goal
 

@@ -1,4 +1,4 @@
-use Rattle.std.proofs.Common.{inl, refl, ◌∙◌, arith}
+use Rattle.std.proofs.Common.{inl, refl}
 use Rattle.lw_files.specs.Sources.{ReadsModel}
 use Rattle.lw_area.specs.declared.refusal.Refusal.TheVariants.{Further}
 use Rattle.lw_area.specs.Sources.{ArePlaced, in_further}
