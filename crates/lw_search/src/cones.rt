@@ -9,8 +9,9 @@ pub(crate) struct Cones {
     stamps: Vec<u32>,
     query: u32,
     nodes: Vec<u32>,
-    // How many of the nodes the query stops at, which come first.
+    // How many of the nodes the query stops at, which come first, and from where on it stops again.
     stops: usize,
+    end: usize,
     // By node of the query: where the conjunctions begin and end that it goes to.
     first: Vec<u32>,
     last: Vec<u32>,
@@ -24,6 +25,7 @@ impl Cones {
             query: 0,
             nodes: Vec::new(alloc),
             stops: 0,
+            end: 0,
             first: Vec::new(alloc),
             last: Vec::new(alloc),
             outs: Vec::new(alloc),
@@ -57,12 +59,18 @@ impl Cones {
         self.outs.get(first..last).unwrap_or(&[])
     }
 
-    // Takes the cones of both roots, down to some nodes.
+    // Whether the query stops at nodes because there were too many.
+    pub(crate) fn is_cut(&self) -> bool {
+        self.end < self.nodes.len()
+    }
+
+    // Takes the cones of both roots, down to some nodes, and goes below the first so many alone.
     pub(crate) fn enter(
         &mut self,
         gates: &[Gate],
         roots: [u32; 2],
         stops: &[u32],
+        most: usize,
     ) -> Result<(), AllocError> {
         if self.stamps.len() < gates.len() {
             self.stamps.resize(gates.len(), 0)?;
@@ -74,7 +82,8 @@ impl Cones {
         self.stop_at(stops)?;
         self.reach(roots[0], 0)?;
         self.reach(roots[1], 0)?;
-        let sides = self.collect(gates)?;
+        let sides = self.collect(gates, most)?;
+        self.cut();
         self.share();
         if self.outs.len() < sides {
             self.outs.resize(sides, 0)?;
@@ -106,10 +115,12 @@ impl Cones {
         Ok(())
     }
 
-    // Takes all nodes below those that were taken: how many sides they have.
-    fn collect(&mut self, gates: &[Gate]) -> Result<usize, AllocError> {
+    // Takes all nodes below those that were taken, or below the first so many: how many sides they
+    // have.
+    fn collect(&mut self, gates: &[Gate], most: usize) -> Result<usize, AllocError> {
         let mut sides = 0usize;
-        for place in self.stops..gates.len() {
+        self.end = gates.len().min(self.stops.saturating_add(most));
+        for place in self.stops..self.end {
             let Some(node) = self.nodes.get(place).copied() else {
                 break;
             };
@@ -120,6 +131,14 @@ impl Cones {
             }
         }
         Ok(sides)
+    }
+
+    // Stops at the nodes below which none were taken.
+    fn cut(&mut self) {
+        let stamp = self.query.wrapping_mul(2).wrapping_add(1);
+        for node in self.nodes.get(self.end..).unwrap_or(&[]) {
+            set(&mut self.stamps, *node, stamp);
+        }
     }
 
     // Turns counts into places, one node after the other.
@@ -135,7 +154,8 @@ impl Cones {
 
     // Writes the conjunctions at their places.
     fn fill(&mut self, gates: &[Gate]) {
-        for node in self.nodes.get(self.stops..).unwrap_or(&[]) {
+        let end = self.end.min(self.nodes.len());
+        for node in self.nodes.get(self.stops..end).unwrap_or(&[]) {
             if let Some(Gate::And(a, b)) = gates.get(*node as usize) {
                 for side in [*a, *b] {
                     let place = at(&self.last, side.node());

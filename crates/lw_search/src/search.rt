@@ -17,6 +17,13 @@ use std::marker::Model;
 // How many literals the clauses have at most when a query begins.
 const MOST_LITERALS: usize = 100_000;
 
+// Below how many nodes a query goes down at first, and then, and how many conflicts it may have there.
+const NEAR: usize = 64;
+
+const FARTHER: usize = 1024;
+
+const FEW_TRIES: u32 = 30;
+
 /// A search over an and-inverter graph. Its clauses live from query to query.
 #[derive(Debug, Drop)]
 pub struct Search {
@@ -117,7 +124,47 @@ impl Search {
         if spent {
             return Ok(Found::Open);
         }
-        self.enter(alloc, left, right, stops)?;
+        let near = self.compare_within(alloc, left, right, stops, NEAR, tries)?;
+        if near == Found::Equal || !self.cones.is_cut() {
+            return Ok(near);
+        }
+        let farther = self.compare_within(alloc, left, right, stops, FARTHER, tries)?;
+        if farther == Found::Equal || !self.cones.is_cut() {
+            return Ok(farther);
+        }
+        self.compare_within(alloc, left, right, stops, usize::MAX, tries)
+    }
+
+    // The same, where the search goes below so many nodes alone. If there are more, it takes the
+    // others to be free, and has few conflicts.
+    fn compare_within(
+        &mut self,
+        alloc: Global,
+        left: Literal,
+        right: Literal,
+        stops: &[u32],
+        most: usize,
+        tries: u32,
+    ) -> Result<Found, AllocError>
+        ensures kept { self.new ≡ self.old }
+        ensures told { IfOk result (Tells self.old left right) }
+    {
+        self.enter(alloc, left, right, stops, most)?;
+        let cut = self.cones.is_cut();
+        let tries = if cut { tries.min(FEW_TRIES) } else { tries };
+        self.compare_both(left, right, tries)
+    }
+
+    // The same in the cones of a query.
+    fn compare_both(
+        &mut self,
+        left: Literal,
+        right: Literal,
+        tries: u32,
+    ) -> Result<Found, AllocError>
+        ensures kept { self.new ≡ self.old }
+        ensures told { IfOk result (Tells self.old left right) }
+    {
         let there = self.run(&[left, right.flip()], tries)?;
         let Found::Equal = there else {
             return Ok(there);
@@ -133,6 +180,7 @@ impl Search {
         left: Literal,
         right: Literal,
         stops: &[u32],
+        most: usize,
     ) -> Result<(), AllocError>
         ensures { self.new ≡ self.old }
     {
@@ -146,7 +194,8 @@ impl Search {
             self.watches.renew(&self.clauses)?;
         }
         let roots = [left.node(), right.node()];
-        self.cones.enter(self.clauses.aig().gates(), roots, stops)
+        let gates = self.clauses.aig().gates();
+        self.cones.enter(gates, roots, stops, most)
     }
 
     // Begins a search: what is known without an assignment.
