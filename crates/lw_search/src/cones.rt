@@ -12,6 +12,8 @@ pub(crate) struct Cones {
     // How many of the nodes the query stops at, which come first, and from where on it stops again.
     stops: usize,
     end: usize,
+    // Whether there are conjunctions among those.
+    is_cut: bool,
     // By node of the query: where the conjunctions begin and end that it goes to.
     first: Vec<u32>,
     last: Vec<u32>,
@@ -26,6 +28,7 @@ impl Cones {
             nodes: Vec::new(alloc),
             stops: 0,
             end: 0,
+            is_cut: false,
             first: Vec::new(alloc),
             last: Vec::new(alloc),
             outs: Vec::new(alloc),
@@ -59,9 +62,9 @@ impl Cones {
         self.outs.get(first..last).unwrap_or(&[])
     }
 
-    // Whether the query stops at nodes because there were too many.
+    // Whether the query stops at conjunctions because there were too many nodes.
     pub(crate) fn is_cut(&self) -> bool {
-        self.end < self.nodes.len()
+        self.is_cut
     }
 
     // Takes the cones of both roots, down to some nodes, and goes below the first so many alone.
@@ -83,7 +86,7 @@ impl Cones {
         self.reach(roots[0], 0)?;
         self.reach(roots[1], 0)?;
         let sides = self.collect(gates, most)?;
-        self.cut();
+        self.cut(gates);
         self.share();
         if self.outs.len() < sides {
             self.outs.resize(sides, 0)?;
@@ -134,10 +137,14 @@ impl Cones {
     }
 
     // Stops at the nodes below which none were taken.
-    fn cut(&mut self) {
+    fn cut(&mut self, gates: &[Gate]) {
         let stamp = self.query.wrapping_mul(2).wrapping_add(1);
+        self.is_cut = false;
         for node in self.nodes.get(self.end..).unwrap_or(&[]) {
             set(&mut self.stamps, *node, stamp);
+            if let Some(Gate::And(_, _)) = gates.get(*node as usize) {
+                self.is_cut = true;
+            }
         }
     }
 

@@ -41,17 +41,30 @@ pub(crate) fn pick(trail: &Trail, cones: &Cones, gates: &[Gate]) -> Option<Liter
     picked
 }
 
+// Makes the literal of a clause of one literal true.
+fn put_unit(trail: &mut Trail, clauses: &Clauses, cones: &Cones, number: u32) {
+    let clause = clauses.clause(number).unwrap_or(&[]);
+    if let Some(literal) = clause.first() {
+        if cones.has(literal.node()) {
+            trail.put(*literal, Cause::Clause(number));
+        }
+    }
+}
+
 // Makes true what is known without an assignment: the complement of the constant, and the clauses
-// of one literal.
+// of one literal. It looks at these, or at the nodes of the query where they are fewer.
 pub(crate) fn begin(trail: &mut Trail, watches: &Watches, cones: &Cones, clauses: &Clauses) {
     trail.clear();
     trail.put(Literal(1), Cause::Zero(0));
-    for number in watches.units() {
-        let clause = clauses.clause(*number).unwrap_or(&[]);
-        if let Some(literal) = clause.first() {
-            if cones.has(literal.node()) {
-                trail.put(*literal, Cause::Clause(*number));
-            }
+    if watches.units().len() <= cones.nodes().len() {
+        for number in watches.units() {
+            put_unit(trail, clauses, cones, *number);
+        }
+        return;
+    }
+    for node in cones.nodes() {
+        if let Some(number) = watches.unit(*node) {
+            put_unit(trail, clauses, cones, number);
         }
     }
 }

@@ -17,12 +17,26 @@ use std::marker::Model;
 // How many literals the clauses have at most when a query begins.
 const MOST_LITERALS: usize = 100_000;
 
-// Below how many nodes a query goes down at first, and then, and how many conflicts it may have there.
+// Below how many nodes a comparison goes at first, and then, and how many conflicts it may have
+// there.
 const NEAR: usize = 64;
 
-const FARTHER: usize = 1024;
+const FARTHER: usize = 512;
+
+// In how small a graph a comparison goes to all nodes at once, or before the farther ones.
+const SMALL: usize = 2048;
+
+const MIDDLING: usize = 4096;
 
 const FEW_TRIES: u32 = 30;
+
+// How many nodes comparisons may go to that do not find equality: so many, and so many more for
+// each conjunction. Where fewer are left than these, they go to the near ones alone.
+const FIRST_ROOM: u64 = 16_000_000;
+
+const MORE_ROOM: u64 = 128;
+
+const LEAST_ROOM: u64 = 65_536;
 
 /// A search over an and-inverter graph. Its clauses live from query to query.
 #[derive(Debug, Drop)]
@@ -32,6 +46,8 @@ pub struct Search {
     watches: Watches,
     cones: Cones,
     lesson: Lesson,
+    // How many more nodes comparisons may go to.
+    room: u64,
     // Conflicts so far, how many more this search may have, and how many more values all searches
     // may spread.
     conflicts: u64,
@@ -63,6 +79,7 @@ impl Search {
             watches: Watches::new(alloc),
             cones: Cones::new(alloc),
             lesson: Lesson::new(alloc),
+            room: FIRST_ROOM,
             conflicts: 0,
             tries: 0,
             steps,
@@ -103,12 +120,14 @@ impl Search {
         ensures ok { IfOk result (λ _. self.new ≡ self.old ++ And left right ∷ []) }
         ensures err { OnErr result (self.new ≡ self.old) }
     {
+        self.room = self.room.saturating_add(MORE_ROOM);
         self.clauses.push_and(alloc, left, right)
     }
 
     /// Whether two literals have one value under every assignment, with so many conflicts both ways
     /// at most. The search goes down to the nodes `stops` alone, which it takes to be free. After
-    /// `Apart` it has values, of inputs too, that may tell the literals apart.
+    /// `Apart` it has values, of inputs too, that may tell the literals apart. A comparison is left
+    /// open where those that did not find equality went to many nodes for each conjunction.
     pub fn compare(
         &mut self,
         alloc: Global,
@@ -120,19 +139,99 @@ impl Search {
         ensures kept { self.new ≡ self.old }
         ensures told { IfOk result (Tells self.old left right) }
     {
-        let spent = self.steps == 0;
-        if spent {
+        if self.steps == 0 || self.room == 0 {
             return Ok(Found::Open);
         }
-        let near = self.compare_within(alloc, left, right, stops, NEAR, tries)?;
+        let near = self.compare_near(alloc, left, right, stops, tries)?;
+        if near == Found::Equal {
+            return Ok(near);
+        }
+        self.spend(near);
+        if !self.cones.is_cut() {
+            return Ok(near);
+        }
+        if self.room < LEAST_ROOM {
+            return Ok(Found::Open);
+        }
+        let found = self.compare_on(alloc, left, right, stops, tries)?;
+        if found != Found::Equal {
+            self.spend(found);
+        }
+        Ok(found)
+    }
+
+    /// The same, however many nodes other comparisons went to.
+    pub fn decide(
+        &mut self,
+        alloc: Global,
+        left: Literal,
+        right: Literal,
+        stops: &[u32],
+        tries: u32,
+    ) -> Result<Found, AllocError>
+        ensures kept { self.new ≡ self.old }
+        ensures told { IfOk result (Tells self.old left right) }
+    {
+        if self.steps == 0 {
+            return Ok(Found::Open);
+        }
+        let near = self.compare_near(alloc, left, right, stops, tries)?;
         if near == Found::Equal || !self.cones.is_cut() {
             return Ok(near);
         }
-        let farther = self.compare_within(alloc, left, right, stops, FARTHER, tries)?;
-        if farther == Found::Equal || !self.cones.is_cut() {
-            return Ok(farther);
+        self.compare_on(alloc, left, right, stops, tries)
+    }
+
+    // The same above the near nodes, or above all of a small graph.
+    fn compare_near(
+        &mut self,
+        alloc: Global,
+        left: Literal,
+        right: Literal,
+        stops: &[u32],
+        tries: u32,
+    ) -> Result<Found, AllocError>
+        ensures kept { self.new ≡ self.old }
+        ensures told { IfOk result (Tells self.old left right) }
+    {
+        let small = self.clauses.aig().gates().len() < SMALL;
+        let most = if small { usize::MAX } else { NEAR };
+        self.compare_within(alloc, left, right, stops, most, tries)
+    }
+
+    // The same above more nodes, and then above all.
+    fn compare_on(
+        &mut self,
+        alloc: Global,
+        left: Literal,
+        right: Literal,
+        stops: &[u32],
+        tries: u32,
+    ) -> Result<Found, AllocError>
+        ensures kept { self.new ≡ self.old }
+        ensures told { IfOk result (Tells self.old left right) }
+    {
+        if self.clauses.aig().gates().len() >= MIDDLING {
+            let farther = self.compare_within(alloc, left, right, stops, FARTHER, tries)?;
+            if farther == Found::Equal || !self.cones.is_cut() {
+                return Ok(farther);
+            }
         }
         self.compare_within(alloc, left, right, stops, usize::MAX, tries)
+    }
+
+    // Takes from the room what a comparison went to, and what a pattern over all nodes takes.
+    fn spend(&mut self, found: Found)
+        ensures { self.new ≡ self.old }
+    {
+        let nodes = self.cones.nodes().len() as u64;
+        let all = self.clauses.aig().gates().len() as u64;
+        let more = if found == Found::Apart && !self.cones.is_cut() {
+            all / 4
+        } else {
+            0
+        };
+        self.room = self.room.saturating_sub(nodes.saturating_add(more));
     }
 
     // The same, where the search goes below so many nodes alone. If there are more, it takes the

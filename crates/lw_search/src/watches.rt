@@ -14,8 +14,9 @@ pub(crate) struct Watches {
     heads: Vec<u32>,
     links: Vec<u32>,
     places: Vec<u32>,
-    // The clauses of one literal.
+    // The clauses of one literal, and by node the last one of it.
     units: Vec<u32>,
+    of_node: Vec<u32>,
 }
 
 impl Watches {
@@ -25,6 +26,7 @@ impl Watches {
             links: Vec::new(alloc),
             places: Vec::new(alloc),
             units: Vec::new(alloc),
+            of_node: Vec::new(alloc),
         }
     }
 
@@ -32,12 +34,19 @@ impl Watches {
     pub(crate) fn fit(&mut self, nodes: usize) -> Result<(), AllocError> {
         if self.heads.len() / 2 < nodes {
             self.heads.resize(nodes.saturating_mul(2), NONE)?;
+            self.of_node.resize(nodes, NONE)?;
         }
         Ok(())
     }
 
     pub(crate) fn units(&self) -> &[u32] {
         &self.units
+    }
+
+    // The clause of one literal of a node.
+    pub(crate) fn unit(&self, node: u32) -> Option<u32> {
+        let number = self.of_node.get(node as usize).copied()?;
+        if number == NONE { None } else { Some(number) }
     }
 
     // How many watches there are.
@@ -93,6 +102,9 @@ impl Watches {
             }
         }
         if clause.len() == 1 {
+            if let Some(literal) = clause.first() {
+                set(&mut self.of_node, literal.node(), number);
+            }
             self.units.push(number)?;
         }
         Ok(())
@@ -102,6 +114,9 @@ impl Watches {
     pub(crate) fn renew(&mut self, clauses: &Clauses) -> Result<(), AllocError> {
         for head in self.heads.iter_mut() {
             *head = NONE;
+        }
+        for unit in self.of_node.iter_mut() {
+            *unit = NONE;
         }
         self.links.clear();
         self.places.clear();

@@ -11,8 +11,8 @@ pub(crate) const BASE: usize = 32;
 // is written over.
 const FURTHER: usize = 96;
 
-// How many times at least a rare value is halved.
-const FEW_HALVES: u32 = 5;
+// How many numbers the further words have at most, those of all nodes.
+const MOST_NUMBERS: usize = 8_388_608;
 
 #[derive(Debug, Drop)]
 pub(crate) struct Patterns {
@@ -21,8 +21,6 @@ pub(crate) struct Patterns {
     // The further words, each by node.
     further: Vec<Words>,
     oldest: usize,
-    // How many times a rare value is halved at most: one is once in as many as there are inputs.
-    most: u32,
     random: Random,
 }
 
@@ -55,29 +53,13 @@ fn place(node: u32, word: usize) -> usize {
     (node as usize).wrapping_mul(BASE).wrapping_add(word)
 }
 
-// How many times a value is halved in the first, second, third or fourth of four kinds.
-fn halves(kind: u32, most: u32) -> u32 {
-    FEW_HALVES.wrapping_add(most.saturating_sub(FEW_HALVES).wrapping_mul(kind & 3) / 3)
-}
-
-// From which word on one value of an input is the rarer the more inputs there are.
-const RARE: usize = 24;
-
-// A word in which a value is true once in two to so many.
-fn rare(random: &mut Random, halves: u32) -> u64 {
-    let mut word = random.next();
-    for _ in 1..halves {
-        word &= random.next();
-    }
-    word
+// How many further words there may be for so many nodes.
+fn most_further(nodes: usize) -> usize {
+    FURTHER.min(MOST_NUMBERS / nodes.max(1))
 }
 
 // What an input has in a word: each value as often as the other, or one of them rarely.
-fn input_word(random: &mut Random, kind: usize, most: u32) -> u64 {
-    if most > FEW_HALVES && kind >= RARE {
-        let few = rare(random, halves(kind as u32 % 4, most));
-        return if kind % 8 < 4 { few } else { !few };
-    }
+fn input_word(random: &mut Random, kind: usize) -> u64 {
     let (a, b, c) = (random.next(), random.next(), random.next());
     match kind % 8 {
         3 => a & b,
@@ -93,12 +75,11 @@ fn input_word(random: &mut Random, kind: usize, most: u32) -> u64 {
 }
 
 impl Patterns {
-    pub(crate) fn new(alloc: Global, inputs: u32) -> Self {
+    pub(crate) fn new(alloc: Global) -> Self {
         Patterns {
             base: Vec::new(alloc),
             further: Vec::new(alloc),
             oldest: 0,
-            most: 31u32.saturating_sub(inputs.leading_zeros()),
             random: Random::new(),
         }
     }
@@ -114,7 +95,7 @@ impl Patterns {
     // Appends an input.
     pub(crate) fn push_input(&mut self) -> Result<(), AllocError> {
         for kind in 0..BASE {
-            let word = input_word(&mut self.random, kind, self.most);
+            let word = input_word(&mut self.random, kind);
             self.base.push(word)?;
         }
         Ok(())
@@ -127,6 +108,10 @@ impl Patterns {
             let a = word(&self.base, place(left.node(), k)) ^ x;
             let b = word(&self.base, place(right.node(), k)) ^ y;
             self.base.push(a & b)?;
+        }
+        let nodes = self.base.len() / BASE;
+        if self.further.len().saturating_mul(nodes) > MOST_NUMBERS {
+            self.further.pop();
         }
         for words in self.further.iter_mut() {
             let a = word(&words.items, left.node() as usize) ^ x;
@@ -184,21 +169,11 @@ impl Patterns {
         true
     }
 
-    // A word of rare values, the last ones the rarest, and of none at first.
-    fn few(&mut self) -> u64 {
-        let mut few = 0;
-        for kind in 0..4u32 {
-            let word = rare(&mut self.random, halves(kind, self.most));
-            few |= word & 0xffff << (kind * 16);
-        }
-        few & !0xff
-    }
-
     // A further word for an input: its value in all patterns but a few, or any where it has none.
     fn further_word(&mut self, value: Option<bool>) -> u64 {
         let any = self.random.next();
         let rare = any & self.random.next() & self.random.next() & self.random.next();
-        let few = if self.most > FEW_HALVES { self.few() } else { rare & 0xffff_ffff_0000_0000 };
+        let few = rare & 0xffff_ffff_0000_0000;
         match value {
             Some(true) => !few,
             Some(false) => few,
@@ -220,13 +195,21 @@ impl Patterns {
             };
             items.push(value)?;
         }
-        if self.further.len() < FURTHER {
-            self.further.push(Words { items })?;
-        } else {
-            if let Some(words) = self.further.get_mut(self.oldest) {
-                *words = Words { items };
-            }
-            self.oldest = self.oldest.wrapping_add(1) % FURTHER;
+        self.take(Words { items }, most_further(gates.len()))
+    }
+
+    // Takes further words, in place of the oldest where there are so many.
+    fn take(&mut self, words: Words, most: usize) -> Result<(), AllocError> {
+        if self.further.len() < most {
+            self.further.push(words)?;
+            return Ok(());
+        }
+        if let Some(place) = self.further.get_mut(self.oldest) {
+            *place = words;
+        }
+        self.oldest = self.oldest.wrapping_add(1);
+        if self.oldest >= most {
+            self.oldest = 0;
         }
         Ok(())
     }

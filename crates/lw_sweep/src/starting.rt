@@ -36,7 +36,7 @@ pub(crate) fn themselves(alloc: Global, gates: &[Gate]) -> Result<Vec<Literal>, 
 
 // Patterns and classes of the constant and some inputs.
 pub(crate) fn candidates(alloc: Global, inputs: u32) -> Result<(Patterns, Classes), AllocError> {
-    let mut patterns = Patterns::new(alloc, inputs);
+    let mut patterns = Patterns::new(alloc);
     let mut classes = Classes::new(alloc)?;
     patterns.push_zero()?;
     classes.push(alloc)?;

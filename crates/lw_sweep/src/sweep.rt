@@ -120,7 +120,7 @@ impl Sweep {
         if left == right {
             return Ok(Found::Equal);
         }
-        let found = self.search.compare(alloc, left, right, &[], tries)?;
+        let found = self.search.decide(alloc, left, right, &[], tries)?;
         Ok(found)
     }
 
