@@ -139,7 +139,8 @@ impl Search {
         ensures kept { self.new ≡ self.old }
         ensures told { IfOk result (Tells self.old left right) }
     {
-        if self.steps == 0 || self.room == 0 {
+        let spent = self.steps == 0 || self.room == 0;
+        if spent {
             return Ok(Found::Open);
         }
         let near = self.compare_near(alloc, left, right, stops, tries)?;
@@ -172,7 +173,8 @@ impl Search {
         ensures kept { self.new ≡ self.old }
         ensures told { IfOk result (Tells self.old left right) }
     {
-        if self.steps == 0 {
+        let spent = self.steps == 0;
+        if spent {
             return Ok(Found::Open);
         }
         let near = self.compare_near(alloc, left, right, stops, tries)?;
