@@ -30,9 +30,9 @@ const MIDDLING: usize = 4096;
 
 const FEW_TRIES: u32 = 30;
 
-// How many nodes comparisons may go to that do not find equality: so many, and so many more for
-// each conjunction. Where fewer are left than these, they go to the near ones alone.
-const FIRST_ROOM: u64 = 16_000_000;
+// How many nodes comparisons may go to that tell literals apart: so many, and so many more for each
+// conjunction. Where fewer are left than these, they go to the near ones alone.
+const FIRST_ROOM: u64 = 4_000_000;
 
 const MORE_ROOM: u64 = 128;
 
@@ -46,7 +46,7 @@ pub struct Search {
     watches: Watches,
     cones: Cones,
     lesson: Lesson,
-    // How many more nodes comparisons may go to.
+    // How many more nodes comparisons may go to that tell literals apart.
     room: u64,
     // Conflicts so far, how many more this search may have, and how many more values all searches
     // may spread.
@@ -126,8 +126,8 @@ impl Search {
 
     /// Whether two literals have one value under every assignment, with so many conflicts both ways
     /// at most. The search goes down to the nodes `stops` alone, which it takes to be free. After
-    /// `Apart` it has values, of inputs too, that may tell the literals apart. A comparison is left
-    /// open where those that did not find equality went to many nodes for each conjunction.
+    /// `Apart` it has values, of inputs too, that may tell the literals apart. A comparison may be
+    /// left open where those that told literals apart went to many nodes for each conjunction.
     pub fn compare(
         &mut self,
         alloc: Global,
@@ -144,20 +144,15 @@ impl Search {
             return Ok(Found::Open);
         }
         let near = self.compare_near(alloc, left, right, stops, tries)?;
-        if near == Found::Equal {
-            return Ok(near);
-        }
         self.spend(near);
-        if !self.cones.is_cut() {
+        if near == Found::Equal || !self.cones.is_cut() {
             return Ok(near);
         }
         if self.room < LEAST_ROOM {
             return Ok(Found::Open);
         }
         let found = self.compare_on(alloc, left, right, stops, tries)?;
-        if found != Found::Equal {
-            self.spend(found);
-        }
+        self.spend(found);
         Ok(found)
     }
 
@@ -222,17 +217,17 @@ impl Search {
         self.compare_within(alloc, left, right, stops, usize::MAX, tries)
     }
 
-    // Takes from the room what a comparison went to, and what a pattern over all nodes takes.
+    // Takes from the room what a comparison that told literals apart went to, and what a pattern
+    // over all nodes takes then.
     fn spend(&mut self, found: Found)
         ensures { self.new ≡ self.old }
     {
+        if found != Found::Apart {
+            return;
+        }
         let nodes = self.cones.nodes().len() as u64;
         let all = self.clauses.aig().gates().len() as u64;
-        let more = if found == Found::Apart && !self.cones.is_cut() {
-            all / 4
-        } else {
-            0
-        };
+        let more = if self.cones.is_cut() { 0 } else { all / 4 };
         self.room = self.room.saturating_sub(nodes.saturating_add(more));
     }
 

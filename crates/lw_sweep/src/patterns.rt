@@ -12,7 +12,7 @@ pub(crate) const BASE: usize = 32;
 const FURTHER: usize = 96;
 
 // How many numbers the further words have at most, those of all nodes.
-const MOST_NUMBERS: usize = 8_388_608;
+const MOST_NUMBERS: usize = 4_194_304;
 
 #[derive(Debug, Drop)]
 pub(crate) struct Patterns {
