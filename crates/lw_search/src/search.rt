@@ -26,9 +26,9 @@ const FARTHER: usize = 512;
 // In how small a graph a comparison goes to all nodes at once, or before the farther ones.
 const SMALL: usize = 2048;
 
-const MIDDLING: usize = 4096;
+const MIDDLING: usize = 32_768;
 
-const FEW_TRIES: u32 = 30;
+const FEW_TRIES: u32 = 8;
 
 // How many nodes comparisons may go to that tell literals apart: so many, and so many more for each
 // conjunction. Where fewer are left than these, they go to the near ones alone.
