@@ -6,8 +6,8 @@
 //! conflict is traced back to a clause, which is taken in where it follows, and a refutation is a
 //! clause over the roots that was taken in. In large graphs a search goes to the nearest nodes
 //! first, and takes those below to be free: what it refutes there is refuted. Nothing else of the
-//! search is believed: its arrays have no invariant, each number in them is tested where it is used,
-//! and what does not fit ends a query as open.
+//! search is believed: its arrays have no invariant, each number in them is tested where it is
+//! used, and what does not fit ends a query as open.
 #![tactic(auto)]
 
 mod analysing;
