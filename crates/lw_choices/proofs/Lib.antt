@@ -1,4 +1,5 @@
 pub mod Alike
+pub mod Keeping
 pub mod Linking
 pub mod Listing
 pub mod Lists

@@ -1,12 +1,12 @@
 // A list of matches, of which those that are alike are listed once.
-ghost use Rattle.std.specs.Prelude.{◌≡◌, ◌++◌, ◌∷◌, [], IfOk, IsTrue, OnOk};
+ghost use Rattle.std.specs.Prelude.{◌≡◌, ◌≤◌, ◌++◌, ◌∷◌, [], IfOk, IsTrue, OnOk, length};
 ghost use Rattle.lw_choices.specs.PinUses.{HasLikeRow, IsLikeRow, bucket_count, plain_uses};
-ghost use Rattle.lw_choices.specs.Rows.{IsListedMore, IsNoneListed, choice_of, plain_row};
-ghost use Rattle.lw_choices.specs.Rows.{plain_rows};
+ghost use Rattle.lw_choices.specs.Rows.{IsListedMore, IsNoneListed};
+ghost use Rattle.lw_choices.specs.Stands.{choice_of, plain_row};
 
 use crate::chains::Chains;
 use crate::pin_uses::{BUCKETS, PinUse, are_same, bucket_of, delays_in, hash_of, list_uses};
-use crate::rows::{Gate, ListedChoice, Stand};
+use crate::rows::{Gate, ListedChoice, Listing, Stand};
 use lw_genlib::Library;
 use lw_pool::{CellId, ClassId};
 use std::alloc::{AllocError, Global};
@@ -17,7 +17,7 @@ pub(crate) struct Listed<'a> {
     /// The library of the cells.
     pub lib: &'a Library,
     /// The matches.
-    pub rows: Vec<ListedChoice>,
+    pub rows: Listing,
     /// The hash of each.
     pub hashes: Vec<u64>,
     /// The matches, linked by a part of their hashes.
@@ -44,7 +44,7 @@ pub(crate) fn none_listed(alloc: Global, lib: &Library) -> Result<Listed, AllocE
 {
     Ok(Listed {
         lib,
-        rows: Vec::new(alloc),
+        rows: Listing::new(alloc),
         hashes: Vec::new(alloc),
         chains: Chains::new(alloc, BUCKETS)?,
         uses: Vec::new(alloc),
@@ -54,14 +54,11 @@ pub(crate) fn none_listed(alloc: Global, lib: &Library) -> Result<Listed, AllocE
 
 /// Lists a match at a class, unless one that is alike is listed.
 pub(crate) fn add_gate(to: &mut Listed, class: ClassId, gate: Gate) -> Result<(), AllocError>
-    requires { to.old.chains.count ≡ bucket_count }
+    requires count { to.old.chains.count ≡ bucket_count }
+    requires few { length gate.pins.now ≤ 16 }
     ensures { OnOk result (IsListedMore to.old to.new (choice_of class gate)) }
 {
-    list_uses(
-        &mut to.uses,
-        delays_in(to.lib, gate.cell),
-        gate.pins.as_slice(),
-    )?;
+    list_uses(&mut to.uses, delays_in(to.lib, gate.cell), gate.pins)?;
     let hash = hash_of(class, gate.cell, &to.uses);
     let sought = Sought {
         lib: to.lib,
@@ -91,11 +88,7 @@ fn is_like(
     if row.class.0 != sought.class.0 || gate.cell.0 != sought.cell.0 {
         return Ok(false);
     }
-    list_uses(
-        others,
-        delays_in(sought.lib, gate.cell),
-        gate.pins.as_slice(),
-    )?;
+    list_uses(others, delays_in(sought.lib, gate.cell), gate.pins)?;
     Ok(are_same(sought.uses, others))
 }
 
@@ -104,11 +97,11 @@ fn has_like(
     sought: &Sought,
     chains: &Chains,
     hashes: &[u64],
-    rows: &[ListedChoice],
+    rows: &Listing,
     others: &mut Vec<PinUse>,
 ) -> Result<bool, AllocError>
     requires { chains.now.count ≡ bucket_count }
-    ensures { IfOk result (λ is. IsTrue is → HasLikeRow sought.now.lib.now (plain_rows rows.now)
+    ensures { IfOk result (λ is. IsTrue is → HasLikeRow sought.now.lib.now rows.now
         sought.now.class.0 sought.now.cell.0 (plain_uses sought.now.uses.now)) }
 {
     let mut next = chains.last(bucket_of(sought.hash));
@@ -117,7 +110,7 @@ fn has_like(
         if at < hashes.len()
             && at < rows.len()
             && hashes[at] == sought.hash
-            && is_like(sought, &rows[at], others)?
+            && is_like(sought, &rows.at(at), others)?
         {
             return Ok(true);
         }
@@ -128,15 +121,14 @@ fn has_like(
 
 // Appends a match with its hash.
 fn push_gate(to: &mut Listed, class: ClassId, gate: Gate, hash: u64) -> Result<(), AllocError>
-    requires { to.old.chains.count ≡ bucket_count }
+    requires count { to.old.chains.count ≡ bucket_count }
+    requires few { length gate.pins.now ≤ 16 }
     ensures count { to.new.chains.count ≡ to.old.chains.count }
     ensures lib { to.new.lib.now ≡ to.old.lib.now }
-    ensures rows { OnOk result (plain_rows to.new.rows.items ≡
-        plain_rows to.old.rows.items ++ choice_of class gate ∷ []) }
+    ensures rows { OnOk result (to.new.rows ≡ to.old.rows ++ choice_of class gate ∷ []) }
 {
     to.chains.push(bucket_of(hash))?;
     to.hashes.push(hash)?;
-    let stand = Stand::Gate(gate);
-    to.rows.push(ListedChoice { class, stand })?;
+    to.rows.push_gate(class, gate)?;
     Ok(())
 }
