@@ -26,6 +26,8 @@ pub(crate) struct Listed<'a> {
     pub uses: Vec<PinUse>,
     /// The pins of one that is listed.
     pub others: Vec<PinUse>,
+    /// The number of the first match at the class of the last one.
+    pub first: usize,
 }
 
 /// A match that is looked for among those that are listed.
@@ -36,6 +38,8 @@ struct Sought<'a> {
     cell: CellId,
     uses: &'a [PinUse],
     hash: u64,
+    // the number of the first match at the class
+    first: usize,
 }
 
 /// Nothing is listed yet.
@@ -49,15 +53,18 @@ pub(crate) fn none_listed(alloc: Global, lib: &Library) -> Result<Listed, AllocE
         chains: Chains::new(alloc, BUCKETS)?,
         uses: Vec::new(alloc),
         others: Vec::new(alloc),
+        first: 0,
     })
 }
 
-/// Lists a match at a class, unless one that is alike is listed.
+/// Lists a match at a class, unless one that is alike is listed. The matches at a class come one
+/// after another.
 pub(crate) fn add_gate(to: &mut Listed, class: ClassId, gate: Gate) -> Result<(), AllocError>
     requires count { to.old.chains.count ≡ bucket_count }
     requires few { length gate.pins.now ≤ 16 }
-    ensures { OnOk result (IsListedMore to.old to.new (choice_of class gate)) }
+    ensures { OnOk result (IsListedMore to.old to.new (choice_of class gate.entry)) }
 {
+    to.first = first_at(to, class);
     list_uses(&mut to.uses, delays_in(to.lib, gate.cell), gate.pins)?;
     let hash = hash_of(class, gate.cell, &to.uses);
     let sought = Sought {
@@ -66,11 +73,22 @@ pub(crate) fn add_gate(to: &mut Listed, class: ClassId, gate: Gate) -> Result<()
         cell: gate.cell,
         uses: &to.uses,
         hash,
+        first: to.first,
     };
     if has_like(&sought, &to.chains, &to.hashes, &to.rows, &mut to.others)? {
         return Ok(());
     }
     push_gate(to, class, gate, hash)
+}
+
+// The number of the first match at a class, if the last one is of that class. Otherwise it is the
+// number of the next match.
+fn first_at(to: &Listed, class: ClassId) -> usize {
+    let count = to.rows.len();
+    if count > 0 && to.rows.at(count - 1).class.0 == class.0 {
+        return to.first;
+    }
+    count
 }
 
 // Whether a match that is listed is like the one that is looked for.
@@ -92,7 +110,8 @@ fn is_like(
     Ok(are_same(sought.uses, others))
 }
 
-// Whether one that is like the match that is looked for is listed.
+// Whether one that is like the match that is looked for is listed. Matches at other classes are not
+// looked at.
 fn has_like(
     sought: &Sought,
     chains: &Chains,
@@ -107,6 +126,9 @@ fn has_like(
     let mut next = chains.last(bucket_of(sought.hash));
     while let Some(place) = next {
         let at = place as usize;
+        if at < sought.first {
+            return Ok(false);
+        }
         if at < hashes.len()
             && at < rows.len()
             && hashes[at] == sought.hash
@@ -125,7 +147,7 @@ fn push_gate(to: &mut Listed, class: ClassId, gate: Gate, hash: u64) -> Result<(
     requires few { length gate.pins.now ≤ 16 }
     ensures count { to.new.chains.count ≡ to.old.chains.count }
     ensures lib { to.new.lib.now ≡ to.old.lib.now }
-    ensures rows { OnOk result (to.new.rows ≡ to.old.rows ++ choice_of class gate ∷ []) }
+    ensures rows { OnOk result (to.new.rows ≡ to.old.rows ++ choice_of class gate.entry ∷ []) }
 {
     to.chains.push(bucket_of(hash))?;
     to.hashes.push(hash)?;

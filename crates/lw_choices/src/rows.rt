@@ -127,7 +127,7 @@ impl Listing {
     /// Appends a cell with its pins at a class. Past 2^32 - 17 pins it says that memory is out.
     pub(crate) fn push_gate(&mut self, class: ClassId, gate: Gate) -> Result<(), AllocError>
         requires { length gate.pins.now ≤ 16 }
-        ensures { OnOk result (self.new ≡ self.old ++ choice_of class gate ∷ []) }
+        ensures { OnOk result (self.new ≡ self.old ++ choice_of class gate.entry ∷ []) }
     {
         let first = self.pins.len();
         if first > MOST_PINS {

@@ -2,7 +2,7 @@ use Rattle.std.proofs.Common.{ap, length, sym, subst, arith}
 use Rattle.std.proofs.lemmas.List.{length-reverse}
 use Rattle.lw_choices.specs.Choices.{AreListedChoices}
 use Rattle.lw_choices.specs.Tasks.{task}
-use Rattle.lw_choices.proofs.Listing.{all_choices}
+use Rattle.lw_choices.proofs.Growing.{all_choices}
 use Rattle.lw_choices.proofs.choices.list_choices.Goals as goal
 
 pub returns : goal.returns

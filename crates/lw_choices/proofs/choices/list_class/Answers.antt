@@ -7,7 +7,7 @@ use Rattle.lw_pool.specs.Numbers.{numbers}
 use Rattle.lw_choices.specs.Choices.Part.{gate}
 use Rattle.lw_choices.specs.Tasks.{task}
 use Rattle.lw_choices.specs.Rows.{IsGateAdded}
-use Rattle.lw_choices.proofs.Listing.{IsListingAt, listing_start, listing_next, listing_over}
+use Rattle.lw_choices.proofs.Growing.{IsListingAt, listing_start, listing_next, listing_over}
 use Rattle.lw_choices.proofs.Moving.{last_in, last_match, others_in}
 use Rattle.lw_choices.proofs.choices.list_class.Goals as goal
 

@@ -9,7 +9,7 @@ use Rattle.lw_choices.specs.Areas.{area_cost}
 use Rattle.lw_choices.specs.PinUses.{bucket_count}
 use Rattle.lw_choices.specs.Tasks.{task}
 use Rattle.lw_choices.specs.Rows.{IsListing, IsUnderWay}
-use Rattle.lw_choices.proofs.Listing.{IsListingAt}
+use Rattle.lw_choices.proofs.Growing.{IsListingAt}
 use Rattle.lw_choices.proofs.choices.list_class.Given as goal
 
 abbrev pub invariant-loop-found : goal.invariant-loop-found

@@ -1,7 +1,7 @@
 use Rattle.std.proofs.Common.{◌≡◌, ℕ, ◌+◌, ◌-◌, sym, subst, arith}
 use Rattle.lw_choices.specs.Tasks.{task}
 use Rattle.lw_choices.specs.Rows.{IsListing}
-use Rattle.lw_choices.proofs.Listing.{input_listed}
+use Rattle.lw_choices.proofs.Growing.{input_listed}
 use Rattle.lw_choices.proofs.choices.list_inputs.Goals as goal
 
 pub loop-input-init : goal.loop-input-init

@@ -1,7 +1,7 @@
 use Rattle.std.proofs.Common.{◌≡◌, ℕ, ◌+◌, ◌-◌, length, sym, subst, arith}
 use Rattle.lw_choices.specs.Tasks.{task}
 use Rattle.lw_choices.specs.Rows.{AreListedFrom, IsListing}
-use Rattle.lw_choices.proofs.Listing.{none_are_listed}
+use Rattle.lw_choices.proofs.Growing.{none_are_listed}
 use Rattle.lw_choices.proofs.choices.list_sought.Goals as goal
 
 pub loop-class-init : goal.loop-class-init
