@@ -1,0 +1,4 @@
+pub mod Weak
+pub mod Numbers
+pub mod Rows
+pub mod SomeGraph
