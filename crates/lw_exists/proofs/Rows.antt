@@ -47,18 +47,18 @@ module _ (P : ℕ → ℕ → Type 0) (n : ℕ) (d : (x y : ℕ) → x < n → y
   after a b p (inr (e, le)) = inr (e, omega arith)
 
   kept : (a b : ℕ) (ps : List Pair) → (IsOfRow (at a b) → ⊥) → AreFrom a (suc b) ps → AreFrom a b ps
-  kept a b ps out (rises, (are, all)) =
-      (rises, (all_weaker (λ p. IsFrom a (suc b) p × IsOfRow p) (λ p. IsFrom a b p × IsOfRow p) (λ p (f, r). (earlier a b p f, r)) ps are, λ p f r. by_place p r (here_or_later a b p f)))
+  kept a b ps out (rises, are, all) =
+      (rises, all_weaker (λ p. IsFrom a (suc b) p × IsOfRow p) (λ p. IsFrom a b p × IsOfRow p) (λ p (f, r). (earlier a b p f, r)) ps are, λ p f r. by_place p r (here_or_later a b p f))
     where
       by_place : (p : Pair) → IsOfRow p → (at a b ≡ p) ⊎ IsFrom a (suc b) p → Contains ps p
       by_place p r (inl e) = absurd (out (subst IsOfRow (sym e) r))
       by_place p r (inr f) = all p f r
 
   more : (a b : ℕ) (ps : List Pair) → IsOfRow (at a b) → AreFrom a (suc b) ps → AreFrom a b (at a b ∷ ps)
-  more a b ps own (rises, (are, all)) =
+  more a b ps own (rises, are, all) =
       ((own.0, all_weaker (λ p. IsFrom a (suc b) p × IsOfRow p) (IsPairBefore (at a b)) (λ p (f, r). after a b p f) ps are, rises),
-      (((inr (refl, omega arith), own), all_weaker (λ p. IsFrom a (suc b) p × IsOfRow p) (λ p. IsFrom a b p × IsOfRow p) (λ p (f, r). (earlier a b p f, r)) ps are),
-      λ p f r. by_place p r (here_or_later a b p f)))
+      ((inr (refl, omega arith), own), all_weaker (λ p. IsFrom a (suc b) p × IsOfRow p) (λ p. IsFrom a b p × IsOfRow p) (λ p (f, r). (earlier a b p f, r)) ps are),
+      λ p f r. by_place p r (here_or_later a b p f))
     where
       by_place : (p : Pair) → IsOfRow p → (at a b ≡ p) ⊎ IsFrom a (suc b) p → Contains (at a b ∷ ps) p
       by_place p r (inl e) = (0, omega arith, e)
@@ -90,8 +90,8 @@ module _ (P : ℕ → ℕ → Type 0) (n : ℕ) (d : (x y : ℕ) → x < n → y
   lower (suc k) a b e s = one_more a b (omega arith) (lower k a (suc b) (omega arith) s)
 
   next_first : (a : ℕ) → SomeFrom (suc a) 0 → SomeFrom a n
-  next_first a (ps, (rises, (are, all))) =
-      (ps, (rises, (all_weaker (λ p. IsFrom (suc a) 0 p × IsOfRow p) (λ p. IsFrom a n p × IsOfRow p) (λ p (f, r). (inl (first p f), r)) ps are, λ p f r. all p (later p r f) r)))
+  next_first a (ps, (rises, are, all)) =
+      (ps, (rises, all_weaker (λ p. IsFrom (suc a) 0 p × IsOfRow p) (λ p. IsFrom a n p × IsOfRow p) (λ p (f, r). (inl (first p f), r)) ps are, λ p f r. all p (later p r f) r))
     where
       first : (p : Pair) → IsFrom (suc a) 0 p → a < p.x
       first p (inl l) = omega arith
@@ -106,7 +106,7 @@ module _ (P : ℕ → ℕ → Type 0) (n : ℕ) (d : (x y : ℕ) → x < n → y
       later p r (inr (e, le)) = let lt = r.1 in absurd (omega arith)
 
   from_first : (k a : ℕ) → a + k ≡ n → SomeFrom a 0
-  from_first zero a e = ([], (tt, (tt, λ p f r. absurd (past p (r.0) (r.1) f))))
+  from_first zero a e = ([], (tt, tt, λ p f r. absurd (past p r.0 r.1 f)))
     where
       past : (p : Pair) → p.x ≤ p.y → p.y < n → IsFrom a 0 p → ⊥
       past p le lt (inl l) = omega arith
@@ -116,7 +116,7 @@ module _ (P : ℕ → ℕ → Type 0) (n : ℕ) (d : (x y : ℕ) → x < n → y
   -- the row rises, and holds the pairs with the property
   pub some_row : (ps : List Pair) × AreRising ps × ((p : Pair) → Contains ps p ↔ IsOfRow p)
   some_row =
-      let (ps, (rises, (are, all))) = from_first n 0 (omega arith) in
+      let (ps, (rises, are, all)) = from_first n 0 (omega arith) in
       (ps, rises, λ p. (λ c. (all_contains (λ q. IsFrom 0 0 q × IsOfRow q) ps p are c).1, λ r. all p (by_order p (eq-or-lt_of_le {n = 0} {m = p.x} (omega arith))) r))
     where
       by_order : (p : Pair) → (0 ≡ p.x) ⊎ (0 < p.x) → IsFrom 0 0 p

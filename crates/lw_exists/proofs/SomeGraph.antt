@@ -46,7 +46,7 @@ module _ (mode : Mode) (inputs : ℕ) (o : Listing) (sound : IsSoundListing inpu
   first = sound.first
 
   each_one : length (numbered inputs o).bases ≡ total
-  each_one = length-map (numbered_base o.bases) o.bases
+  each_one = length-map o.bases (numbered_base o.bases)
 
   apart : (f : ℕ) → Equivalent F (flip f) f → ⊥
   apart = flip_not_equivalent F (λ i. true) (number_value o (λ i. true)) (form_values_fit (numbered inputs o) (λ i. true) (number_value o (λ i. true)) (numbers_have_values inputs o is (λ i. true) (sound.agree (λ i. true))) mode)
@@ -61,8 +61,8 @@ module _ (mode : Mode) (inputs : ℕ) (o : Listing) (sound : IsSoundListing inpu
   }
 
   nand_occurs : (f x y : ℕ) → IsNand F f x y → NumberOccurs (numbered inputs o) f × NumberOccurs (numbered inputs o) x × NumberOccurs (numbered inputs o) y
-  nand_occurs f x y (inl s) = splits_occur (numbered inputs o) (numbered_are_forms inputs o is) mode f x y s
-  nand_occurs f x y (inr s) = let (a, b, c) = splits_occur (numbered inputs o) (numbered_are_forms inputs o is) mode f y x s in (a, c, b)
+  nand_occurs f x y (inl s) = splits_occur mode (numbered inputs o) (numbered_are_forms inputs o is) mode f x y s
+  nand_occurs f x y (inr s) = let (a, b, c) = splits_occur mode (numbered inputs o) (numbered_are_forms inputs o is) mode f y x s in (a, c, b)
 
   nand_turned : (f x y : ℕ) → IsNand F f x y → IsNand F f y x
   nand_turned f x y (inl s) = inr s
@@ -105,7 +105,7 @@ module _ (mode : Mode) (inputs : ℕ) (o : Listing) (sound : IsSoundListing inpu
 
     some_rows : Known → (rows : List (List Pair)) × (length rows ≡ classes) × ((c : ℕ) (ps : List Pair) → slice_get rows c ≡ Some ps → IsRow c ps)
     some_rows known =
-        some_list IsRow classes (λ c l. some_row (λ x y. HasNand F (bare cs) c x y) classes (λ x y m k. known c l x m y k))
+        some_list IsRow classes (λ c l. let (ps, rises, held) = some_row (λ x y. HasNand F (bare cs) c x y) classes (λ x y m k. known c l x m y k) in (ps, (rises, held)))
 
     some_leaves : (leaves : List ℕ) × (length leaves ≡ inputs) × ((i c : ℕ) → slice_get leaves i ≡ Some c → c ≡ class_by cs (2 * (i + 1)))
     some_leaves = some_list (λ i c. c ≡ class_by cs (2 * (i + 1))) inputs (λ i lt. (class_by cs (2 * (i + 1)), refl))
@@ -160,7 +160,8 @@ module _ (mode : Mode) (inputs : ℕ) (o : Listing) (sound : IsSoundListing inpu
       leaf_from i c (f, (b, e, s), k) =
           let m = input_at inputs o is b i f e s in
           let lt = first.below m.0 i m.1 in
-          let place : b ≡ i + 1 = is.once m.0 (i + 1) (var_form i) m.1 (first.inputs i lt) in
+          let place : m.0 ≡ i + 1 = is.once m.0 (i + 1) (var_form i) m.1 (first.inputs i lt) in
+          let own : f ≡ 2 * m.0 + 0 = m.2 in
           let (d, at) = slice_get_some leaves i (omega arith) in
           let same : 2 * (i + 1) ≡ f = omega arith in
           at ∙ ap Some (leaf_is i d at ∙ (ap (class_by cs) same ∙ k))

@@ -7,4 +7,4 @@
 
 mod laws;
 
-pub use laws::{graphs_exist};
+pub use laws::{graphs_exist, mappings_have_answers};
