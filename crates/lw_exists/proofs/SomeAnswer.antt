@@ -27,7 +27,7 @@ use Rattle.lw_exists.proofs.SomeMaps.{some_maps}
 use Rattle.lw_exists.proofs.SomeLibrary.{some_library}
 
 -- a step and then the next one
-some_followed : {E A B : Type 0} (first : StepTo E A) (next : A → StepTo E B) (files : Files) → Weakly ((r : Result A E) × first files r) → ((x : A) → first files (Ok x) → Weakly ((r : Result B E) × next x files r)) → Weakly ((r : Result B E) × followed_by first next files r)
+pub some_followed : {E A B : Type 0} (first : StepTo E A) (next : A → StepTo E B) (files : Files) → Weakly ((r : Result A E) × first files r) → ((x : A) → first files (Ok x) → Weakly ((r : Result B E) × next x files r)) → Weakly ((r : Result B E) × followed_by first next files r)
 some_followed {E} {A} {B} first next files w f = and_then w by_result
   where
     by_result : (r : Result A E) × first files r → Weakly ((r : Result B E) × followed_by first next files r)
@@ -35,7 +35,7 @@ some_followed {E} {A} {B} first next files w f = and_then w by_result
     by_result (Err e, is) = sure (Err e, inr (e, is, refl))
 
 -- a fault of a file is a refusal that names it
-some_in_file : {A : Type 0} (w : Which) (step : FileStep A) (files : Files) → Weakly ((r : Result A FileFault) × step files r) → Weakly ((r : Result A Refusal) × in_file w step files r)
+pub some_in_file : {A : Type 0} (w : Which) (step : FileStep A) (files : Files) → Weakly ((r : Result A FileFault) × step files r) → Weakly ((r : Result A Refusal) × in_file w step files r)
 some_in_file {A} w step files some = weaker by_result some
   where
     by_result : (r : Result A FileFault) × step files r → (r : Result A Refusal) × in_file w step files r

@@ -52,8 +52,8 @@ module _ (options : Options) (certified : Bool) (cells : List CellParts) (model 
     turned k (inr out) = inl out
 
     settled : (k : ℕ) → IsCoveredAt k ⊎ (IsCoveredAt k → ⊥) → ((IsCoveredAt k → ⊥) → ⊥) → IsCoveredAt k
-    settled k (inl c) no = c
-    settled k (inr out) no = absurd (no out)
+    settled k (inl c) twice = c
+    settled k (inr out) twice = absurd (twice out)
 
     by_outputs : Decided IsCoveredAt (length model.network.outputs) → ((m : ℕ) × IsFirstBelow (λ k. IsCoveredAt k → ⊥) (length model.network.outputs) m) ⊎ ((k : ℕ) → k < length model.network.outputs → (IsCoveredAt k → ⊥) → ⊥) → Weakly HasSome
     by_outputs d (inl (m, (lt, out, first))) = sure (lacks_cover m lt out (λ k less. settled k (d k (omega arith)) (first k less)))
