@@ -13,3 +13,5 @@ pub mod SomeModel
 pub mod SomeLibrary
 pub mod SomeMaps
 pub mod SomeAnswer
+pub mod Statuses
+pub mod OtherAnswers
