@@ -1,0 +1,15 @@
+-- The netlist of a draft, or a fault of it, cannot fail to be there. (A draft of a proof: not checked. Over Ranks.antt.)
+--
+-- What is to be shown, with what is there:
+-- 1. reaching: the links of a draft without faults are IsReaching for Reaches (links draft): one by by_step, more by
+--    by_path, none by HasNoCycle, apart by once_distinct (lw_named_netlist.proofs.Names) and different_of
+--    (lw_lut_text.proofs.ReadNames) with get_right.
+-- 2. some_depths over Weighted things: gates with weight 1, then wires with weight 0, so that a wire has the depth of
+--    its source (greatest (d ∷ []) ≡ d). AreNameDepths by All-from_recursion, as in SomeDepths.antt.
+-- 3. net : List ℕ → ℕ by of_all with P q = Contains (drivers draft) q → (n : ℕ) × IsNetNamed draft order q n: an input
+--    has at_input; a gate at_gate, its place in by_depth by IsPermutation (moved, within_greatest of lw_net Buckets, as
+--    in lw_named_netlist.proofs.Closed); a wire at_wire, its source driven by first_undriven ≡ None.
+-- 4. a fault: first_twice Some, first_undriven Some, or the first place on a cycle by first_below, as in SomeModel.antt.
+-- 5. certificate: labels by some_list below suc (greatest (map class labels)), past it label_among is None; nets by
+--    definition.
+-- 6. HasMapped: by cases of text_fault, as in SomeModel.antt.
