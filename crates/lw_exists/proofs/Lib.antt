@@ -1,0 +1,17 @@
+pub mod Weak
+pub mod Numbers
+pub mod Rows
+pub mod SomeGraph
+pub mod SomeLabels
+pub mod FirstLists
+pub mod Chosen
+pub mod Sorted
+pub mod Gates
+pub mod SomeNetlist
+pub mod SomeDepths
+pub mod SomeModel
+pub mod SomeLibrary
+pub mod SomeMaps
+pub mod SomeAnswer
+pub mod Statuses
+pub mod OtherAnswers

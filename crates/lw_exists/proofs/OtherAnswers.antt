@@ -1,0 +1,97 @@
+-- Answers to words that ask for the size of a graph, or for the values of a network, cannot fail to be there.
+use Rattle.std.proofs.Common.{ℕ, ◌<◌, ◌≤◌, ◌≡◌, inl, inr, Bool, List, [], ◌∷◌, ◌++◌, length, map, Option, Some, None, Result, Ok, Err, refl, ap, arith}
+use native.Mathlib.Decide.{dec_lt}
+use Rattle.lw_laws.specs.Networks.{given}
+use Rattle.lw_laws.specs.Graphs.{Graph}
+use Rattle.lw_laws.specs.Classes.{IsGraphOf}
+use Rattle.lw_laws.specs.Listings.{listing_of}
+use Rattle.lw_laws.proofs.NetValues.{net_values_are}
+use Rattle.lw_laws.proofs.Words.{net_values}
+use Rattle.lw_net.specs.Networks.{NetworkParts, IsNetwork}
+use Rattle.lw_net.specs.Plain as network
+use Rattle.lw_net.proofs.Rise.{in_order}
+use Rattle.lw_form.specs.Limits.{most_bases}
+use Rattle.lw_assoc.specs.Splits.{most_splits}
+use Rattle.lw_blif.specs.declared.parsed.Parsed.{Parsed}
+use Rattle.lw_report.specs.Vectors.{first_fault, vector_of}
+use Rattle.lw_report.specs.Simulated.{IsNetworkLine, AreLines, value_line}
+use Rattle.lw_report.specs.Simulated.AreLines.{no_lines, next_line}
+use Rattle.lw_files.specs.Steps.{Files, gives, followed_by}
+use Rattle.lw_files.specs.Sources.{text_of, lines_in}
+use Rattle.lw_files.specs.Sources as file
+use Rattle.lw_files.proofs.Kept.{model_kept}
+use Rattle.lw_map.specs.declared.counting.Counts.{Counts as GraphCounts}
+use Rattle.lw_map.specs.Options.{Options, IsWide}
+use Rattle.lw_map.specs.Mapped.{base_count, splits_count, IsWithinLimits}
+use Rattle.lw_top.specs.declared.refusal.Refusal.{Refusal}
+use Rattle.lw_top.specs.declared.refusal.Refusal.TheVariants.{Vector, Forms, Splits}
+use Rattle.lw_top.specs.declared.refusal.Which.{Which}
+use Rattle.lw_top.specs.declared.refusal.Which.TheVariants as which
+use Rattle.lw_top.specs.Words.{Command, counting, simulation, command_of}
+use Rattle.lw_top.specs.Counts.{Counts, counts_text, pair_total}
+use Rattle.lw_top.specs.Reports.{Simulates}
+use Rattle.lw_top.specs.Answers.{ReadsModel, HasVectors, text_in, ReadsVectors, IsCountAnswer, IsSimulationAnswer, asked_for, IsAnswer}
+use Rattle.lw_top.proofs.InRange.{command_in_range}
+use Rattle.lw_exists.specs.Weakly.{Weakly}
+use Rattle.lw_exists.proofs.Weak.{sure, weaker}
+use Rattle.lw_exists.proofs.SomeGraph.{some_graph}
+use Rattle.lw_exists.proofs.SomeModel.{some_model}
+use Rattle.lw_exists.proofs.SomeAnswer.{some_followed, some_in_file}
+
+-- the model, or why the file has none
+read_model : (name : List ℕ) (files : Files) → Weakly ((r : Result Parsed Refusal) × ReadsModel name files r)
+read_model name files = some_in_file which.Network (file.ReadsModel name) files (some_model name files)
+
+-- The size of a graph.
+
+module _ (options : Options) (model : Parsed) (files : Files) (wide : IsWide options) where
+  abbrev HasCounts : Type 0
+  HasCounts = (a : Result (List ℕ) Refusal) × Counts options model files a
+
+  counted : IsWithinLimits options model.network → (g : Graph) × IsGraphOf options.mode model.network.inputs (listing_of options.width (network.plain model.network)) g → HasCounts
+  counted within (g, is) =
+      let counts : GraphCounts = record { forms = base_count options model.network; classes = length g.pairs; pairs = pair_total g } in
+      (Ok (counts_text counts), record { counts = counts; are = record { within = within; graph = g; is_graph = is; forms = refl; classes = refl; pairs = refl }; says = refl })
+
+  by_limits : Dec (most_bases < base_count options model.network) → Dec (most_splits < splits_count options model.network) → Weakly HasCounts
+  by_limits (yes many) d = sure (Err Forms, many)
+  by_limits (no few) (yes many) = sure (Err Splits, (omega arith, many))
+  by_limits (no few) (no none) =
+      weaker (counted (record { forms = omega arith; splits = omega arith })) (some_graph options.mode options.width (network.plain model.network) wide.least)
+
+  some_counts : Weakly ((a : Result (List ℕ) Refusal) × Counts options model files a)
+  some_counts = by_limits (dec_lt most_bases (base_count options model.network)) (dec_lt most_splits (splits_count options model.network))
+
+-- The values of a network.
+
+some_lines : (n : NetworkParts) → IsNetwork n → (vectors : List (List Bool)) → (text : List ℕ) × AreLines (IsNetworkLine n) vectors text
+some_lines n kept [] = ([], no_lines)
+some_lines n kept (vector ∷ vectors) =
+    let (text, are) = some_lines n kept vectors in
+    let values = net_values (given vector) (network.plain n) in
+    (value_line values n.outputs ++ text, next_line {line = value_line values n.outputs} (record { values = values; are = net_values_are (network.plain n) (in_order n kept) (given vector); says = refl }) are)
+
+by_vectors : (inputs : ℕ) (bytes : List ℕ) (files : Files) (o : Option ℕ) → first_fault inputs (lines_in bytes) ≡ o → (r : Result (List (List Bool)) Refusal) × HasVectors inputs bytes files r
+by_vectors inputs bytes files None e = (Ok (map vector_of (lines_in bytes)), (e, refl))
+by_vectors inputs bytes files (Some line) e = (Err (Vector line), e)
+
+some_vectors : (name : List ℕ) (inputs : ℕ) (files : Files) → Weakly ((r : Result (List (List Bool)) Refusal) × ReadsVectors name inputs files r)
+some_vectors name inputs files =
+    some_followed (text_in which.Vectors name) (HasVectors inputs) files (some_in_file which.Vectors (gives (text_of name)) files (sure (text_of name files, refl))) (λ bytes is.
+    sure (by_vectors inputs bytes files (first_fault inputs (lines_in bytes)) refl))
+
+-- Answers.
+
+pub some_count_answer : (words : List (List ℕ)) (files : Files) (options : Options) (network_word : List ℕ) → command_of words ≡ Some (counting options network_word) → Weakly ((r : Result (List ℕ) Refusal) × IsAnswer words files r)
+some_count_answer words files options network_word form =
+    weaker (λ (r, is). (r, inl (counting options network_word, ap asked_for form, is)))
+    (some_followed (ReadsModel network_word) (λ model. Counts options model) files (read_model network_word files) (λ model read.
+    some_counts options model files (command_in_range words (counting options network_word) form)))
+
+pub some_simulation_answer : (words : List (List ℕ)) (files : Files) (network_word vectors : List ℕ) → command_of words ≡ Some (simulation network_word vectors) → Weakly ((r : Result (List ℕ) Refusal) × IsAnswer words files r)
+some_simulation_answer words files network_word vectors form =
+    weaker (λ (r, is). (r, inl (simulation network_word vectors, ap asked_for form, is)))
+    (some_followed (ReadsModel network_word) (λ model. followed_by (ReadsVectors vectors model.network.inputs) (λ xs. Simulates model xs)) files (read_model network_word files) (λ model read.
+    some_followed (ReadsVectors vectors model.network.inputs) (λ xs. Simulates model xs) files (some_vectors vectors model.network.inputs files) (λ xs has.
+    let (text, are) = some_lines model.network (model_kept network_word files model read).network xs in
+    sure (Ok text, are))))

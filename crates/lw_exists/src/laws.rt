@@ -1,0 +1,39 @@
+//! Laws over definitions: functions with empty bodies, whose clauses are the laws.
+ghost use Rattle.lw_exists.specs.Weakly.{Weakly};
+ghost use Rattle.lw_files.specs.Steps.{Files};
+ghost use Rattle.lw_laws.specs.Classes.{IsGraphOf};
+ghost use Rattle.lw_laws.specs.Graphs.{Graph};
+ghost use Rattle.lw_laws.specs.Listings.{listing_of};
+ghost use Rattle.lw_laws.specs.Modes.{Mode};
+ghost use Rattle.lw_laws.specs.Networks.{Network};
+ghost use Rattle.lw_map.specs.Options.{Options};
+ghost use Rattle.lw_top.specs.Answers.{IsAnswer, status_in};
+ghost use Rattle.lw_top.specs.Mappings.{AsksForMapping};
+ghost use Rattle.lw_top.specs.Words.{command_of, counting, simulation};
+ghost use Rattle.lw_top.specs.declared.refusal.Refusal.{Refusal};
+ghost use Rattle.std.specs.Prelude.{◌≡◌, ◌≢◌, ◌≤◌, ℕ, List, Result, Some};
+
+/// The graph of a network's forms cannot fail to be there.
+pub fn graphs_exist()
+    ensures { (mode : Mode) (width : ℕ) (net : Network) → 2 ≤ width →
+        Weakly ((g : Graph) × IsGraphOf mode net.inputs (listing_of width net) g) }
+{}
+
+/// Where words ask for a mapping, whatever the files are, an answer cannot fail to be there: some
+/// text of a mapping, or some refusal. None is that memory ran out.
+pub fn mappings_have_answers()
+    ensures answer { (words : List (List ℕ)) (files : Files) → AsksForMapping words →
+        Weakly ((a : Result (List ℕ) Refusal) × IsAnswer words files a) }
+    ensures status { (words : List (List ℕ)) (files : Files) (a : Result (List ℕ) Refusal) →
+        AsksForMapping words → IsAnswer words files a → status_in a ≢ 8 }
+{}
+
+/// So is an answer to words that ask for the size of a graph, or for the values of a network.
+pub fn counts_and_values_have_answers()
+    ensures counts { (words : List (List ℕ)) (files : Files) (options : Options)
+        (network : List ℕ) → command_of words ≡ Some (counting options network) →
+        Weakly ((a : Result (List ℕ) Refusal) × IsAnswer words files a) }
+    ensures values { (words : List (List ℕ)) (files : Files) (network vectors : List ℕ) →
+        command_of words ≡ Some (simulation network vectors) →
+        Weakly ((a : Result (List ℕ) Refusal) × IsAnswer words files a) }
+{}
