@@ -34,14 +34,17 @@ module _ (g : Graph) (cost : Cost) (pats : List Pattern) (labels : Labels) (heig
       by_match : (cell : ℕ) (ps : List ℕ) (h : ℕ) → Attains (choices_of g cost.pin_counts pats) cost labels c cell ps → AllByRecursion (λ p. heights p ≤ h) ps → suc h ≤ heights c → HasSupport
       by_match cell ps h a low lt =
           let m = a.stands in
-          let (n, at) = contained_at pats m.pattern m.listed in
-          (of_pins n ps, m.pattern, record {
-            matches = record { listed = at; pins = subst (λ k. HasPins cost.pin_counts k (length ps)) (sym m.cell_is) m.pins; stands = m.stands };
-            pin_labels = a.pin_labels;
-            have = a.have;
-            value = a.value ∙ ap (λ k. Some (cost.value k a.pin_labels)) (sym m.cell_is);
-            lower = all_weaker (λ p. heights p ≤ h) (λ q. suc (heights q) ≤ heights c) (λ q le. omega arith) ps low;
-          })
+          let (n, at) = contained_at pats m.pattern m.listed in (
+            of_pins n ps,
+            m.pattern,
+            record {
+              matches = record { listed = at; pins = subst (λ k. HasPins cost.pin_counts k (length ps)) (sym m.cell_is) m.pins; stands = m.stands };
+              pin_labels = a.pin_labels;
+              have = a.have;
+              value = a.value ∙ ap (λ k. Some (cost.value k a.pin_labels)) (sym m.cell_is);
+              lower = all_weaker (λ p. heights p ≤ h) (λ q. suc (heights q) ≤ heights c) (λ q le. omega arith) ps low;
+            },
+          )
 
       by_case : IsInputClass (choices_of g cost.pin_counts pats) c ⊎ ((cell : ℕ) × (ps : List ℕ) × (h : ℕ) × Attains (choices_of g cost.pin_counts pats) cost labels c cell ps × AllByRecursion (λ p. heights p ≤ h) ps × (suc h ≤ heights c)) → HasSupport
       by_case (inl leaf) = absurd (inner leaf)

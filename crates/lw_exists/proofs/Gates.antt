@@ -131,17 +131,20 @@ module _ (g : Graph) (cost : Cost) (pats : List Pattern) (labels : List (Option 
         let (c, at) = slice_get_some gates j lt in
         let (low, (n, inner)) = gate_at j c at in
         let (m, p, chosen) = chosen_at c low (n, inner) in
-        let (nets, zip) = some_zip (λ q net. IsNetOf g gates q net × (net < length g.leaves + j)) m.pins (λ q in'. pin_net j c q at (by_pin n inner chosen in') (all_contains (λ q. suc (heights q) ≤ heights c) m.pins q chosen.supports.lower in')) in
-        (p.cell, nets, record {
-          class = c;
-          match = m;
-          pattern = p;
-          at = at;
-          chosen = chosen;
-          cell_is = refl;
-          nets_are = zip_left (length g.leaves + j) m.pins nets zip;
-          before = zip_right (length g.leaves + j) m.pins nets zip;
-        })
+        let (nets, zip) = some_zip (λ q net. IsNetOf g gates q net × (net < length g.leaves + j)) m.pins (λ q in'. pin_net j c q at (by_pin n inner chosen in') (all_contains (λ q. suc (heights q) ≤ heights c) m.pins q chosen.supports.lower in')) in (
+          p.cell,
+          nets,
+          record {
+            class = c;
+            match = m;
+            pattern = p;
+            at = at;
+            chosen = chosen;
+            cell_is = refl;
+            nets_are = zip_left (length g.leaves + j) m.pins nets zip;
+            before = zip_right (length g.leaves + j) m.pins nets zip;
+          },
+        )
 
     have_gates : HaveGates g cost pats known heights roots gates
     have_gates = record { are = gate_classes; each = gate_for; root_nets = root_net }
@@ -151,5 +154,5 @@ module _ (g : Graph) (cost : Cost) (pats : List Pattern) (labels : List (Option 
       and_then weakly_chosen (λ chosen_at.
       and_then (weak_decided (IsLeafClass g) (length labels)) (λ leaf_or_not.
       weaker (λ d.
-          let (gates, (few, sorted, those)) = some_sorted heights HasGate (length labels) d in
-          (gates, have_gates chosen_at leaf_or_not gates sorted those)) (weak_decided HasGate (length labels))))
+      let (gates, (few, sorted, those)) = some_sorted heights HasGate (length labels) d in
+      (gates, have_gates chosen_at leaf_or_not gates sorted those)) (weak_decided HasGate (length labels))))

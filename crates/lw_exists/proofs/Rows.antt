@@ -55,10 +55,11 @@ module _ (P : ℕ → ℕ → Type 0) (n : ℕ) (d : (x y : ℕ) → x < n → y
       by_place p r (inr f) = all p f r
 
   more : (a b : ℕ) (ps : List Pair) → IsOfRow (at a b) → AreFrom a (suc b) ps → AreFrom a b (at a b ∷ ps)
-  more a b ps own (rises, are, all) =
-      ((own.0, all_weaker (λ p. IsFrom a (suc b) p × IsOfRow p) (IsPairBefore (at a b)) (λ p (f, r). after a b p f) ps are, rises),
-      ((inr (refl, omega arith), own), all_weaker (λ p. IsFrom a (suc b) p × IsOfRow p) (λ p. IsFrom a b p × IsOfRow p) (λ p (f, r). (earlier a b p f, r)) ps are),
-      λ p f r. by_place p r (here_or_later a b p f))
+  more a b ps own (rises, are, all) = (
+    (own.0, all_weaker (λ p. IsFrom a (suc b) p × IsOfRow p) (IsPairBefore (at a b)) (λ p (f, r). after a b p f) ps are, rises),
+    ((inr (refl, omega arith), own), all_weaker (λ p. IsFrom a (suc b) p × IsOfRow p) (λ p. IsFrom a b p × IsOfRow p) (λ p (f, r). (earlier a b p f, r)) ps are),
+    λ p f r. by_place p r (here_or_later a b p f),
+  )
     where
       by_place : (p : Pair) → IsOfRow p → (at a b ≡ p) ⊎ IsFrom a (suc b) p → Contains (at a b ∷ ps) p
       by_place p r (inl e) = (0, omega arith, e)

@@ -217,7 +217,10 @@ module _ (draft : Draft) (distinct : IsDistinct bytes_eq (signals_of draft)) whe
 
   pub some_depths : HasNoCycle draft.nodes → Weakly ((depth : List ℕ → ℕ) × AreSignalDepths draft depth)
   some_depths no_cycle =
-      weaker (λ (depth, (deep, flat)). (depth, record {
+      weaker (λ (depth, (deep, flat)). (
+        depth,
+        record {
           inputs = All-from_recursion (λ (name : List ℕ). depth name ≡ 0) draft.inputs (all_by_place (λ (name : List ℕ). depth name ≡ 0) draft.inputs (λ i name at. flat name (no_driver i name at)));
           nodes = All-from_recursion (λ (node : DraftNode). depth node.out ≡ 1 + greatest (map depth node.fanins)) draft.nodes (all_by_place (λ (node : DraftNode). depth node.out ≡ 1 + greatest (map depth node.fanins)) draft.nodes deep);
-      })) (some_deep draft.nodes outs_apart no_cycle)
+        },
+      )) (some_deep draft.nodes outs_apart no_cycle)

@@ -36,16 +36,18 @@ module _ (options : Options) (certified : Bool) (cells : List CellParts) (model 
 
     lacks_cover : (m : ℕ) → m < length model.network.outputs → (IsCoveredAt m → ⊥) → ((k : ℕ) → k < m → IsCoveredAt k) → HasSome
     lacks_cover m lt out before =
-        let (o, at) = slice_get_some model.network.outputs m lt in
-        (Err (NoCover (name_in model.network o)), record {
-          within = within;
-          place = m;
-          output = o;
-          at = at;
-          named = refl;
-          lacks = λ k k_is tree. out (λ p here. let same : p ≡ o = cc in subst (IsCovered options cells model.network) (sym same) (k, record { is_cover = k_is; has_tree = tree }));
-          first = λ i other less e. before i less other e;
-        })
+        let (o, at) = slice_get_some model.network.outputs m lt in (
+          Err (NoCover (name_in model.network o)),
+          record {
+            within = within;
+            place = m;
+            output = o;
+            at = at;
+            named = refl;
+            lacks = λ k k_is tree. out (λ p here. let same : p ≡ o = cc in subst (IsCovered options cells model.network) (sym same) (k, record { is_cover = k_is; has_tree = tree }));
+            first = λ i other less e. before i less other e;
+          },
+        )
 
     turned : (k : ℕ) → IsCoveredAt k ⊎ (IsCoveredAt k → ⊥) → (IsCoveredAt k → ⊥) ⊎ ((IsCoveredAt k → ⊥) → ⊥)
     turned k (inl c) = inr (λ out. out c)
@@ -59,7 +61,7 @@ module _ (options : Options) (certified : Bool) (cells : List CellParts) (model 
     by_outputs d (inl (m, (lt, out, first))) = sure (lacks_cover m lt out (λ k less. settled k (d k (omega arith)) (first k less)))
     by_outputs d (inr none) =
         weaker mapped (some_netlist options cells model.network model.starts wide kept lib within.forms (λ k o at.
-            let lt = slice_get_within model.network.outputs k o at in settled k (d k lt) (none k lt) o at) certified)
+        let lt = slice_get_within model.network.outputs k o at in settled k (d k lt) (none k lt) o at) certified)
 
     within_limits : Weakly HasSome
     within_limits =

@@ -155,8 +155,8 @@ module _ (options : Options) (cells : List CellParts) (net : NetworkParts) (star
       some_ports : (qs : List Port) × AllZip IsPortOf (ports_of net).outputs qs
       some_ports =
           some_zip IsPortOf (ports_of net).outputs (λ p in'.
-              let (k, at, lt) = have.root_nets (root_at p) (contains_map root_at (ports_of net).outputs p in') in
-              (record { name = p.name; net = net_id k }, ((refl, at), lt)))
+          let (k, at, lt) = have.root_nets (root_at p) (contains_map root_at (ports_of net).outputs p in') in
+          (record { name = p.name; net = net_id k }, ((refl, at), lt)))
 
       ports_plain : (ps : List PlainPort) (qs : List Port) → AllZip IsPortOf ps qs → AllZip (λ p q. (p.name ≡ q.name) × IsNetOf g gates (root_at p) q.net) ps (map plain_port qs)
       ports_plain [] [] a = tt
