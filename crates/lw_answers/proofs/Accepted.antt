@@ -32,7 +32,7 @@ unfolding text_of
 library_again name other files others cells same (inl (bytes, text, has)) = inl (bytes, ap within_limit same ∙ text, has)
 library_again name other files others cells same (inr (e, refused, is)) = cc
 
-network_again : (name other : List ℕ) (files others : Files) (model : Parsed) → others other ≡ files name → ReadsModel name files (Ok model) → ReadsModel other others (Ok model)
+pub network_again : (name other : List ℕ) (files others : Files) (model : Parsed) → others other ≡ files name → ReadsModel name files (Ok model) → ReadsModel other others (Ok model)
 unfolding text_of
 network_again name other files others model same (inl (bytes, text, has)) = inl (bytes, ap within_limit same ∙ text, has)
 network_again name other files others model same (inr (e, refused, is)) = cc

@@ -19,6 +19,7 @@ use Rattle.lw_laws.specs.Networks.{Network}
 use Rattle.lw_laws.specs.Rounds.{labels_in}
 use Rattle.lw_laws.proofs.Lists.{slice_get_some}
 use Rattle.lw_laws.proofs.Numbers.{slice_get_map, slice_get_map_back}
+use Rattle.lw_net.specs.Networks.{NetworkParts}
 use Rattle.lw_net.specs.Plain as network
 use Rattle.lw_net.proofs.Rise.{in_order}
 use Rattle.lw_frame.specs.Frames.{Fits}
@@ -60,13 +61,17 @@ use Rattle.lw_assoc.proofs.Built.{pairs_bound}
 
 -- Classes as numbers.
 
-class_id : ℕ → ClassId
+abbrev pub class_id : ℕ → ClassId
 class_id c = record { 0 = c }
 
-class_ids : (cs : List ℕ) → numbers (map class_id cs) ≡ cs
-unfolding class_id
+pub class_ids : (cs : List ℕ) → numbers (map class_id cs) ≡ cs
 class_ids [] = refl
 class_ids (c ∷ cs) = ap (λ ds. c ∷ ds) (class_ids cs)
+
+-- the roots' classes by the nets of the outputs
+pub roots_again : (width : ℕ) (net : Network) (g : Graph) (parts : NetworkParts) (outputs : List NetId) → root_classes width net g (map (output_port parts) outputs) ≡ map (λ (output : NetId). root_class width net g output.0) outputs
+roots_again width net g parts [] = refl
+roots_again width net g parts (o ∷ outputs) = ap (λ (cs : List ℕ). root_class width net g o.0 ∷ cs) (roots_again width net g parts outputs)
 
 classes_below : (most : ℕ) (classes : List (Option ClassId)) (gates : List ℕ) → map (option_map (λ (class : ClassId). class.0)) classes ≡ map Some gates → ((j c : ℕ) → slice_get gates j ≡ Some c → c < most) → All (λ class. IfSome class (λ (c : ClassId). c.0 < most)) classes
 classes_below most [] gates e low = All-nil (λ class. IfSome class (λ (c : ClassId). c.0 < most))
@@ -212,10 +217,6 @@ module _ (options : Options) (cells : List CellParts) (model : Parsed) (wide : I
 
       -- The verdict.
 
-      roots_again : (outputs : List NetId) → root_classes options.width net g (map (output_port model.network) outputs) ≡ map (λ (output : NetId). root_class options.width net g output.0) outputs
-      roots_again [] = refl
-      roots_again (o ∷ outputs) = ap (λ cs. root_class options.width net g o.0 ∷ cs) (roots_again outputs)
-
       abbrev roots : List ℕ
       roots = root_classes options.width net g (ports_of model.network).outputs
 
@@ -230,7 +231,7 @@ module _ (options : Options) (cells : List CellParts) (model : Parsed) (wide : I
         wide = wide.least;
         is_graph = is.is.is_graph;
         kept = is_graph;
-        roots = class_ids roots ∙ roots_again model.network.outputs;
+        roots = class_ids roots ∙ roots_again options.width net g model.network model.network.outputs;
         patterns = delay_patterns cells lib;
       }
 

@@ -35,10 +35,6 @@ picked_other (f ∷ fs) mask lt = by_bit (mask % 2) (other (f ∷ fs) mask % 2) 
   by_bit zero (suc (suc j)) e d is = absurd (let b = bits zero (suc (suc j)) e d in omega arith)
   by_bit (suc (suc k)) j e d is = absurd (let b = bits (suc (suc k)) j e d in omega arith)
 
-pub picked_zero : (fs : List ℕ) → picked fs 0 ≡ []
-picked_zero [] = refl
-picked_zero (f ∷ fs) = picked_zero fs
-
 -- a cut is made by this mask
 pub record IsCutBy (fs ls rs : List ℕ) : Type 0 where
   pub mask : ℕ

@@ -13,7 +13,7 @@ use Rattle.lw_assoc.specs.Drafting.{other, IsDraftOf}
 use Rattle.std.proofs.lemmas.Nat.{or_comm}
 use Rattle.std.proofs.lemmas.Option.{slice_get_within}
 use Rattle.lw_laws.proofs.Flips.{flip_even, flip_odd}
-use Rattle.lw_assoc.proofs.Masks.{picked_other, picked_zero, IsCutBy, cut_mask, covering_masks, half_mask, or_other}
+use Rattle.lw_assoc.proofs.Masks.{picked_other, IsCutBy, cut_mask, covering_masks, half_mask, or_other}
 
 pub same_place : (o : Option Base) (a b : Base) → o ≡ Some a → o ≡ Some b → a ≡ b
 same_place o a b e d = cc

@@ -18,7 +18,7 @@ use Rattle.lw_bounds.proofs.MoreParts.{shape_fits}
 abbrev pub cuts_of : BoundsState → CutsState
 cuts_of b = record { sides = b.sides; roots = b.roots; width = length b.parts; starts = b.starts; numbers = b.numbers; gaps = b.gaps; height_sides = []; heights = no_reading }
 
-no_side : (i place : ℕ) (side : Side) → slice_get (slice_index_or [] i []) place ≡ Some side → ⊥
+pub no_side : (i place : ℕ) (side : Side) → slice_get (slice_index_or [] i []) place ≡ Some side → ⊥
 no_side i place side at =
     let empty : slice_get [] place ≡ Some side = subst (λ (ss : List Side). slice_get ss place ≡ Some side) (get_or_past [] i [] (omega arith)) at in
     cc

@@ -1,13 +1,10 @@
 -- What all assignments of few inputs tell of a graph.
-use Rattle.std.proofs.Common.{ℕ, zero, suc, ◌+◌, ◌-◌, ◌*◌, ◌%◌, ◌<◌, ◌≤◌, ◌≡◌, ◌≢◌, Bool, true, false, not, ◌&&◌, ◌^◌, eqb, if◌then◌else◌, Some, List, length, set, get_or, slice_get, get_or-set_other, get_or-set_same, All, refl, ap, ap₂, sym, subst, ◌∙◌, arith}
-use Rattle.std.specs.Prelude.{bit_and}
-use Rattle.std.specs.Int.{bit_at, bit_not, w64}
-use Rattle.std.proofs.lemmas.Nat.Bits.{bit_at-lt, bit_at-zero, bit_at_and, bit_at_not, bit_at_ones}
+use Rattle.std.proofs.Common.{ℕ, zero, suc, ◌+◌, ◌-◌, ◌*◌, ◌%◌, ◌<◌, ◌≤◌, ◌≡◌, ◌≢◌, Bool, not, ◌&&◌, ◌^◌, if◌then◌else◌, Some, List, length, set, get_or, slice_get, get_or-set_other, get_or-set_same, All, refl, ap, ap₂, sym, subst, ◌∙◌, arith}
+use Rattle.std.specs.Int.{bit_not, w64}
 use Rattle.std.proofs.lemmas.Bool.{ne_eqb}
 use Rattle.std.proofs.lemmas.List.{get_or_default}
 use Rattle.std.proofs.lemmas.Option.{get_or_from_slice_get, slice_get-get_or, slice_get_within}
 use native.Mathlib.Decide.{dec_lt}
-use Rattle.lw_facts.proofs.Numbers.{min_bit, not_bit}
 use Rattle.lw_aig.specs.declared.gate.Gate.{Gate}
 use Rattle.lw_aig.specs.declared.gate.Gate.TheVariants.{Zero, Input, And}
 use Rattle.lw_aig.specs.declared.literal.Literal.{Literal}
@@ -15,29 +12,15 @@ use Rattle.lw_aig.specs.Aigs.{Allows, AreNodeValues, IsAig, IsBelow, IsLater}
 use Rattle.lw_aig.specs.Literals.{literal_value, node_of}
 use Rattle.lw_aig.proofs.Literals.{value_agrees}
 use Rattle.lw_genlib.specs.Words.{bit, block_count}
+use Rattle.lw_genlib.proofs.Bits.{bit_not_is}
 use Rattle.lw_equal.specs.declared.trying.Ends.{Ends}
 use Rattle.lw_equal.specs.Trying.{AgreeIn, AreBelow, AreBlockWords, ArePairsEqual, IsFirst, HasFewInputs, IsWordOf, block_value, literal_bit, most_tried}
 use Rattle.lw_equal.proofs.Numbered.{each_has_number}
 
--- Bits of words.
-
-module _ (k : ℕ) (lt : k < 64) where
-  pub and_bits : (a b : ℕ) → bit k (bit_and a b) ≡ (bit k a && bit k b)
-  and_bits a b = min_bit (bit_at a k) (bit_at b k) _ (bit_at_and a b k) (bit_at-lt a k) (bit_at-lt b k)
-
-  pub not_bits : (a : ℕ) → a < 2 ^ 64 → bit k (bit_not w64 a) ≡ not (bit k a)
-  not_bits a small = not_bit (bit_at a k) _ (bit_at_not w64 a k small lt) (bit_at-lt a k)
-
-  pub ones_bits : bit k (2 ^ 64 - 1) ≡ true
-  ones_bits = ap (λ x. eqb x 1) (bit_at_ones 64 k lt)
-
-  pub zero_bits : bit k 0 ≡ false
-  zero_bits = ap (λ x. eqb x 1) (bit_at-zero k)
-
 -- the word of a literal that is a complement
 pub turned_bits : (words : List ℕ) (k : ℕ) (l : Literal) → k < 64 → get_or words (node_of l) 0 < 2 ^ 64 → l.0 % 2 ≢ 0 → bit k (bit_not w64 (get_or words (node_of l) 0)) ≡ literal_bit words k l
 turned_bits words k l lt small odd =
-    not_bits k lt (get_or words (node_of l) 0) small
+    bit_not_is k lt (get_or words (node_of l) 0) small
     ∙ sym (ap (λ e. if e then bit k (get_or words (node_of l) 0) else not (bit k (get_or words (node_of l) 0))) (ne_eqb (l.0 % 2) 0 odd))
 
 -- The values of the inputs give those of all nodes.

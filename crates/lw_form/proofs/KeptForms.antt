@@ -180,7 +180,7 @@ module _ (o : Listing) (is : IsListing o) where
 
 -- the signals of inputs come first
 
-after_front : (width : ℕ) (signals : List Signal) (nodes : List Node) (k : ℕ) (s : Signal) → slice_get signals k ≡ Some s → slice_get (signals_after width signals nodes) k ≡ Some s
+pub after_front : (width : ℕ) (signals : List Signal) (nodes : List Node) (k : ℕ) (s : Signal) → slice_get signals k ≡ Some s → slice_get (signals_after width signals nodes) k ≡ Some s
 after_front width signals [] k s e = e
 after_front width signals (node ∷ nodes) k s e = after_front width (signals ++ signal_of_node width signals node ∷ []) nodes k s (front signals k e) where
   front : (xs : List Signal) (j : ℕ) → slice_get xs j ≡ Some s → slice_get (xs ++ signal_of_node width signals node ∷ []) j ≡ Some s
@@ -188,7 +188,7 @@ after_front width signals (node ∷ nodes) k s e = after_front width (signals ++
   front (x ∷ xs) zero e = e
   front (x ∷ xs) (suc j) e = front xs j e
 
-input_signal : (i n k : ℕ) → k < n → slice_get (input_signals i n) k ≡ Some (signal_of_input (i + k))
+pub input_signal : (i n k : ℕ) → k < n → slice_get (input_signals i n) k ≡ Some (signal_of_input (i + k))
 input_signal i zero k lt = absurd (omega arith)
 input_signal i (suc n) zero lt = let z : i ≡ i + 0 = omega arith in ap (λ j. Some (signal_of_input j)) z
 input_signal i (suc n) (suc k) lt = let z : i + 1 + k ≡ i + suc k = omega arith in input_signal (i + 1) n k (omega arith) ∙ ap (λ j. Some (signal_of_input j)) z

@@ -10,7 +10,7 @@ use Rattle.lw_form.specs.Kept.{AreForms, AreInOrder, AreNets, AreSamples}
 use Rattle.lw_form.specs.Links.{HaveOneValue, with_pair}
 
 -- a pair of a longer list is one of the list, or the new one
-pair_cases : (xs ys : List ℕ) (f h s a b : ℕ) → length ys ≡ length xs → slice_get (xs ++ f ∷ []) s ≡ Some a → slice_get (ys ++ h ∷ []) s ≡ Some b → ((slice_get xs s ≡ Some a) × (slice_get ys s ≡ Some b)) ⊎ ((a ≡ f) × (b ≡ h))
+pub pair_cases : (xs ys : List ℕ) (f h s a b : ℕ) → length ys ≡ length xs → slice_get (xs ++ f ∷ []) s ≡ Some a → slice_get (ys ++ h ∷ []) s ≡ Some b → ((slice_get xs s ≡ Some a) × (slice_get ys s ≡ Some b)) ⊎ ((a ≡ f) × (b ≡ h))
 pair_cases [] [] f h zero a b same e d = inr (cc, cc)
 pair_cases [] [] f h (suc s) a b same e d = cc
 pair_cases [] (y ∷ ys) f h s a b same e d = cc

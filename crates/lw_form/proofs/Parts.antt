@@ -28,6 +28,10 @@ picked_none old new ids goal i rest below ne is so_far =
     let e : rest % 2 ≡ 0 = omega arith in
     ap (λ l. l ++ picked (drop (i + 1) ids) (rest / 2)) is ∙ (picked_next old ids i rest below 0 e ∙ so_far)
 
+pub picked_zero : (fs : List ℕ) → picked fs 0 ≡ []
+picked_zero [] = refl
+picked_zero (f ∷ fs) = picked_zero fs
+
 -- the operands whose bits are not set
 abbrev pub unpicked : List ℕ → ℕ → List ℕ
 unpicked [] mask = []

@@ -204,7 +204,7 @@ module _ (old now : Table) (inputs i : ℕ) (e : old ≡ record { inputs = input
 
 -- nodes
 
-after_apart : (width : ℕ) (signals : List Signal) (xs ys : List Node) → signals_after width signals (xs ++ ys) ≡ signals_after width (signals_after width signals xs) ys
+pub after_apart : (width : ℕ) (signals : List Signal) (xs ys : List Node) → signals_after width signals (xs ++ ys) ≡ signals_after width (signals_after width signals xs) ys
 after_apart width signals [] ys = refl
 after_apart width signals (x ∷ xs) ys = after_apart width (signals ++ signal_of_node width signals x ∷ []) xs ys
 

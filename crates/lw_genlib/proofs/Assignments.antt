@@ -81,7 +81,7 @@ pub same_words : (a b : ℕ) → a < 2 ^ 64 → b < 2 ^ 64 → ((k : ℕ) → k 
 same_words a b al bl same = same_from_bits_below 64 a b al bl (λ k lt. bit_same (bit_at a k) (bit_at b k) (bit_at-lt a k) (bit_at-lt b k) (same k lt))
 
 -- the number of an assignment of so many pins
-abbrev number_of : (ℕ → Bool) → ℕ → ℕ
+abbrev pub number_of : (ℕ → Bool) → ℕ → ℕ
 number_of y zero = 0
 number_of y (suc n) = cond (y n) 1 0 * 2 ^ n + number_of y n
 
@@ -89,14 +89,14 @@ top_small : (b : Bool) (p v : ℕ) → v < p → cond b 1 0 * p + v < p * 2
 top_small true p v lt = omega arith
 top_small false p v lt = omega arith
 
-number_small : (y : ℕ → Bool) (n : ℕ) → number_of y n < 2 ^ n
+pub number_small : (y : ℕ → Bool) (n : ℕ) → number_of y n < 2 ^ n
 number_small y zero = omega arith
 number_small y (suc n) =
     let less : number_of y n < 2 ^ n = number_small y n in
     let power : 2 ^ suc n ≡ 2 ^ n * 2 = pow-suc 2 n in
     rw power (top_small (y n) (2 ^ n) (number_of y n) less)
 
-number_bit : (y : ℕ → Bool) (n p : ℕ) → p < n → bit p (number_of y n) ≡ y p
+pub number_bit : (y : ℕ → Bool) (n p : ℕ) → p < n → bit p (number_of y n) ≡ y p
 number_bit y zero p lt = absurd (omega arith)
 number_bit y (suc n) p lt = at_place (dec_lt p n) (number_bit y n p)
   where
@@ -135,7 +135,7 @@ two_power : (i j : ℕ) → i ≤ j → 2 ^ i ≤ 2 ^ j
 two_power i j le = pow-le-pow_right {n = 2} (omega arith) {i = i} {j = j} le
 
 -- the block of an assignment
-block_within : (pins n : ℕ) → n < 2 ^ pins → n / 64 < block_count pins
+pub block_within : (pins n : ℕ) → n < 2 ^ pins → n / 64 < block_count pins
 block_within pins n lt = at_size (dec_lt pins 6)
   where
     at_size : Dec (pins < 6) → n / 64 < block_count pins

@@ -1,9 +1,10 @@
 -- An And is the conjunction of the And of all its operands but the last, and of the last.
-use Rattle.std.proofs.Common.{ℕ, zero, suc, ◌+◌, ◌-◌, ◌*◌, ◌/◌, ◌%◌, ◌^◌, ◌<◌, ◌≤◌, ◌≡◌, ◌==◌, Bool, true, false, ◌&&◌, cond, List, [], ◌∷◌, ◌++◌, length, take, drop, Some, slice_get, refl, ap, ap₂, sym, ◌∙◌, subst, arith, pow-suc}
+use Rattle.std.proofs.Common.{ℕ, zero, suc, ◌+◌, ◌-◌, ◌*◌, ◌/◌, ◌%◌, ◌^◌, ◌<◌, ◌≤◌, ◌≡◌, ◌==◌, Bool, ◌&&◌, cond, List, [], ◌∷◌, ◌++◌, length, take, drop, Some, slice_get, ap, ap₂, sym, ◌∙◌, subst, arith, pow-suc}
 use Rattle.std.specs.List.{AllByRecursion, list_all}
 use Rattle.std.proofs.lemmas.List.{length-take-le, length-drop, take_all}
 use Rattle.std.proofs.lemmas.List.Folds.{list_all-append}
 use Rattle.std.proofs.lemmas.Nat.{pow_pos}
+use Rattle.std.proofs.Math.Bool.{and-true}
 use native.Mathlib.Decide.{dec_lt}
 use Rattle.lw_facts.proofs.Lists.{all_last, take_get}
 use Rattle.lw_laws.specs.NumberedForms.{NumberedForms, IsBefore, IsCut, IsPart}
@@ -12,14 +13,7 @@ use Rattle.lw_laws.specs.NumberedForms.IsCut.{cut_none, cut_left, cut_right}
 use Rattle.lw_laws.specs.NumberedValues.{AreNumberedValues}
 use Rattle.lw_form.specs.Bases.{picked}
 use Rattle.lw_form.specs.Kept.{AreForms, HasPart}
-
-and_true : (b : Bool) → b ≡ (b && true)
-and_true true = refl
-and_true false = refl
-
-picked_zero : (fs : List ℕ) → picked fs 0 ≡ []
-picked_zero [] = refl
-picked_zero (f ∷ fs) = picked_zero fs
+use Rattle.lw_form.proofs.Parts.{picked_zero}
 
 -- the mask of the first operands
 picked_first : (fs : List ℕ) (k : ℕ) → k ≤ length fs → picked fs (2 ^ k - 1) ≡ take k fs
@@ -51,7 +45,7 @@ part_once forms are (f ∷ h ∷ fs) x y (a, e, p) (b, d, q) = p ∙ (ap (λ n. 
 
 part_value : (forms : NumberedForms) (x value : ℕ → Bool) → AreNumberedValues forms x value → (ls : List ℕ) (p : ℕ) → IsPart forms ls p → value p ≡ list_all value ls
 part_value forms x value are [] p is = absurd is
-part_value forms x value are (f ∷ []) p is = ap value is ∙ and_true (value f)
+part_value forms x value are (f ∷ []) p is = ap value is ∙ sym (and-true (value f))
 part_value forms x value are (f ∷ h ∷ fs) p (b, e, q) = ap value q ∙ are.bases b (base_and (f ∷ h ∷ fs)) e
 
 -- the mask names all operands but the last
@@ -97,7 +91,7 @@ module _ (forms : NumberedForms) (are : AreForms forms) (b : ℕ) (fs : List ℕ
       values.bases b (base_and fs) at
       ∙ (ap (list_all value) (whole l last)
       ∙ (list_all-append value (take (count - 1) fs) (l ∷ [])
-      ∙ ap₂ (λ (c d : Bool). c && d) (sym (part_value forms x value values (take (count - 1) fs) p first)) (sym (and_true (value l)))))
+      ∙ ap₂ (λ (c d : Bool). c && d) (sym (part_value forms x value values (take (count - 1) fs) p first)) (and-true (value l))))
 
 -- a listed input is one of the network's
 pub input_known : (forms : NumberedForms) → AreForms forms → (b i : ℕ) → slice_get forms.bases b ≡ Some (base_input i) → b < length forms.bases → i < forms.inputs

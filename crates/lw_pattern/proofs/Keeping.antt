@@ -48,17 +48,18 @@ in_at trees first (n ∷ nodes) (suc i) node (p, a) e =
     let there : first + 1 + i ≡ first + suc i = omega arith in
     subst (λ k. IsIn trees k node) there (in_at trees (first + 1) nodes i node a e)
 
+-- a tree has a node
+pub node_count_positive : (t : Tree) → 1 ≤ node_count t
+node_count_positive (leaf k) = omega arith
+node_count_positive const_one = omega arith
+node_count_positive const_zero = omega arith
+node_count_positive (inv t) = omega arith
+node_count_positive (nand t u) = omega arith
+
 module _ (trees : List Tree) where
   -- the last of the nodes has this tree
   root_in : (before after : List Tree) (t : Tree) (first place : ℕ) → trees ≡ before ++ (subtrees t ++ after) → length before ≡ first → place ≡ first + node_count t - 1 → tree_in trees place ≡ t
   root_in before after t first place whole size at = ap₂ tree_in whole at ∙ root_at before after t first size
-
-  some_node : (t : Tree) → 1 ≤ node_count t
-  some_node (leaf k) = omega arith
-  some_node const_one = omega arith
-  some_node const_zero = omega arith
-  some_node (inv t) = omega arith
-  some_node (nand t u) = omega arith
 
   nodes_in : (t : Tree) (first : ℕ) (before after : List Tree) → trees ≡ before ++ (subtrees t ++ after) → length before ≡ first → ((k : ℕ) → HasLeaf t k → k < 16) → AllIn trees first (nodes_from first t)
   nodes_in (leaf k) first before after whole size small = ((small k refl, root_in before after (leaf k) first first whole size (omega arith)), tt)
@@ -66,7 +67,7 @@ module _ (trees : List Tree) where
   nodes_in const_zero first before after whole size small = (root_in before after const_zero first first whole size (omega arith), tt)
   nodes_in (inv t) first before after whole size small =
       let p = first + node_count t - 1 in
-      let some : 1 ≤ node_count t = some_node t in
+      let some : 1 ≤ node_count t = node_count_positive t in
       let inner : trees ≡ before ++ (subtrees t ++ inv t ∷ after) = whole ∙ ap (λ ts. before ++ ts) (append_assoc (subtrees t) (inv t ∷ []) after) in
       let long : length (nodes_from first t) ≡ node_count t = length_nodes first t in
       let own : tree_in trees (first + length (nodes_from first t)) ≡ inv t = root_in before after (inv t) first (first + length (nodes_from first t)) whole size (omega arith) in
@@ -77,8 +78,8 @@ module _ (trees : List Tree) where
       let q = first + node_count t + node_count u - 1 in
       let second = first + node_count t in
       let us = nodes_from second u in
-      let some : 1 ≤ node_count t = some_node t in
-      let more : 1 ≤ node_count u = some_node u in
+      let some : 1 ≤ node_count t = node_count_positive t in
+      let more : 1 ≤ node_count u = node_count_positive u in
       let rest : trees ≡ before ++ (subtrees t ++ (subtrees u ++ nand t u ∷ after)) =
       whole ∙ (ap (λ ts. before ++ ts) (append_assoc (subtrees t) (subtrees u ++ nand t u ∷ []) after ∙ ap (λ ts. subtrees t ++ ts) (append_assoc (subtrees u) (nand t u ∷ []) after))) in
       let split : trees ≡ (before ++ subtrees t) ++ (subtrees u ++ nand t u ∷ after) = rest ∙ sym (append_assoc before (subtrees t) (subtrees u ++ nand t u ∷ after)) in
@@ -107,7 +108,7 @@ is_node_at nodes place (Nand p q) r = r
 kept_nodes : (t : Tree) (pins : ℕ) → pins ≤ 16 → ((k : ℕ) → HasLeaf t k ↔ (k < pins)) → node_count t ≤ 254 → IsKept (nodes_of t)
 kept_nodes t pins few leaves size =
     let long : length (nodes_of t) ≡ node_count t = length_nodes 0 t in
-    let one : 1 ≤ node_count t = some_node [] t in
+    let one : 1 ≤ node_count t = node_count_positive t in
     record {
       some = omega arith;
       few = omega arith;

@@ -13,11 +13,11 @@ pub rep_of-double : (forms : List ℕ) (k : ℕ) → rep_of forms (2 * k) ≡ sl
 rep_of-double forms k =
     in_phase_double k (slice_index forms (2 * k / 2)) ∙ ap (slice_index forms) (half_double k)
 
-count_here : (next c : ℕ) → c ≡ 2 * next → (if c == 2 * next then suc next else next) ≡ suc next
+pub count_here : (next c : ℕ) → c ≡ 2 * next → (if c == 2 * next then suc next else next) ≡ suc next
 count_here next c e =
     let t : (c == 2 * next) ≡ true = grind (arith, e) in ap (λ b. if b then suc next else next) t
 
-count_there : (next c : ℕ) → c / 2 < next → (if c == 2 * next then suc next else next) ≡ next
+pub count_there : (next c : ℕ) → c / 2 < next → (if c == 2 * next then suc next else next) ≡ next
 count_there next c l =
     let ne : c ≢ 2 * next = λ e. omega arith in
     let t : (c == 2 * next) ≡ false = grind (arith, ne) in

@@ -1,6 +1,7 @@
 -- Conjunctions that need no node.
 use Rattle.std.proofs.Common.{ℕ, ◌≡◌, Bool, true, false, not, ◌&&◌, refl, ap, sym, ◌∙◌, List, arith}
 use Rattle.std.proofs.lemmas.Option.{slice_get_within}
+use Rattle.std.proofs.Math.Bool.{and-true}
 use Rattle.lw_aig.specs.declared.gate.Gate.{Gate}
 use Rattle.lw_aig.specs.declared.gate.Gate.TheVariants.{Zero}
 use Rattle.lw_aig.specs.declared.literal.Literal.{Literal}
@@ -20,10 +21,6 @@ with_complement false = refl
 with_false : (b : Bool) → false ≡ (b && false)
 with_false true = refl
 with_false false = refl
-
-with_true : (b : Bool) → b ≡ (b && true)
-with_true true = refl
-with_true false = refl
 
 module _ (gates : List Gate) (aig : IsAig gates) (v : ℕ → Bool) (values : AreNodeValues gates v) where
   zero_value : (l : Literal) → l.0 ≡ 0 → literal_value v l ≡ false
@@ -69,5 +66,5 @@ left_one left right e gates aig low high = record {
 pub right_one : (left right : Literal) → right.0 ≡ 1 → IsAlwaysConjunction left right left
 right_one left right e gates aig low high = record {
   within = low;
-  always = λ v values. with_true (literal_value v left) ∙ ap (λ b. literal_value v left && b) (sym (one_value gates aig v values right e));
+  always = λ v values. sym (and-true (literal_value v left)) ∙ ap (λ b. literal_value v left && b) (sym (one_value gates aig v values right e));
 }
