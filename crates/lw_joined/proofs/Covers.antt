@@ -42,13 +42,12 @@ use Rattle.lw_extract.specs.Choosing.{heights}
 use Rattle.lw_extract.specs.Covers.{AreFit, IsExtractedCover, IsFirstUncovered}
 use Rattle.lw_map.specs.declared.fault.MapFault.{MapFault}
 use Rattle.lw_map.specs.declared.fault.MapFault.TheVariants as map_fault
-use Rattle.lw_map.specs.Options.{Options, plain_options}
+use Rattle.lw_map.specs.Options.{Options}
 use Rattle.lw_map.specs.Ports.{ArePortsOf}
 use Rattle.lw_map.proofs.Composed.{port_names}
 use Rattle.lw_map.proofs.GateCount.{few_gates}
 use Rattle.lw_map.proofs.PortNames.{few_outputs}
 use Rattle.lw_joined.specs.declared.choices.Joined.{Joined}
-use Rattle.lw_joined.specs.declared.covering.Covered.{Covered}
 use Rattle.lw_joined.specs.Choices.{IsJoined}
 use Rattle.lw_joined.specs.Covering.{IsCoverFault, IsCoveredBy, IsFastestOver, IsFirstUncoveredOver, IsLackOver, IsUncoveredOver, options_of}
 use Rattle.lw_joined.specs.Joins.{joined_listing, own_form}
