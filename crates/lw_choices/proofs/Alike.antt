@@ -14,7 +14,7 @@ use Rattle.lw_choices.specs.Choices.Part.{gate}
 use Rattle.lw_choices.specs.PinUses.{plain_use, plain_uses, AreUsesIn, HasLikeRow}
 use Rattle.lw_choices.specs.Rows.{IsGateAdded}
 use Rattle.lw_choices.proofs.Lists.{get_last}
-use Rattle.lw_choices.proofs.Listing.{alike_itself}
+use Rattle.lw_choices.proofs.Growing.{alike_itself}
 
 pub plain_push : (us : List PinUse) (u : PinUse) → plain_uses (us ++ u ∷ []) ≡ plain_uses us ++ plain_use u ∷ []
 plain_push [] u = refl
