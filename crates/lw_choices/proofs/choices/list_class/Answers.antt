@@ -27,6 +27,9 @@ get-requires c =
     let is = c.loop-found.invariant.coming m (subst (λ ms. Contains ms m) (sym all) (last_in left m)) in
     slice_get_within c.args.pats.now c.in-Some.found.pat.0 is.pattern is.listed
 
+pub add_gate-requires-clause-few : goal.add_gate-requires-clause-few
+add_gate-requires-clause-few c = c.as_slice.ensures.few
+
 pub loop-found-preserved : goal.loop-found-preserved
 loop-found-preserved c =
     let left = map plain_match c.pop.new.self.items in

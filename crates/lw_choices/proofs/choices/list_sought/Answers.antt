@@ -24,7 +24,7 @@ pub loop-class-preserved : goal.loop-class-preserved
 loop-class-preserved c =
     let class = c.loop-class.class - 1 in
     let one : ◌≡◌ {A = ℕ} c.loop-class.class (class + 1) = omega (arith, c.loop-class-test.true) in
-    let here = subst (λ k. AreListedFrom c.args.graph.now c.args.pats.now c.args.lib.now k c.loop-class.to.rows.items) one c.loop-class.invariant.listing in
+    let here = subst (λ k. AreListedFrom c.args.graph.now c.args.pats.now c.args.lib.now k c.loop-class.to.rows) one c.loop-class.invariant.listing in
     record {
       low = omega (arith, c.loop-class.invariant.low);
       way = c.in_ok-list_class.ensures.way c.args.lib.now c.loop-class.invariant.way;
@@ -34,4 +34,4 @@ loop-class-preserved c =
 pub returns : goal.returns
 returns c =
     let over : ◌≡◌ {A = ℕ} c.loop-class.class 0 = omega (arith, c.loop-class-test.false) in
-    subst (λ k. AreListedFrom c.args.graph.now c.args.pats.now c.args.lib.now k c.loop-class.to.rows.items) over c.loop-class.invariant.listing
+    subst (λ k. AreListedFrom c.args.graph.now c.args.pats.now c.args.lib.now k c.loop-class.to.rows) over c.loop-class.invariant.listing

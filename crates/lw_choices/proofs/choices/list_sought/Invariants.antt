@@ -6,7 +6,7 @@ abbrev pub invariant-loop-class : goal.invariant-loop-class
 invariant-loop-class l = record {
   low : l.class ≤ length l.graph.pairs;
   way : IsUnderWay l.lib l.to;
-  listing : AreListedFrom l.graph l.pats l.lib l.class l.to.rows.items;
+  listing : AreListedFrom l.graph l.pats l.lib l.class l.to.rows;
 }
 
 abbrev pub decreases-loop-class : goal.decreases-loop-class

@@ -31,6 +31,9 @@ read-found-requires-clause-fresh c =
 pub add_gate-requires-clause-count : goal.add_gate-requires-clause-count
 add_gate-requires-clause-count c = c.loop-place.invariant.way.count
 
+pub add_gate-requires-clause-few : goal.add_gate-requires-clause-few
+add_gate-requires-clause-few c = c.as_slice.ensures.few
+
 pub loop-place-preserved : goal.loop-place-preserved
 loop-place-preserved c = record {
   lists = c.read-found.ensures.lists ∙ c.loop-place.invariant.lists;
