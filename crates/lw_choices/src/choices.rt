@@ -1,5 +1,5 @@
 // The inputs and the matches that may stand at classes.
-ghost use Rattle.std.specs.Prelude.{◌≡◌, ◌<◌, ◌+◌, IfOk, OnOk, length, map};
+ghost use Rattle.std.specs.Prelude.{◌≡◌, ◌<◌, IfOk, OnOk, length, map};
 ghost use Rattle.lw_cost.specs.Coming.{AreMatches};
 ghost use Rattle.lw_cost.specs.Values.{plain_match};
 ghost use Rattle.lw_choices.specs.PinUses.{bucket_count};

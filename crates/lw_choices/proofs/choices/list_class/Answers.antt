@@ -1,4 +1,4 @@
-use Rattle.std.proofs.Common.{◌≡◌, [], ◌++◌, ◌∷◌, length, map, Contains, refl, sym, subst, arith}
+use Rattle.std.proofs.Common.{length, map, Contains, refl, sym, subst, arith}
 use Rattle.std.proofs.lemmas.List.{nil_from_length}
 use Rattle.std.proofs.lemmas.Option.{slice_get_within}
 use Rattle.lw_cost.specs.Values.{plain_match}

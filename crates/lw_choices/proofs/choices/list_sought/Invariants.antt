@@ -1,4 +1,4 @@
-use Rattle.std.proofs.Common.{◌≤◌, List, length}
+use Rattle.std.proofs.Common.{◌≤◌, length}
 use Rattle.lw_choices.specs.Rows.{AreListedFrom, IsUnderWay}
 use Rattle.lw_choices.proofs.choices.list_sought.Given as goal
 

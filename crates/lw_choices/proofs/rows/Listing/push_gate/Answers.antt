@@ -1,8 +1,8 @@
-use Rattle.std.proofs.Common.{◌≡◌, ◌∙◌, ◌+◌, ◌++◌, ◌∷◌, ◌≤◌, [], ap, length, refl, subst, subst₂, sym, arith}
+use Rattle.std.proofs.Common.{◌≡◌, ◌∙◌, ◌+◌, ◌++◌, ◌∷◌, ◌≤◌, [], ap, length, refl, subst₂, sym, arith}
 use Rattle.std.proofs.lemmas.List.{length-append}
 use Rattle.lw_choices.specs.declared.rows.KeptStand.TheVariants.{Gate}
 use Rattle.lw_choices.specs.declared.rows.Row.{Row}
-use Rattle.lw_choices.specs.Kept.{AreKeptIn, IsKeptIn, kept_rows}
+use Rattle.lw_choices.specs.Kept.{AreKeptIn, kept_rows}
 use Rattle.lw_choices.specs.Stands.{choice_of}
 use Rattle.lw_choices.proofs.Keeping.{gate_pushed, kept_in, kept_later}
 use Rattle.lw_choices.proofs.rows.Listing.push_gate.Goals as goal
