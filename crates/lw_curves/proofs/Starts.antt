@@ -74,9 +74,13 @@ first_still s choices u coming looked first none same = (
   },
 )
 
-pub numbers_none : (cs : List ClassId) → numbers cs ≡ [] → cs ≡ []
+pub numbers_none : (cs : List ClassId) → length cs ≡ 0 → numbers cs ≡ []
 numbers_none [] e = refl
-numbers_none (c ∷ cs) e = absurd (let z : suc (length (numbers cs)) ≡ 0 = ap length e in omega arith)
+numbers_none (c ∷ cs) e = absurd (omega (arith, e))
+
+pub count_none : (cs : List ClassId) → numbers cs ≡ [] → ◌≡◌ {A = ℕ} (length cs) 0
+count_none [] e = refl
+count_none (c ∷ cs) e = absurd (let z : suc (length (numbers cs)) ≡ 0 = ap length e in omega arith)
 
 pub only_number : (q : Queued) (time n t m : ℕ) → Waits q t m ⊎ ((t ≡ time) × (m ≡ n)) → Waits q t m ⊎ (m ≡ n)
 only_number q time n t m (inl w) = inl w
