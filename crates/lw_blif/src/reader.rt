@@ -1,7 +1,6 @@
 // Reads a network's text line by line.
 ghost use Rattle.std.specs.Prelude.{◌≡◌, ◌++◌, [], ◌∷◌, List, Err, IfOk, IfSome, IsSome, Some};
 ghost use Rattle.lw_blif.specs.Given.{IsKeptOfSome};
-ghost use Rattle.lw_blif.specs.Standing.{fault_of};
 
 use crate::command::command_of;
 use crate::naming::first_word;
@@ -10,16 +9,6 @@ use crate::{BlifFault, BlifKind, Command, Parsed};
 use lw_blif_text::Stop;
 use lw_words::Line;
 use std::alloc::Global;
-
-// What a reader that stopped answers from then on.
-fn fault_of(stop: Stop<BlifKind>) -> BlifFault
-    ensures { result ≡ fault_of stop }
-{
-    match stop {
-        Stop::Broken(number, kind) => BlifFault::Line(number, kind),
-        Stop::Memory => BlifFault::Memory,
-    }
-}
 
 impl Command {
     ghost use Rattle.lw_blif.specs.LineFaults.{ends};
@@ -51,8 +40,18 @@ impl Reader {
     ghost use Rattle.lw_words.specs.Lines.{LogicalLine};
     ghost use Rattle.lw_blif.specs.LineFaults.{first_fault, lines_read};
     ghost use Rattle.lw_blif.specs.BlifNetworks.{IsBlifNetwork, IsModel};
-    ghost use Rattle.lw_blif.specs.Standing.{StandsFor, Tells, Stopped, stop_of};
+    ghost use Rattle.lw_blif.specs.Standing.{StandsFor, Tells, Stopped, fault_of, stop_of};
     ghost use Rattle.lw_net.specs.Plain.{HasRisingDepths};
+
+    // What a reader that stopped answers from then on.
+    fn fault_of(stop: Stop<BlifKind>) -> BlifFault
+        ensures { result ≡ fault_of stop }
+    {
+        match stop {
+            Stop::Broken(number, kind) => BlifFault::Line(number, kind),
+            Stop::Memory => BlifFault::Memory,
+        }
+    }
 
     /// A reader of a model, before its first line.
     pub fn new(alloc: Global) -> Self
@@ -78,7 +77,7 @@ impl Reader {
         ensures unchanged { IsSome (stop_of self.old) → self.new ≡ self.old }
     {
         if let Some(stop) = self.stop {
-            return Err(fault_of(stop));
+            return Err(Self::fault_of(stop));
         }
         if self.ended {
             return Ok(());
@@ -115,7 +114,7 @@ impl Reader {
         let Reader { stop, parts, .. } = self;
         if let Some(stop) = stop {
             drop(parts);
-            return Err(fault_of(stop));
+            return Err(Self::fault_of(stop));
         }
         parts.close()
     }
