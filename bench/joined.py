@@ -1,7 +1,7 @@
 #!/usr/bin/env python3
 """Delay and area of lwarea over the steps of ABC's rounds as further networks, beside ABC's own netlists.
 
-  joined.py [-l LIB] [-e EFFORTS] [-p PART] [-a] [-c] [-f] [CIRCUIT.blif..]
+  joined.py [-l LIB] [-e EFFORTS] [-p PART] [-a] [-c] [-f] [-r] [CIRCUIT.blif..]
 
 For each circuit (those of bench/circuits and bench/further if none is named) ABC writes eleven networks: f0 ('strash'), m0 (its netlist),
 f1, g1, d, f2, g2, f3, g3, f4, g4, where fk is the network of two-input nodes after k rounds, gk ABC's netlist after them, and d that
@@ -13,6 +13,8 @@ nodes found equal, told apart and left; processor time and memory. With -p every
 -a prints what each further network adds, with 'max' at effort 2: means over the first networks, one more in each row.
 -c compares each netlist with its circuit as given, by lwequal and by cec.
 -f prints the figures of each circuit.
+-r takes the library in Liberty that LIBERTY names (osu035), and delays and areas are those after ABC has buffered and sized a netlist
+under loads. Deadlines are 'max' and '102%', and a row has the best of all runs of each circuit.
 """
 import getopt
 import os
@@ -23,13 +25,15 @@ import tempfile
 from area import circuits
 from lib import abc, equality, fronts, program, script
 from measure import ABC, UNMAP, Library, Room, counted, head, mean, plain, row, said
+from parts import Loaded
 
 HERE = os.path.dirname(os.path.realpath(__file__))
 SECONDS_EACH = 200
 STEPS = ("f0", "m0", "f1", "g1", "d", "f2", "g2", "f3", "g3", "f4", "g4")
 DEADLINES = {"max": "max", "each": "each", "102%": "102%", "abc": "ABC's delay"}
+UNDER_LOADS = ("max", "102%")
 NETLISTS = ("map", "dch; map", "1 round", "2 rounds", "3 rounds", "4 rounds")
-FOUR, BEST = NETLISTS[-1], "best"
+THREE, FOUR, BEST = *NETLISTS[-2:], "best"
 COUNTS = ("equal", "apart", "left")
 
 
@@ -82,13 +86,15 @@ def circuit(room, library, network, efforts, wanted):
         return {"failed": ["no networks by ABC"]}
     f = {"failed": [], "abc": found, "runs": {}, "verdicts": [], "adds": []}
     for effort in efforts:
-        for kind in DEADLINES:
+        for kind in UNDER_LOADS if "-r" in wanted else DEADLINES:
             it = Mapped(room, library, effort, f"{found[FOUR][0]:.6f}" if kind == "abc" else kind, [network, *files])
             if it.failed:
                 f["failed"].append(it.failed)
                 continue
             f["runs"][effort, kind] = it
             f["verdicts"] += compared(room, network, it.out, library) if "-c" in wanted else []
+    if "-r" in wanted and f["runs"]:
+        f["best"] = min(it.size for it in f["runs"].values())
     if "-a" in wanted:
         f["adds"] = [Mapped(room, library, "2", "max", [network, *files[:count]]).size for count in range(len(files) + 1)]
     return f
@@ -115,6 +121,18 @@ def show(figures, efforts):
                 f"{max(run.memory for run in runs):.0f}", *(sum(run.counts.get(kind, 0) for run in runs) for kind in COUNTS))
 
 
+def show_best(figures):
+    """The best of all runs of each circuit, and ABC's."""
+    head("best by circuit", "circuits", "to three rounds: delay", "area", "earlier", "to the best: delay", "area", "earlier")
+    every = [f for f in figures.values() if f.get("best")]
+    for name, mine in (("`lwarea`", [f["best"] for f in every]), ("ABC", [f["abc"][BEST] for f in every])):
+        cells = []
+        for other in (THREE, BEST):
+            pairs = [(one, f["abc"][other]) for one, f in zip(mine, every)]
+            cells += [*(said(mean([one[k] / two[k] for one, two in pairs])) for k in (0, 1)), sum(one[0] < two[0] for one, two in pairs)]
+        row(name, len(every), *cells)
+
+
 def adds(figures):
     """Means over the first networks, to ABC's four rounds."""
     head("networks", "circuits", "delay", "area")
@@ -133,7 +151,7 @@ def each(figures, efforts):
 
 
 def main(words):
-    options, named = getopt.getopt(words, "l:e:p:acf")
+    options, named = getopt.getopt(words, "l:e:p:acfr")
     options = dict(options)
     name, efforts = options.get("-l", "mcnc"), options.get("-e", "12")
     files = {os.path.basename(file).removesuffix(".blif"): os.path.abspath(file) for file in named}
@@ -142,7 +160,7 @@ def main(words):
     with tempfile.TemporaryDirectory() as folder:
         room = Room(folder, program.path())
         room.limit = SECONDS_EACH
-        library = Library(room, name, os.path.join(HERE, "libs", name + ".genlib"))
+        library = Loaded(room) if "-r" in options else Library(room, name, os.path.join(HERE, "libs", name + ".genlib"))
         program.path("lwarea")
         figures = {}
         for key, path in (files or circuits(int(options["-p"]) if "-p" in options else None)).items():
@@ -150,7 +168,7 @@ def main(words):
             for line in figures[key]["failed"]:
                 print(f"failed: {key}: {line}", file=sys.stderr)
         show(figures, efforts)
-        for wanted, part in (("-a", lambda: adds(figures)), ("-f", lambda: each(figures, efforts))):
+        for wanted, part in (("-r", lambda: show_best(figures)), ("-a", lambda: adds(figures)), ("-f", lambda: each(figures, efforts))):
             if wanted in options:
                 print()
                 part()

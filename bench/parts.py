@@ -250,15 +250,9 @@ def others(room, kept, circuits):
 
 # Loads
 
+LIBERTY = os.environ.get("LIBERTY", "/usr/share/qflow/tech/osu035/osu035_stdcells.lib")
 STEPS = ["raw", "buffered", "sized"]
 LOADS = "topo; stime; buffer; topo; stime; upsize; dnsize; stime"
-
-
-def stime(room, liberty, netlist):
-    """Area and delay as ABC's 'stime' prints them after each step."""
-    run = room.once([ABC, "-s", "-q", f"read_lib -w {liberty}; read_blif {netlist}; {LOADS}"])
-    with open(run.out, encoding="latin-1") as text:
-        return re.findall(r"Area = *([0-9.]+).*Delay = *([0-9.]+) ps", text.read())
 
 
 def script_to(path, *words):
@@ -266,43 +260,64 @@ def script_to(path, *words):
         subprocess.run(words, stdout=out, stderr=subprocess.DEVNULL, check=False)
 
 
-def loads_circuit(room, library, liberty, network, script):
+class Loaded(Library):
+    """A library in Liberty, whose netlists ABC times with loads and slews. Pads and buffers for clocks are left out."""
+
+    def __init__(self, room):
+        self.room, self.liberty = room, room.path("given.lib")
+        with open(LIBERTY, encoding="latin-1") as text, open(self.liberty, "w", encoding="latin-1") as out:
+            out.write(without([], text.read())[0])
+        script_to(room.path("liberty.genlib"), "sh", os.path.join(ROOT, "tools", "liberty.sh"), LIBERTY)
+        super().__init__(room, "liberty", room.path("liberty.genlib"))
+
+    def block(self, path):
+        """Delay and area by the delays of the cells alone."""
+        return super().size(path)
+
+    def steps(self, path):
+        """Delay and area as ABC's 'stime' prints them of the netlist, of the buffered and of the sized one."""
+        made = self.room.path("nowires")
+        script_to(made, sys.executable, os.path.join(ROOT, "tools", "nowires.py"), self.peers, path)
+        run = self.room.once([ABC, "-s", "-q", f"read_lib -w {self.liberty}; read_blif {made}; {LOADS}"], "stime.out")
+        with open(run.out, encoding="latin-1") as text:
+            return [(float(delay), float(area)) for area, delay in re.findall(r"Area = *([0-9.]+).*Delay = *([0-9.]+) ps", text.read())]
+
+    def size(self, path):
+        """Delay and area of the buffered and sized netlist."""
+        return self.steps(path)[-1]
+
+
+def loads_circuit(room, library, network, script):
     """The figures of both mappers, as given or after the commands of a script that ends in 'map'."""
     f = {}
     theirs, ours, run, given = both_mapped(room, library, network, script)
     if not theirs or not ours:
         return f
-    netlists = [("lwmap", ours, run.out, library.path), ("abc", theirs, room.path("abc.blif"), library.peers)]
+    netlists = [("lwmap", ours, run.out), ("abc", theirs, room.path("abc.blif"))]
     if program.has("lwarea"):
         run = room.once([program.path("lwarea"), "-n", library.path, given], "recovered.blif")
-        netlists += [("lwarea", library.size(run.out), run.out, library.path)] if run.ok() else []
-    for who, size, path, cells in netlists:
+        netlists += [("lwarea", library.block(run.out), run.out)] if run.ok() else []
+    for who, size, path in netlists:
         f[who + " own"], f[who + " own area"] = size
-        script_to(room.path("nowires"), sys.executable, os.path.join(ROOT, "tools", "nowires.py"), cells, path)
-        for step, (area, delay) in zip(STEPS, stime(room, liberty, room.path("nowires"))):
-            f[f"{who} {step}"], f[f"{who} {step} area"] = float(delay), float(area)
+        for step, (delay, area) in zip(STEPS, library.steps(path)):
+            f[f"{who} {step}"], f[f"{who} {step} area"] = delay, area
     return f
 
 
 def loads(room, kept, circuits):
     """With a library in Liberty, whose loads and slews ABC's 'stime' counts. Pads and buffers for clocks are left out."""
-    liberty = os.environ.get("LIBERTY", "/usr/share/qflow/tech/osu035/osu035_stdcells.lib")
     print("### Real loads\n")
-    if not os.path.exists(liberty):
-        print(f"Not measured: there is no {os.path.basename(liberty)}.\n")
+    if not os.path.exists(LIBERTY):
+        print(f"Not measured: there is no {os.path.basename(LIBERTY)}.\n")
         return
-    with open(liberty, encoding="latin-1") as text, open(room.path("given.lib"), "w", encoding="latin-1") as out:
-        out.write(without([], text.read())[0])
-    script_to(room.path("liberty.genlib"), "sh", os.path.join(ROOT, "tools", "liberty.sh"), liberty)
-    library = Library(room, "liberty", room.path("liberty.genlib"))
+    library = Loaded(room)
     ours = ["lwmap"] + ["lwarea"] * program.has("lwarea")
-    head(f"{os.path.basename(liberty)}, {len(circuits)} circuits", "figure", "circuits",
+    head(f"{os.path.basename(LIBERTY)}, {len(circuits)} circuits", "figure", "circuits",
          *[cell for who in ours for cell in (f"`{who}` to ABC's `map`", "lower/equal/higher", "area")])
     for kind, name in KINDS.items():
         figures = {}
         for circuit, network in circuits.items():
-            figures[circuit] = kept.of("loads", kind, circuit, make=lambda: loads_circuit(room, library, room.path("given.lib"), network,
-                                                                                          SCRIPTS[name]))
+            figures[circuit] = kept.of("loads", kind, circuit, make=lambda: loads_circuit(room, library, network, SCRIPTS[name]))
         for step in ["own", *STEPS]:
             cells, number = [], ratio(figures, "lwmap " + step, "abc " + step)[1]
             for who in ours:

@@ -1,5 +1,5 @@
 -- What was written with its certificate is accepted by a check over the same library and network.
-use Rattle.std.proofs.Common.{ℕ, ◌≤◌, ◌≡◌, inl, inr, true, false, Bool, List, [], ◌∷◌, length, Option, Some, None, Ok, refl, ap, ap₂, ◌∙◌, subst}
+use Rattle.std.proofs.Common.{ℕ, ◌≤◌, ◌≡◌, inl, true, false, Bool, List, [], ◌∷◌, length, Option, Some, None, Ok, refl, ap, ap₂, ◌∙◌, subst}
 use Rattle.lw_mapped.specs.declared.certificate.Certificate.{Certificate}
 use Rattle.lw_mapped.specs.Alike.{AreSameMapped}
 use Rattle.lw_mapped.specs.Readable.{read_of}
@@ -27,7 +27,6 @@ use Rattle.lw_joined.specs.Joins.{joined_listing}
 use Rattle.lw_joined.specs.Unions.{united}
 use Rattle.lw_joined.proofs.Alone.{no_links, plain_alone}
 use Rattle.lw_area.specs.declared.sources.Further.{Further}
-use Rattle.lw_files.specs.Sources.{ReadsModel, text_of, within_limit}
 use Rattle.lw_files.specs.Steps.{Files}
 use Rattle.lw_files.proofs.Kept.{cells_kept, model_kept}
 use Rattle.lw_top.specs.Answers.{IsAnswer, IsCheckAnswer, asked_for}
@@ -35,7 +34,7 @@ use Rattle.lw_top.specs.Checks.{yes_text}
 use Rattle.lw_top.specs.Words.{checking}
 use Rattle.lw_top.proofs.Asked.{names_read}
 use Rattle.lw_top.proofs.InRange.{command_in_range}
-use Rattle.lw_answers.proofs.Accepted.{library_again, text_there}
+use Rattle.lw_answers.proofs.Accepted.{library_again, network_again, text_there}
 use Rattle.lw_area.specs.declared.words.Deadline.TheVariants.{Each}
 use Rattle.lw_area.specs.Checked.{IsCheckOf}
 use Rattle.lw_area.specs.Promises.{IsRecoveryOf}
@@ -45,12 +44,6 @@ use Rattle.lw_area.specs.Words.{Settings, Task}
 use Rattle.lw_area.proofs.CertifiedWords.{certified_each}
 use Rattle.lw_area.proofs.Checkable.{IsOverListing, accepted, readable}
 use Rattle.lw_area.proofs.Fastest.{fastest_mapping}
-
--- the network is read again where its text stands
-network_again : (name other : List ℕ) (files others : Files) (model : Parsed) → others other ≡ files name → ReadsModel name files (Ok model) → ReadsModel other others (Ok model)
-unfolding text_of
-network_again name other files others model same (inl (bytes, text, has)) = inl (bytes, ap within_limit same ∙ text, has)
-network_again name other files others model same (inr (e, refused, is)) = cc
 
 -- one network without links is mapped over its own forms
 module _ (settings : Settings) (net : NetworkParts) (kept : IsNetwork net) (further : List Further) (none : further ≡ []) (unlinked : settings.linked ≡ false) (space : Space) (over : IsSpaceOf settings net further space) where

@@ -8,7 +8,7 @@ use Rattle.std.proofs.lemmas.Option.{get_or_from_slice_get, slice_get_within}
 use Rattle.lw_facts.proofs.Lists.{get_right, index_at, some_within}
 use Rattle.lw_words.specs.Words.{IsSignalName}
 use Rattle.lw_fixed.specs.declared.micro.Micro.{Micro}
-use Rattle.lw_pool.specs.Numbers.{numbers, net_number}
+use Rattle.lw_pool.specs.Numbers.{net_number}
 use Rattle.lw_pool.specs.declared.id.ClassId.{ClassId}
 use Rattle.lw_pool.specs.declared.id.NetId.{NetId}
 use Rattle.lw_laws.specs.Costs.{Cost}
@@ -18,7 +18,6 @@ use Rattle.lw_laws.specs.Extracts.{class_at, net_classes}
 use Rattle.lw_laws.specs.Graphs.{Graph, most_classes}
 use Rattle.lw_laws.specs.Headline.{CoversForms, IsMapping, Port as PlainPort}
 use Rattle.lw_laws.specs.Listings.{Listing, listing_of}
-use Rattle.lw_laws.specs.Mapped.{root_class}
 use Rattle.lw_laws.specs.MappedNetlists.{AreNetNames, IsMatchNetlistOfForms, root_classes}
 use Rattle.lw_laws.specs.Matches.{IsLeastCover}
 use Rattle.lw_laws.specs.Networks.{Network}
@@ -68,6 +67,7 @@ use Rattle.lw_map.proofs.PortNames.{few_outputs, port_list, port_names}
 use Rattle.lw_map.proofs.Ranges.{label_below, unfolds_low}
 use Rattle.lw_answers.specs.Checked.{AreApart}
 use Rattle.lw_answers.proofs.FormGraphs.{form_graph}
+use Rattle.lw_answers.proofs.MappedChecks.{class_id, class_ids, roots_again}
 use Rattle.lw_top.proofs.NetNames.{nets-named}
 use Rattle.lw_area.specs.Recovered.{IsCertificateOver, class_number, form_in}
 use Rattle.lw_area.specs.Words.{Settings}
@@ -78,15 +78,6 @@ names_beside net [] [] z = refl
 names_beside net [] (q ∷ ports) z = absurd z
 names_beside net (o ∷ outputs) [] z = absurd z
 names_beside net (o ∷ outputs) (q ∷ ports) (e, z) = ap₂ (λ (n : List ℕ) (ns : List (List ℕ)). n ∷ ns) (sym e) (names_beside net outputs ports z)
-
--- Classes as numbers.
-
-abbrev class_id : ℕ → ClassId
-class_id c = record { 0 = c }
-
-class_ids : (cs : List ℕ) → numbers (map class_id cs) ≡ cs
-class_ids [] = refl
-class_ids (c ∷ cs) = ap (λ (ds : List ℕ). c ∷ ds) (class_ids cs)
 
 classes_below : (most : ℕ) (classes : List (Option ClassId)) (gates : List ℕ) → map (option_map class_number) classes ≡ map Some gates → ((j c : ℕ) → slice_get gates j ≡ Some c → c < most) → All (λ class. IfSome class (λ (c : ClassId). c.0 < most)) classes
 classes_below most [] gates e low = All-nil (λ class. IfSome class (λ (c : ClassId). c.0 < most))
@@ -211,10 +202,6 @@ module _ (settings : Settings) (cells : List CellParts) (model : Parsed) (wide :
   abbrev roots : List ℕ
   roots = root_classes options.width net g (ports_of model.network).outputs
 
-  roots_again : (outputs : List NetId) → root_classes options.width net g (map (output_port model.network) outputs) ≡ map (λ (output : NetId). root_class options.width net g output.0) outputs
-  roots_again [] = refl
-  roots_again (o ∷ outputs) = ap (λ (cs : List ℕ). root_class options.width net g o.0 ∷ cs) (roots_again outputs)
-
   -- The certificate.
 
   module _ (certificate : Certificate) (asked : IsCertificateOver cells model.starts g gates certificate) where
@@ -292,7 +279,7 @@ module _ (settings : Settings) (cells : List CellParts) (model : Parsed) (wide :
       wide = wide.least;
       is_graph = is.matches.is_graph;
       kept = is_graph;
-      roots = class_ids roots ∙ roots_again model.network.outputs;
+      roots = class_ids roots ∙ roots_again options.width net g model.network model.network.outputs;
       patterns = delay_patterns cells lib;
     }
 

@@ -1,10 +1,8 @@
 -- The answer to a task is that there is no cover exactly where some root has none.
 use Rattle.std.proofs.Common.{◌≡◌, ◌≢◌, ◌↔◌, inl, inr, ℕ, zero, suc, List, [], ◌∷◌, map, Some, Result, Ok, Err, Contains, slice_get, slice_index_or, refl, sym, ◌∙◌, subst, arith}
-use Rattle.std.proofs.lemmas.Option.{get_or_from_slice_get, slice_get_within}
 use Rattle.lw_facts.proofs.Lists.{at_contained}
 use Rattle.lw_pool.specs.declared.id.NetId.{NetId}
 use Rattle.lw_laws.specs.Headline.{Port as PlainPort, StandsForCoverOf}
-use Rattle.lw_laws.proofs.Lists.{slice_get_some}
 use Rattle.lw_laws.proofs.NetlistValues.{some_arrivals}
 use Rattle.lw_laws.proofs.Numbers.{slice_get_map}
 use Rattle.lw_net.specs.Networks.{NetworkParts, input_names}
@@ -26,6 +24,7 @@ use Rattle.lw_map.specs.Mapped.{IsWithinLimits}
 use Rattle.lw_map.proofs.Once.{zip_at}
 use Rattle.lw_joined.specs.Places.{ArePlacesOf, IsFirstStrange}
 use Rattle.lw_answers.proofs.Closed.{has_one_model}
+use Rattle.lw_answers.proofs.Uncovered.{at_place, contained}
 use Rattle.lw_area.specs.declared.refusal.Refusal.{Refusal}
 use Rattle.lw_area.specs.declared.refusal.Refusal.TheVariants as refusal
 use Rattle.lw_area.specs.declared.refusal.Refusal.TheVariants.{Library, Network, Unmapped}
@@ -67,17 +66,6 @@ library_one name files = read_one name files HasCells (cells_one files)
 
 model_one : (name : List ℕ) (files : Files) (a b : Result Parsed FileFault) → ReadsModel name files a → ReadsModel name files b → a ≡ b
 model_one name files = read_one name files HasModel (λ bytes a b p q. has_one_model bytes files a b p q)
-
--- Outputs at their places.
-
-contained : (outputs : List NetId) (place : ℕ) (root : NetId) → slice_get outputs place ≡ Some root → Contains outputs root
-contained outputs place root at = (place, slice_get_within outputs place root at, get_or_from_slice_get outputs place root root at)
-
-at_place : (outputs : List NetId) (root : NetId) → Contains outputs root → (place : ℕ) × (slice_get outputs place ≡ Some root)
-at_place outputs root (place, lt, is) =
-    let (other, at) = slice_get_some outputs place lt in
-    let same : other ≡ root = sym (get_or_from_slice_get outputs place other root at) ∙ is in
-    (place, subst (λ (o : NetId). slice_get outputs place ≡ Some o) same at)
 
 -- Further networks are read, or there is a reason that they are not.
 

@@ -201,17 +201,17 @@ module _ (s : Task) (plan : Plan) (trail : Trail) (ways : HaveWays s plan.curves
         let cell_is : of.gate.cell.0 ≡ cell.0 = sym of.cell_is ∙ (is.right.cell_is ∙ ap (λ (x : CellId). x.0) cell_same) in
         let own_at : slice_get s.cells cell.0 ≡ Some of.own = ap (λ (ls : List CellParts). slice_get ls cell.0) cells_are ∙ (ap (slice_get plan.lib.now) (sym cell_is) ∙ of.cell_at) in
         let time : d.time ≡ h.spot.time = of.time_is ∙ ap (λ (p : Point). p.time.0) (sym point) in
-        let chosen : slice_get plan.curves.now.choices h.choice ≡ Some (record { class = stands.choice.class; part = by_gate cell.0 (numbers of.gate.pins) }) =
-        ap (slice_get plan.curves.now.choices) (sym choice) ∙ (stands.choice_at ∙ ap (λ part. Some (record { class = stands.choice.class; part = part })) (stands.part_is ∙ ap (λ n. by_gate n (numbers of.gate.pins)) cell_is)) in
+        let chosen : slice_get plan.curves.now.choices h.choice ≡ Some (record { class = stands.choice.class; part = by_gate cell.0 (numbers of.gate.pins.now) }) =
+        ap (slice_get plan.curves.now.choices) (sym choice) ∙ (stands.choice_at ∙ ap (λ part. Some (record { class = stands.choice.class; part = part })) (stands.part_is ∙ ap (λ n. by_gate n (numbers of.gate.pins.now)) cell_is)) in
         let fed = pin_nets d d.delays.now d.pins.now is.row is.right.pins.one_net is.right.pins.one_delay is.right.pins.each in
         let fan : is.row ≡ fanins_at trail.walk.pins.items j = sym (get_or_from_slice_get trail.walk.pins.items j is.row [] is.row_at) in
         let delays : map millionths d.delays.now ≡ delays_of (timing s).delays cell.0 = ap (map millionths) of.delays_are ∙ sym (delays_at s.cells cell.0 of.own own_at) in
         record {
           class = stands.choice.class;
-          pins = numbers of.gate.pins;
+          pins = numbers of.gate.pins.now;
           chosen = chosen;
-          nets = subst₂ (λ b t. HavePinNets s ways.held sites_of b t (delays_of (timing s).delays cell.0) (numbers of.gate.pins) (fanins_at trail.walk.pins.items j)) (of.exact_is ∙ mode) time
-              (subst₂ (λ ds ns. HavePinNets s ways.held sites_of d.exact d.time ds (numbers of.gate.pins) ns) delays fan
+          nets = subst₂ (λ b t. HavePinNets s ways.held sites_of b t (delays_of (timing s).delays cell.0) (numbers of.gate.pins.now) (fanins_at trail.walk.pins.items j)) (of.exact_is ∙ mode) time
+              (subst₂ (λ ds ns. HavePinNets s ways.held sites_of d.exact d.time ds (numbers of.gate.pins.now) ns) delays fan
               (subst (λ ps. HavePinNets s ways.held sites_of d.exact d.time (map millionths d.delays.now) (numbers ps) is.row) of.pins_are fed));
         }
 

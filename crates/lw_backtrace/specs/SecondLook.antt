@@ -98,7 +98,7 @@ pub record IsDemand (plan : Plan) (node : Node) (demand : Demand) : Type 0 where
   pub point_at : slice_get row node.place ≡ Some point
   pub cell_at : slice_get plan.lib.now gate.cell.0 ≡ Some own
   pub cell_is : demand.cell.0 ≡ gate.cell.0
-  pub pins_are : demand.pins.now ≡ gate.pins
+  pub pins_are : demand.pins.now ≡ gate.pins.now
   pub delays_are : demand.delays.now ≡ own.delays
   pub time_is : demand.time ≡ point.time.0
   pub exact_is : demand.exact ≡ node.exact

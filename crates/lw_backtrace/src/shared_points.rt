@@ -72,7 +72,7 @@ fn fits(plan: &Plan, rank: Rank, place: u32) -> bool {
     let Some(Stand::Gate(gate)) = plan.curves.stand(rank.class, place) else {
         return false;
     };
-    for pin in gate.pins.as_slice() {
+    for pin in gate.pins {
         if !is_lower(plan, *pin, rank) {
             return false;
         }

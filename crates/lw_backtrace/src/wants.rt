@@ -90,7 +90,7 @@ pub(crate) fn demand_of<'a>(plan: &Plan<'a>, node: Node) -> Option<Demand<'a>>
     }
     Some(Demand {
         cell: gate.cell,
-        pins: gate.pins.as_slice(),
+        pins: gate.pins,
         delays: plan.lib.cell(gate.cell).delays(),
         time: point.time.0,
         exact: node.exact,

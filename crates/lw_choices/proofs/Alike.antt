@@ -1,5 +1,5 @@
 -- Pins of matches that are alike.
-use Rattle.std.proofs.Common.{◌≡◌, ℕ, zero, suc, ◌+◌, ◌<◌, ◌≤◌, ◌⊎◌, inl, inr, length, map, min, take, zip, List, [], ◌∷◌, ◌++◌, Some, slice_get, refl, ap, sym, ◌∙◌, subst, subst₂, arith}
+use Rattle.std.proofs.Common.{◌≡◌, ℕ, zero, suc, ◌+◌, ◌<◌, ◌≤◌, inr, length, map, min, take, zip, List, [], ◌∷◌, ◌++◌, Some, slice_get, refl, ap, sym, ◌∙◌, subst, subst₂, arith}
 use Rattle.std.specs.List.Sorted.{IsPermutation}
 use Rattle.std.proofs.lemmas.List.Sorted.{IsPermutation-sym, IsPermutation-trans}
 use Rattle.lw_fixed.specs.declared.micro.Micro.{Micro}
@@ -14,7 +14,7 @@ use Rattle.lw_choices.specs.Choices.Part.{gate}
 use Rattle.lw_choices.specs.PinUses.{plain_use, plain_uses, AreUsesIn, HasLikeRow}
 use Rattle.lw_choices.specs.Rows.{IsGateAdded}
 use Rattle.lw_choices.proofs.Lists.{get_last}
-use Rattle.lw_choices.proofs.Listing.{alike_itself}
+use Rattle.lw_choices.proofs.Growing.{alike_itself}
 
 pub plain_push : (us : List PinUse) (u : PinUse) → plain_uses (us ++ u ∷ []) ≡ plain_uses us ++ plain_use u ∷ []
 plain_push [] u = refl

@@ -1,6 +1,7 @@
 pub mod Alike
+pub mod Growing
+pub mod Keeping
 pub mod Linking
-pub mod Listing
 pub mod Lists
 pub mod Members
 pub mod Moving

@@ -1,10 +1,11 @@
 -- Chains stay links when a place is appended.
-use Rattle.std.proofs.Common.{◌≡◌, ◌≢◌, ℕ, zero, suc, ◌+◌, ◌<◌, ◌≤◌, ◌⊎◌, inl, inr, length, List, [], ◌∷◌, ◌++◌, Option, Some, None, slice_get, slice_set, refl, ap, sym, subst, subst₂, arith}
+use Rattle.std.proofs.Common.{◌≡◌, ◌≢◌, ◌==◌, if◌then◌else◌, Bool, true, false, ℕ, zero, suc, ◌+◌, ◌<◌, ◌≤◌, ◌⊎◌, inl, inr, length, List, [], ◌∷◌, ◌++◌, Option, Some, None, slice_get, slice_set, refl, ap, sym, subst, subst₂, arith}
+use Rattle.std.proofs.lemmas.Bool.{eqb-true}
 use Rattle.std.proofs.lemmas.List.{length-set}
 use Rattle.std.proofs.lemmas.Option.{same_Some, slice_get_within}
 use Rattle.lw_pool.specs.declared.id.ClassId.{ClassId}
 use Rattle.lw_pool.specs.Numbers.{numbers}
-use Rattle.lw_choices.specs.Chains.{number_count, HasNone, IsLast, AreChains}
+use Rattle.lw_choices.specs.Chains.{number_count, no_place, number_of, place_of, HasNone, IsLast, AreChains}
 use Rattle.lw_choices.proofs.Lists.{length_push, get_last, get_push, push_cases, set_cases}
 
 pub numbers_push : (classes : List ClassId) (c : ClassId) → numbers (classes ++ c ∷ []) ≡ numbers classes ++ c.0 ∷ []
@@ -73,6 +74,15 @@ module _ (cs : List ℕ) (befores heads : List (Option ℕ)) (class : ℕ) (befo
     heads_are = λ c o e. subst (λ n. IsLast (cs ++ class ∷ []) c n o) (sym size) (all_heads c o (set_cases heads class c (Some (length cs)) o e));
     before_is = λ i c o e f. all_before i c o (push_cases cs class i c e) (push_cases befores before i o f);
   }
+
+-- the number of a place is read as that place
+pub place_back : (cs : List ℕ) (c n : ℕ) (o : Option ℕ) → n < no_place → IsLast cs c n o → place_of (number_of o) ≡ o
+place_back cs c n None few last = refl
+place_back cs c n (Some p) few (low, at, none) = by_case (p == no_place) refl
+  where
+    by_case : (b : Bool) → p == no_place ≡ b → (if b then None else Some p) ≡ Some p
+    by_case true e = absurd (let same = eqb-true p no_place e in omega (arith, same, low, few))
+    by_case false e = refl
 
 -- a measure of a place and of the places before it
 abbrev pub place_measure : Option ℕ → ℕ

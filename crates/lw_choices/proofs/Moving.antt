@@ -1,5 +1,5 @@
 -- Matches that are found go to the end of a list, and come from there.
-use Rattle.std.proofs.Common.{◌≡◌, ℕ, length, map, List, [], ◌∷◌, ◌++◌, Contains, refl, ap, sym, ◌∙◌, subst, arith}
+use Rattle.std.proofs.Common.{◌≡◌, length, map, List, [], ◌∷◌, ◌++◌, Contains, refl, ap, sym, ◌∙◌}
 use Rattle.std.proofs.lemmas.List.{append-nil}
 use Rattle.lw_cost.specs.declared.mark.Match.{Match as Found}
 use Rattle.lw_cost.specs.Values.{plain_match}

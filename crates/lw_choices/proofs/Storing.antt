@@ -1,5 +1,5 @@
 -- Stored matches are listed one by one, the last one first.
-use Rattle.std.proofs.Common.{◌≡◌, ℕ, ◌+◌, ◌<◌, ◌≤◌, ◌⊎◌, inl, inr, length, List, [], ◌∷◌, ◌++◌, Some, slice_get, ap, sym, ◌∙◌, subst, arith}
+use Rattle.std.proofs.Common.{◌≡◌, ℕ, ◌+◌, ◌<◌, ◌≤◌, ◌⊎◌, inl, inr, length, List, [], Some, slice_get, ap, sym, ◌∙◌, subst, arith}
 use native.Mathlib.Nat.{eq-or-lt_of_le}
 use Rattle.std.proofs.lemmas.Option.{same_Some, slice_get_within}
 use Rattle.lw_cost.specs.Least.{AreOfCells}
@@ -10,7 +10,7 @@ use Rattle.lw_choices.specs.Choices.{Choice, IsListedLike, MayStand}
 use Rattle.lw_choices.specs.Choices.Part.{gate}
 use Rattle.lw_choices.specs.Tasks.{Task}
 use Rattle.lw_choices.specs.Rows.{IsGateAdded, IsListing}
-use Rattle.lw_choices.proofs.Listing.{each_more, like_more}
+use Rattle.lw_choices.proofs.Growing.{each_more, like_more}
 
 -- of the stored matches from a place on each is listed, or one that is alike
 pub record AreStoredFrom (s : Task) (ms : List Placed) (k : ℕ) (xs : List Choice) : Type 0 where

@@ -1,9 +1,23 @@
 -- Places of one array that are linked by their classes: each to the last one before it with the same class.
-use Rattle.std.specs.Prelude.{ℕ, ◌+◌, ◌^◌, ◌<◌, ◌≡◌, List, [], length, Option, Some, None, slice_get}
+use Rattle.std.specs.Prelude.{ℕ, ◌+◌, ◌-◌, ◌^◌, ◌<◌, ◌≡◌, ◌==◌, if◌then◌else◌, List, [], length, Option, Some, None}
+use Rattle.std.specs.Prelude.{slice_get}
 
 -- how many numbers have 32 bits
 abbrev pub number_count : ℕ
 number_count = 2 ^ 32
+
+-- what stands for no place
+abbrev pub no_place : ℕ
+no_place = 2 ^ 32 - 1
+
+-- the place that a number stands for
+abbrev pub place_of : ℕ → Option ℕ
+place_of n = if n == no_place then None else Some n
+
+-- the number that stands for a place
+abbrev pub number_of : Option ℕ → ℕ
+number_of None = no_place
+number_of (Some p) = p
 
 -- the classes of the places, and how many classes there are
 pub record ChainState : Type 0 where

@@ -54,6 +54,11 @@ abbrev pub HasPinAt : Part → ℕ → ℕ → Type 0
 HasPinAt (input i) k p = ⊥
 HasPinAt (gate cell ps) k p = slice_get ps k ≡ Some p
 
+-- how many pins it has
+abbrev pub pin_count : Part → ℕ
+pin_count (input i) = 0
+pin_count (gate cell ps) = length ps
+
 -- the delay of a pin, by the cells of a library
 abbrev pub pin_delay : List CellParts → Part → ℕ → ℕ
 pin_delay cells (input i) k = 0

@@ -3,7 +3,9 @@ pub mod Areas
 pub mod Chains
 pub mod Choices
 pub mod GroupChoices
+pub mod Kept
 pub mod PinGroups
 pub mod PinUses
 pub mod Rows
+pub mod Stands
 pub mod Tasks

@@ -1,47 +1,31 @@
 -- What may stand at classes, as the code lists it.
-use Rattle.std.specs.Prelude.{ℕ, ◌+◌, ◌<◌, ◌≤◌, ◌≡◌, ◌⊎◌, All, List, [], ◌∷◌, ◌++◌, length, map, Some, slice_get}
+use Rattle.std.specs.Prelude.{ℕ, ◌+◌, ◌<◌, ◌≤◌, ◌≡◌, ◌⊎◌, All, List, [], ◌∷◌, ◌++◌, length, Some, slice_get}
 use Rattle.lw_fixed.specs.declared.micro.Micro.{Micro}
 use Rattle.lw_genlib.specs.Cells.{CellParts}
 use Rattle.lw_laws.specs.Covers.{Pattern}
 use Rattle.lw_laws.specs.Graphs.{Graph}
 use Rattle.lw_cost.specs.Least.{AreOfCells}
 use Rattle.lw_settle.specs.Stores.{Stored, IsStoreOf}
-use Rattle.lw_pool.specs.declared.id.ClassId.{ClassId}
 use Rattle.lw_choices.specs.Areas.{area_cost}
 use Rattle.lw_choices.specs.declared.listed.Listed.{Listed}
-use Rattle.lw_choices.specs.declared.rows.Gate.{Gate as GateOfMatch}
-use Rattle.lw_choices.specs.declared.rows.ListedChoice.{ListedChoice}
-use Rattle.lw_choices.specs.declared.rows.Stand.{Stand}
-use Rattle.lw_choices.specs.declared.rows.Stand.TheVariants.{Input, Gate}
 use Rattle.lw_choices.specs.Choices.{Part, Choice, AreListedChoices, IsListedLike, MayStand, IsPartFor}
 use Rattle.lw_choices.specs.Choices.Part.{input, gate}
 use Rattle.lw_choices.specs.Chains.{number_count}
 use Rattle.lw_choices.specs.PinUses.{bucket_count}
 use Rattle.lw_choices.specs.Tasks.{Task, task}
-use Rattle.lw_pool.specs.Numbers.{numbers}
-
-abbrev pub plain_part : Stand → Part
-plain_part (Input i) = input i
-plain_part (Gate g) = gate g.cell.0 (numbers g.pins)
-
-abbrev pub plain_row : ListedChoice → Choice
-plain_row r = record { class = r.class.0; part = plain_part r.stand }
-
-abbrev pub plain_rows : List ListedChoice → List Choice
-plain_rows rows = map plain_row rows
 
 -- the choice and its pins are of so many classes, and its cell is of the library
-pub record IsRowFor (cells : List CellParts) (classes : ℕ) (row : ListedChoice) : Type 0 where
-  pub part : IsPartFor cells classes (plain_part row.stand)
-  pub class_low : row.class.0 < classes
+pub record IsRowFor (cells : List CellParts) (classes : ℕ) (row : Choice) : Type 0 where
+  pub part : IsPartFor cells classes row.part
+  pub class_low : row.class < classes
 
 -- the pins of each choice are of so many classes, its cell is of the library, and they can be numbered
-pub record ArePartsFor (cells : List CellParts) (classes : ℕ) (rows : List ListedChoice) : Type 0 where
+pub record ArePartsFor (cells : List CellParts) (classes : ℕ) (rows : List Choice) : Type 0 where
   pub few : length rows < number_count
-  pub parts : All (λ (r : ListedChoice). IsPartFor cells classes (plain_part r.stand)) rows
+  pub parts : All (λ (r : Choice). IsPartFor cells classes r.part) rows
 
 -- so it is of each with its class, and they can be numbered
-pub record AreRowsFor (cells : List CellParts) (classes : ℕ) (rows : List ListedChoice) : Type 0 where
+pub record AreRowsFor (cells : List CellParts) (classes : ℕ) (rows : List Choice) : Type 0 where
   pub few : length rows < number_count
   pub each : All (IsRowFor cells classes) rows
 
@@ -61,9 +45,6 @@ pub record IsGateAdded (cells : List CellParts) (old new : List Choice) (x : Cho
   pub only : (new ≡ old) ⊎ (new ≡ old ++ x ∷ [])
   pub like : IsListedLike cells new x.class x.part
 
-abbrev pub choice_of : ClassId → GateOfMatch → Choice
-choice_of class g = record { class = class.0; part = gate g.cell.0 (numbers g.pins) }
-
 -- a list under way, by the cells of a library, with the links of its hashes
 pub record IsUnderWay (cells : List CellParts) (to : Listed) : Type 0 where
   pub count : to.chains.count ≡ bucket_count
@@ -73,43 +54,44 @@ pub record IsUnderWay (cells : List CellParts) (to : Listed) : Type 0 where
 pub record IsListedMore (old new : Listed) (x : Choice) : Type 0 where
   pub way : (cells : List CellParts) → IsUnderWay cells old → IsUnderWay cells new
   pub added : (cells : List CellParts) → IsUnderWay cells old
-      → IsGateAdded cells (plain_rows old.rows.items) (plain_rows new.rows.items) x
+      → IsGateAdded cells old.rows new.rows x
 
 -- nothing is listed yet
 pub record IsNoneListed (cells : List CellParts) (to : Listed) : Type 0 where
   pub way : IsUnderWay cells to
-  pub none : to.rows.items ≡ []
+  pub none : to.rows ≡ []
 
 -- the matches from one class on are listed, by cells that the patterns are of
-abbrev pub AreListedFrom : Graph → List Pattern → List CellParts → ℕ → List ListedChoice → Type 0
+abbrev pub AreListedFrom : Graph → List Pattern → List CellParts → ℕ → List Choice → Type 0
 AreListedFrom g pats cells class rows =
     (starts : List Micro) → AreOfCells (area_cost cells).pin_counts pats
-    → IsListing (task g pats cells starts) (length g.leaves) class (plain_rows rows)
+    → IsListing (task g pats cells starts) (length g.leaves) class rows
 
 -- those at one class more are listed
 pub record IsClassListed (g : Graph) (pats : List Pattern) (class : ℕ) (old new : Listed) : Type 0 where
   pub way : (cells : List CellParts) → IsUnderWay cells old → IsUnderWay cells new
   pub listed : (cells : List CellParts) → IsUnderWay cells old
-      → AreListedFrom g pats cells (class + 1) old.rows.items → AreListedFrom g pats cells class new.rows.items
+      → AreListedFrom g pats cells (class + 1) old.rows → AreListedFrom g pats cells class new.rows
 
 -- those at all classes are listed
-abbrev pub AreMatchesListed : Graph → List Pattern → List CellParts → List ListedChoice → Type 0
+abbrev pub AreMatchesListed : Graph → List Pattern → List CellParts → List Choice → Type 0
 AreMatchesListed g pats cells rows = AreListedFrom g pats cells 0 rows
 
 -- so are those of a store, whatever graph and patterns it is of
-abbrev pub AreStoredListed : List (List Stored) → List CellParts → List ListedChoice → Type 0
+abbrev pub AreStoredListed : List (List Stored) → List CellParts → List Choice → Type 0
 AreStoredListed lists cells rows =
     (g : Graph) (pats : List Pattern) → IsStoreOf g pats lists → AreMatchesListed g pats cells rows
 
 -- the inputs are listed too
-abbrev pub AreInputsListed : Graph → List ListedChoice → List ListedChoice → Type 0
+abbrev pub AreInputsListed : Graph → List Choice → List Choice → Type 0
 AreInputsListed g old new =
     (pats : List Pattern) (cells : List CellParts) (starts : List Micro)
-    → IsListing (task g pats cells starts) (length g.leaves) 0 (plain_rows old)
-    → IsListing (task g pats cells starts) 0 0 (plain_rows new)
+    → IsListing (task g pats cells starts) (length g.leaves) 0 old
+    → IsListing (task g pats cells starts) 0 0 new
 
 -- what may stand at the classes, by the cells of a library that the patterns are of, and they can be numbered
-pub record AreAllChoices (g : Graph) (pats : List Pattern) (cells : List CellParts) (rows : List ListedChoice) : Type 0 where
+pub record AreAllChoices (g : Graph) (pats : List Pattern) (cells : List CellParts)
+    (rows : List Choice) : Type 0 where
   pub few : length rows < number_count
   pub choices : (starts : List Micro) → AreOfCells (area_cost cells).pin_counts pats
-      → AreListedChoices (task g pats cells starts) (plain_rows rows)
+      → AreListedChoices (task g pats cells starts) rows

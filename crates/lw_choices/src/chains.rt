@@ -2,6 +2,7 @@
 ghost use Rattle.std.specs.Prelude.{◌≡◌, ◌<◌, ◌++◌, [], ◌∷◌, ℕ, IfOk, MatchResult, OnOk, OnErr};
 ghost use Rattle.std.specs.Prelude.{length, Some, slice_get};
 ghost use Rattle.lw_choices.specs.Chains.{CountsPlaces, HasNoPlaces, HasOneClassMore, IsLast};
+ghost use Rattle.lw_choices.specs.Chains.{number_of, place_of};
 
 use lw_pool::ClassId;
 use std::alloc::{AllocError, Global};
@@ -12,14 +13,15 @@ use std::marker::Model;
 #[derive(Drop)]
 pub struct Chains {
     classes: Vec<ClassId>,
-    befores: Vec<Option<u32>>,
+    // for each place a number that `place_of` reads, since an `Option` takes twice the room
+    befores: Vec<u32>,
     heads: Vec<Option<u32>>,
 }
 
 impl Model for Chains {
-    ghost use Rattle.std.specs.Prelude.{length};
+    ghost use Rattle.std.specs.Prelude.{length, map};
     ghost use Rattle.lw_pool.specs.Numbers.{numbers};
-    ghost use Rattle.lw_choices.specs.Chains.{ChainState, AreChains};
+    ghost use Rattle.lw_choices.specs.Chains.{ChainState, AreChains, place_of};
 
     ghost Value = { ChainState };
 
@@ -28,7 +30,8 @@ impl Model for Chains {
       count = length l.heads.items;
     } };
 
-    ghost invariant = { λ l. AreChains (numbers l.classes.items) l.befores.items l.heads.items };
+    ghost invariant = { λ l. AreChains (numbers l.classes.items) (map place_of l.befores.items)
+        l.heads.items };
 }
 
 impl Chains {
@@ -38,9 +41,20 @@ impl Chains {
     pub fn new(alloc: Global, classes: usize) -> Result<Chains, AllocError>
         ensures { IfOk result (HasNoPlaces classes) }
     {
+        Chains::with_room(alloc, classes, 0)
+    }
+
+    /// No places, for so many classes, with room for so many places.
+    pub(crate) fn with_room(
+        alloc: Global,
+        classes: usize,
+        room: usize,
+    ) -> Result<Chains, AllocError>
+        ensures { IfOk result (HasNoPlaces classes) }
+    {
         Ok(Chains {
-            classes: Vec::new(alloc),
-            befores: Vec::new(alloc),
+            classes: Vec::with_capacity(alloc, room)?,
+            befores: Vec::with_capacity(alloc, room)?,
             heads: vec![in alloc; None; classes]?,
         })
     }
@@ -75,7 +89,7 @@ impl Chains {
         ensures { (c : ℕ) → slice_get self.now.classes place ≡ Some c →
             IsLast self.now.classes c place result }
     {
-        self.befores[place as usize]
+        place_of(self.befores[place as usize])
     }
 
     /// One class more, which no place has.
@@ -101,8 +115,31 @@ impl Chains {
         let before = self.heads[class.0 as usize];
         self.befores.reserve(1)?;
         self.classes.push(class)?;
-        self.befores.push(before)?;
+        self.befores.push(number_of(before))?;
         self.heads[class.0 as usize] = Some(place);
         Ok(())
+    }
+}
+
+// The number that stands for no place.
+const NO_PLACE: u32 = 4_294_967_295;
+
+// The place that a number stands for.
+fn place_of(number: u32) -> Option<u32>
+    ensures { result ≡ place_of number }
+{
+    if number == NO_PLACE {
+        return None;
+    }
+    Some(number)
+}
+
+// The number that stands for a place.
+fn number_of(place: Option<u32>) -> u32
+    ensures { result ≡ number_of place }
+{
+    match place {
+        None => NO_PLACE,
+        Some(place) => place,
     }
 }

@@ -1,5 +1,5 @@
 // The inputs and the matches that may stand at classes.
-ghost use Rattle.std.specs.Prelude.{◌≡◌, ◌<◌, ◌+◌, IfOk, OnOk, length, map};
+ghost use Rattle.std.specs.Prelude.{◌≡◌, ◌<◌, IfOk, OnOk, length, map};
 ghost use Rattle.lw_cost.specs.Coming.{AreMatches};
 ghost use Rattle.lw_cost.specs.Values.{plain_match};
 ghost use Rattle.lw_choices.specs.PinUses.{bucket_count};
@@ -7,7 +7,7 @@ ghost use Rattle.lw_choices.specs.Rows.{AreAllChoices, AreInputsListed, AreMatch
 ghost use Rattle.lw_choices.specs.Rows.{AreStoredListed, IsClassListed};
 
 use crate::listed::{Listed, add_gate, none_listed};
-use crate::rows::{Gate, ListedChoice, Stand};
+use crate::rows::{Gate, Listing};
 use lw_cost::Match;
 use lw_cursor::Cursor;
 use lw_genlib::Library;
@@ -25,30 +25,27 @@ pub fn list_choices(
     graph: &Graph,
     pats: &Patterns,
     lib: &Library,
-) -> Result<Vec<ListedChoice>, AllocError>
-    ensures { IfOk result (λ rows. AreAllChoices graph.now pats.now lib.now rows.items) }
+) -> Result<Listing, AllocError>
+    ensures { IfOk result (AreAllChoices graph.now pats.now lib.now) }
 {
     let mut rows = list_matches(alloc, graph, pats, lib)?;
     list_inputs(graph, &mut rows)?;
     if rows.len() >= 4_294_967_296 {
         return Err(AllocError);
     }
-    rows.reverse();
+    rows.turn_round();
     Ok(rows)
 }
 
 // Appends the inputs at their classes, the last one first.
-fn list_inputs(graph: &Graph, rows: &mut Vec<ListedChoice>) -> Result<(), AllocError>
-    ensures { OnOk result (AreInputsListed graph.now rows.old.items rows.new.items) }
+fn list_inputs(graph: &Graph, rows: &mut Listing) -> Result<(), AllocError>
+    ensures { OnOk result (AreInputsListed graph.now rows.old rows.new) }
 {
     let _ = graph.classes();
     let mut input = graph.inputs();
     while input > 0 {
         input -= 1;
-        rows.push(ListedChoice {
-            class: graph.leaf(input),
-            stand: Stand::Input(input),
-        })?;
+        rows.push_input(graph.leaf(input), input)?;
     }
     Ok(())
 }
@@ -93,7 +90,7 @@ fn list_class(
             class,
             Gate {
                 cell,
-                pins: found.pins,
+                pins: found.pins.as_slice(),
             },
         )?;
     }
@@ -101,13 +98,9 @@ fn list_class(
 }
 
 // Lists the matches of a store, the last one first.
-fn list_stored(
-    alloc: Global,
-    store: &mut Store,
-    lib: &Library,
-) -> Result<Vec<ListedChoice>, AllocError>
+fn list_stored(alloc: Global, store: &mut Store, lib: &Library) -> Result<Listing, AllocError>
     requires { store.old.done ≡ 0 }
-    ensures { IfOk result (λ rows. AreStoredListed store.old.lists lib.now rows.items) }
+    ensures { IfOk result (AreStoredListed store.old.lists lib.now) }
 {
     let mut to = none_listed(alloc, lib)?;
     let mut place = store.matches();
@@ -116,7 +109,7 @@ fn list_stored(
         let found = store.read(place);
         let gate = Gate {
             cell: found.cell,
-            pins: found.pins,
+            pins: found.pins.as_slice(),
         };
         add_gate(&mut to, found.class, gate)?;
     }
@@ -129,8 +122,8 @@ fn list_sought(
     graph: &Graph,
     pats: &Patterns,
     lib: &Library,
-) -> Result<Vec<ListedChoice>, AllocError>
-    ensures { IfOk result (λ rows. AreMatchesListed graph.now pats.now lib.now rows.items) }
+) -> Result<Listing, AllocError>
+    ensures { IfOk result (AreMatchesListed graph.now pats.now lib.now) }
 {
     let mut to = none_listed(alloc, lib)?;
     let mut class = graph.classes();
@@ -147,8 +140,8 @@ fn list_matches(
     graph: &Graph,
     pats: &Patterns,
     lib: &Library,
-) -> Result<Vec<ListedChoice>, AllocError>
-    ensures { IfOk result (λ rows. AreMatchesListed graph.now pats.now lib.now rows.items) }
+) -> Result<Listing, AllocError>
+    ensures { IfOk result (AreMatchesListed graph.now pats.now lib.now) }
 {
     match store_matches(alloc, graph, pats) {
         Ok(mut store) => list_stored(alloc, &mut store, lib),

@@ -26,7 +26,8 @@ pub fn choices_by_group(
     requires owners { length owners.now ≡ length members.now.classes }
     ensures { IfOk result (AreGroupChoicesOf members.now.classes owners.now groups) }
 {
-    let (mut starts, mut numbers) = (Vec::new(alloc), Vec::new(alloc));
+    let mut starts = Vec::with_capacity(alloc, groups as usize + 1)?;
+    let mut numbers = Vec::with_capacity(alloc, owners.len())?;
     for group in 0..groups {
         starts.push(numbers.len())?;
         list_group(members, owners, group, &mut numbers)?;

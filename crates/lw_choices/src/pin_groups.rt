@@ -1,7 +1,8 @@
 // The pins of choices, in groups by class and delay.
 ghost use Rattle.std.specs.Prelude.{◌≡◌, ◌<◌, IfOk, IfSome, MatchResult, OnOk, length};
 ghost use Rattle.lw_choices.specs.Choices.{IsPartFor};
-ghost use Rattle.lw_choices.specs.Rows.{ArePartsFor, plain_part, plain_row, plain_rows};
+ghost use Rattle.lw_choices.specs.Rows.{ArePartsFor};
+ghost use Rattle.lw_choices.specs.Stands.{plain_part, plain_row};
 ghost use Rattle.lw_choices.specs.PinGroups.{AreGroups, AreGroupsTo, ArePinsAdded, AreUses};
 ghost use Rattle.lw_choices.specs.PinGroups.{HasFirst, HasNoUses, HasNoUsesFor, HaveDelays};
 ghost use Rattle.lw_choices.specs.PinGroups.{IsChoiceAdded, IsFirstAdded, IsGroup, IsGroupAdded};
@@ -9,7 +10,7 @@ ghost use Rattle.lw_choices.specs.PinGroups.{IsPinAdded};
 
 use crate::chains::Chains;
 use crate::group_choices::{GroupChoices, choices_by_group, no_group_choices};
-use crate::rows::{ListedChoice, Stand};
+use crate::rows::{ListedChoice, Listing, Stand};
 use lw_fixed::Micro;
 use lw_genlib::Library;
 use lw_pool::ClassId;
@@ -51,15 +52,15 @@ pub fn lane_of(pin_groups: &PinGroups, group: u32) -> u32 {
 /// The pins of all choices in groups, over so many classes. `rows` are the choices.
 pub fn pin_groups_of(
     alloc: Global,
-    rows: &[ListedChoice],
+    rows: &Listing,
     lib: &Library,
     classes: usize,
 ) -> Result<PinGroups, AllocError>
     requires { ArePartsFor lib.now classes rows.now }
     ensures count { IfOk result (λ pin_groups. pin_groups.links.count ≡ classes) }
-    ensures pin_groups { IfOk result (AreUses lib.now (plain_rows rows.now)) }
+    ensures pin_groups { IfOk result (AreUses lib.now rows.now) }
 {
-    let mut pin_groups = no_uses(alloc, classes)?;
+    let mut pin_groups = no_uses(alloc, classes, rows)?;
     add_all(alloc, &mut pin_groups, rows, lib)?;
     Ok(pin_groups)
 }
@@ -192,26 +193,28 @@ fn add_choice(
         Stand::Input(_) => Ok(()),
         Stand::Gate(gate) => {
             let delays = lib.cell(gate.cell).delays();
-            add_pins(pin_groups, delays, gate.pins.as_slice(), choice)?;
+            add_pins(pin_groups, delays, gate.pins, choice)?;
             Ok(())
         }
     }
 }
 
-// Groups of no pins, over so many classes.
-fn no_uses(alloc: Global, classes: usize) -> Result<PinGroups, AllocError>
+// Groups of no pins, over so many classes, with room for the pins of these choices.
+fn no_uses(alloc: Global, classes: usize, rows: &Listing) -> Result<PinGroups, AllocError>
     ensures { IfOk result (HasNoUsesFor classes) }
 {
     let links = Chains::new(alloc, classes)?;
-    let members = Chains::new(alloc, 0)?;
+    let members = Chains::with_room(alloc, 0, rows.pins())?;
+    let owners = Vec::with_capacity(alloc, rows.pins())?;
+    let firsts = Vec::with_capacity(alloc, rows.len())?;
     Ok(PinGroups {
         links,
         delays: Vec::new(alloc),
         lanes: Vec::new(alloc),
         lane_delays: Vec::new(alloc),
         members,
-        owners: Vec::new(alloc),
-        firsts: Vec::new(alloc),
+        owners,
+        firsts,
         by_group: no_group_choices(alloc),
     })
 }
@@ -220,16 +223,16 @@ fn no_uses(alloc: Global, classes: usize) -> Result<PinGroups, AllocError>
 fn add_all(
     alloc: Global,
     pin_groups: &mut PinGroups,
-    rows: &[ListedChoice],
+    rows: &Listing,
     lib: &Library,
 ) -> Result<(), AllocError>
     requires rows { ArePartsFor lib.now pin_groups.old.links.count rows.now }
     requires none { HasNoUses pin_groups.old }
     ensures count { pin_groups.new.links.count ≡ pin_groups.old.links.count }
-    ensures pin_groups { OnOk result (AreUses lib.now (plain_rows rows.now) pin_groups.new) }
+    ensures pin_groups { OnOk result (AreUses lib.now rows.now pin_groups.new) }
 {
-    for (choice, row) in rows.iter().enumerate() {
-        add_choice(pin_groups, lib, row, choice as u32)?;
+    for choice in 0..rows.len() {
+        add_choice(pin_groups, lib, &rows.at(choice), choice as u32)?;
     }
     let groups = pin_groups.links.len();
     let by_group = choices_by_group(

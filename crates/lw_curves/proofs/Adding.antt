@@ -1,22 +1,20 @@
 -- The groups of a class are let come one by one.
-use Rattle.std.proofs.Common.{◌≡◌, ℕ, zero, suc, ◌+◌, ◌-◌, ◌<◌, ◌≤◌, ◌⊎◌, inl, inr, length, List, [], ◌∷◌, Contains, Option, Some, None, option_map, slice_get, slice_set, slice_index_or, refl, ap, sym, ◌∙◌, subst, subst₂, arith}
+use Rattle.std.proofs.Common.{◌≡◌, ℕ, zero, suc, ◌+◌, ◌-◌, ◌<◌, ◌≤◌, ◌⊎◌, inl, inr, length, List, [], ◌∷◌, Contains, Option, Some, None, slice_get, slice_set, refl, ap, sym, ◌∙◌, subst, subst₂, arith}
 use native.Mathlib.Decide.{ℕ_discrete}
 use Rattle.std.specs.List.Sorted.{IsPermutation}
 use Rattle.std.proofs.lemmas.List.Sorted.{Contains-permutation, IsPermutation-sym, length_permutation}
-use Rattle.std.proofs.lemmas.Option.{same_Some, slice_get-map, slice_get_within}
+use Rattle.std.proofs.lemmas.Option.{same_Some, slice_get_within}
 use Rattle.std.proofs.lemmas.Bool.{cases_lt}
-use Rattle.lw_choices.specs.declared.rows.ListedChoice.{ListedChoice}
 use Rattle.lw_choices.specs.Areas.{total}
 use Rattle.lw_choices.specs.Chains.{IsLast}
 use Rattle.lw_queue.specs.Queues.{Item, IsTaken, Queued, Waits}
 use Rattle.lw_choices.specs.Choices.{Choice, HasPinAt, delay_at}
 use Rattle.lw_choices.specs.Tasks.{Task}
-use Rattle.lw_choices.specs.Rows.{plain_row, plain_rows}
 use Rattle.lw_choices.specs.PinGroups.{AreUses}
 use Rattle.lw_curves.specs.Turns.{turns_of}
 use Rattle.lw_choices.specs.declared.pin_groups.PinGroups.{PinGroups}
 use Rattle.lw_curves.specs.Settling.{Turns, turns, Comes, AreGroupsAdded, AreInTime, IsLetWait, NoneComes}
-use Rattle.lw_choices.proofs.Lists.{get_some, got, read_at, in_tail}
+use Rattle.lw_choices.proofs.Lists.{in_tail}
 use Rattle.lw_curves.proofs.Stepping.{in_cons, waits_back}
 
 -- The groups from a bound on come, and the next one is the last before it.
@@ -166,13 +164,3 @@ pub total_set : (xs : List ℕ) (i v w : ℕ) → slice_get xs i ≡ Some w → 
 total_set [] i v w at lt = cc
 total_set (x ∷ xs) zero v w at lt = let e = same_Some x w at in omega arith
 total_set (x ∷ xs) (suc i) v w at lt = let ih = total_set xs i v w at lt in omega arith
-
-pub row_at : (rows : List ListedChoice) (n : ℕ) (r : ListedChoice) → n < length rows → r ≡ slice_index_or rows n r → slice_get (plain_rows rows) n ≡ Some (plain_row r)
-row_at rows n r lt e = slice_get-map plain_row rows n ∙ ap (option_map plain_row) (read_at rows n r lt e)
-
--- a choice with its row
-pub choice_in : (rows : List ListedChoice) (n : ℕ) → n < length rows → (r : ListedChoice) × (r ≡ slice_index_or rows n r) × (slice_get (plain_rows rows) n ≡ Some (plain_row r))
-choice_in rows n lt =
-    let (r, rt) = get_some rows n lt in
-    let same = same_Some r (slice_index_or rows n r) (sym rt ∙ got rows n r lt) in
-    (r, same, row_at rows n r lt same)

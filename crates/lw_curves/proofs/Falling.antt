@@ -7,15 +7,14 @@ use Rattle.lw_facts.proofs.Lists.{index_at}
 use Rattle.lw_laws.specs.Covers.{delays_of}
 use Rattle.lw_genlib.specs.Cells.{CellParts}
 use Rattle.lw_genlib.specs.Tables.{delays_of_cells}
-use Rattle.lw_choices.specs.declared.rows.ListedChoice.{ListedChoice}
 use Rattle.lw_curves.specs.declared.tallies.Tally.{Tally}
 use Rattle.lw_choices.specs.declared.pin_groups.PinGroups.{PinGroups}
 use Rattle.lw_choices.specs.Choices.{Part, Choice}
 use Rattle.lw_choices.specs.Choices.Part.{input, gate}
 use Rattle.lw_choices.specs.GroupChoices.{AreMembersListed, IsBetween}
-use Rattle.lw_choices.specs.Rows.{plain_row, plain_rows}
 use Rattle.lw_curves.specs.SeenAreas.{seen_at, sum_seen}
-use Rattle.lw_curves.specs.Tallies.{AreFirstTallies, AreTallies, HasFallen, IsFirstTally, IsLowered, bound_of, first_of, own_area, pin_count, unseen}
+use Rattle.lw_choices.specs.Choices.{pin_count}
+use Rattle.lw_curves.specs.Tallies.{AreFirstTallies, AreTallies, HasFallen, IsFirstTally, IsLowered, bound_of, first_of, own_area, unseen}
 use Rattle.lw_choices.specs.PinGroups.{AreUses, HasUse}
 use Rattle.lw_choices.proofs.Lists.{get_some, push_cases}
 
@@ -267,12 +266,12 @@ fallen_set seen group old new fall at le = record {
 }
 
 -- the tally of one more choice
-module _ (cells : List CellParts) (rows : List ListedChoice) (tallies : List Tally) (k : ℕ) (r : ListedChoice) (t : Tally) (count : length tallies ≡ k) (at : slice_get (plain_rows rows) k ≡ Some (plain_row r)) (is : IsFirstTally cells (plain_row r) t) (each : (n : ℕ) (x : Choice) (y : Tally) → slice_get (plain_rows rows) n ≡ Some x → slice_get tallies n ≡ Some y → IsFirstTally cells x y) where
-  pub firsts_pushed : (n : ℕ) (x : Choice) (y : Tally) → slice_get (plain_rows rows) n ≡ Some x → slice_get (tallies ++ t ∷ []) n ≡ Some y → IsFirstTally cells x y
+module _ (cells : List CellParts) (rows : List Choice) (tallies : List Tally) (k : ℕ) (r : Choice) (t : Tally) (count : length tallies ≡ k) (at : slice_get rows k ≡ Some r) (is : IsFirstTally cells r t) (each : (n : ℕ) (x : Choice) (y : Tally) → slice_get rows n ≡ Some x → slice_get tallies n ≡ Some y → IsFirstTally cells x y) where
+  pub firsts_pushed : (n : ℕ) (x : Choice) (y : Tally) → slice_get rows n ≡ Some x → slice_get (tallies ++ t ∷ []) n ≡ Some y → IsFirstTally cells x y
   firsts_pushed n x y xt yt = by_case (push_cases tallies t n y yt)
     where
       by_case : (slice_get tallies n ≡ Some y) ⊎ ((n ≡ length tallies) × (t ≡ y)) → IsFirstTally cells x y
       by_case (inl old) = each n x y xt old
       by_case (inr (e, same)) =
-          let row : plain_row r ≡ x = same_Some (plain_row r) x (sym at ∙ (ap (slice_get (plain_rows rows)) (sym (e ∙ count)) ∙ xt)) in
+          let row : r ≡ x = same_Some r x (sym at ∙ (ap (slice_get rows) (sym (e ∙ count)) ∙ xt)) in
           subst₂ (λ z c. IsFirstTally cells z c) row same is

@@ -1,18 +1,17 @@
 -- What may stand at classes is in range: the classes of pins, the cells and their pins, and the delays.
-use Rattle.std.proofs.Common.{◌≡◌, ℕ, suc, ◌<◌, ◌⊎◌, inl, inr, All, List, [], ◌∷◌, length, option_map, Contains, Some, slice_get, slice_index_or, refl, sym, ap, ◌∙◌, subst, arith}
+use Rattle.std.proofs.Common.{◌≡◌, ℕ, suc, ◌<◌, ◌⊎◌, inl, inr, All, List, [], ◌∷◌, length, Contains, Some, slice_get, slice_index_or, refl, sym, ap, ◌∙◌, subst, arith}
 use Rattle.std.specs.List.{AllByRecursion}
-use Rattle.std.proofs.lemmas.Option.{same_Some, slice_get-map, slice_get_within}
+use Rattle.std.proofs.lemmas.Option.{same_Some, slice_get_within}
 use Rattle.lw_graph.specs.Graphs.{IsGraph}
 use Rattle.lw_laws.specs.Flip.{flip}
 use Rattle.lw_laws.specs.Graphs.{Graph, Pair, HoldsPair, Stands}
 use Rattle.lw_laws.specs.Trees.{Tree, leaf, const_one, const_zero, inv, nand, HasLeaf}
 use Rattle.lw_cost.specs.Least.{AreOfCells}
-use Rattle.lw_choices.specs.declared.rows.ListedChoice.{ListedChoice}
 use Rattle.lw_choices.specs.Areas.{area_cost}
-use Rattle.lw_choices.specs.Choices.{Part, MayStand, AreListedChoices, IsWithin, IsOfLibrary}
+use Rattle.lw_choices.specs.Choices.{Choice, Part, MayStand, AreListedChoices, IsWithin, IsOfLibrary}
 use Rattle.lw_choices.specs.Choices.Part.{input, gate}
 use Rattle.lw_choices.specs.Tasks.{Task}
-use Rattle.lw_choices.specs.Rows.{IsRowFor, plain_row, plain_rows}
+use Rattle.lw_choices.specs.Rows.{IsRowFor}
 use Rattle.lw_choices.proofs.Lists.{got}
 use Rattle.lw_graph.proofs.Graphs.{flip_below}
 
@@ -58,14 +57,11 @@ module _ (s : Task) (is_graph : IsGraph s.graph) (of_cells : AreOfCells (area_co
   part_of_library c (input i) may = tt
   part_of_library c (gate cell ps) may = may.pins
 
-  module _ (rows : List ListedChoice) (are : AreListedChoices s (plain_rows rows)) where
-    listed : (k : ℕ) (d : ListedChoice) → k < length rows → slice_get (plain_rows rows) k ≡ Some (plain_row (slice_index_or rows k d))
-    listed k d lt = slice_get-map plain_row rows k ∙ ap (option_map plain_row) (got rows k d lt)
-
+  module _ (rows : List Choice) (are : AreListedChoices s rows) where
     pub rows_for : All (IsRowFor s.cells (length s.graph.pairs)) rows
     rows_for k d lt =
-        let r = plain_row (slice_index_or rows k d) in
-        let at = listed k d lt in
+        let r = slice_index_or rows k d in
+        let at = got rows k d lt in
         record {
           part = record {
             within = part_within r.class r.part (are.within k r at) (are.each k r at);

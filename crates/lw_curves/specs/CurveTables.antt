@@ -11,7 +11,7 @@ use Rattle.lw_choices.specs.Tasks.{Task}
 use Rattle.lw_curves.specs.Settling.{AreApart, Spot, spot, Has}
 use Rattle.lw_choices.specs.declared.rows.Stand.{Stand}
 use Rattle.lw_choices.specs.declared.rows.Stand.TheVariants as stand
-use Rattle.lw_choices.specs.Rows.{plain_part}
+use Rattle.lw_choices.specs.Stands.{plain_part}
 
 abbrev pub point_of : Spot → Point
 point_of k = record { time = record { 0 = k.time }; area = k.area }

@@ -5,7 +5,6 @@ use Rattle.lw_genlib.specs.Cells.{CellParts}
 use Rattle.lw_laws.specs.Covers.{Pattern}
 use Rattle.lw_laws.specs.Graphs.{Graph}
 use Rattle.lw_pool.specs.declared.id.ClassId.{ClassId}
-use Rattle.lw_choices.specs.declared.rows.ListedChoice.{ListedChoice}
 use Rattle.lw_curves.specs.declared.setup.Setup.{Setup}
 use Rattle.lw_curves.specs.declared.waking.View.{View}
 use Rattle.lw_curves.specs.declared.point.CurveFault.{CurveFault}
@@ -18,7 +17,7 @@ use Rattle.lw_curves.specs.Fronts.{FrontState}
 use Rattle.lw_choices.specs.Tasks.{Task, task}
 use Rattle.lw_curves.specs.Points.{most_points}
 use Rattle.lw_choices.specs.GroupChoices.{AreGroupChoices}
-use Rattle.lw_choices.specs.Rows.{IsRowFor, plain_part, plain_rows}
+use Rattle.lw_choices.specs.Rows.{IsRowFor}
 use Rattle.lw_curves.specs.SeenAreas.{AreSeen, AreSeenAfter, HasUnseen}
 use Rattle.lw_curves.specs.Settling.{AreFirst, AreSettled, GivesNoMoreSeen, Has, IsAfter, IsGroupLookedAt, IsLookedAt}
 use Rattle.lw_curves.specs.Settling.{IsStillFor, IsStop, Spot, Turns}
@@ -31,10 +30,10 @@ use Rattle.lw_curves.specs.Turns.{turns_of}
 pub record IsSetup (classes : ℕ) (setup : Setup) : Type 0 where
   pub rows : All (IsRowFor setup.lib.now classes) setup.rows.now
   pub count : setup.pin_groups.now.links.count ≡ classes
-  pub pin_groups : AreUses setup.lib.now (plain_rows setup.rows.now) setup.pin_groups.now
+  pub pin_groups : AreUses setup.lib.now setup.rows.now setup.pin_groups.now
 
 abbrev pub choices_of_setup : Setup → List Choice
-choices_of_setup setup = plain_rows setup.rows.now
+choices_of_setup setup = setup.rows.now
 
 -- with a graph and patterns
 abbrev pub task_of : Setup → Graph → List Pattern → Task
@@ -93,15 +92,15 @@ abbrev pub HaveFallen : List ℕ → List ℕ → Option ClassId → Type 0
 HaveFallen old new gain = IfSome gain (λ class. (class.0 < length old) × (total new < total old))
 
 -- so it is for each graph and patterns whose choices these are
-abbrev pub WhereListed : List CellParts → List Micro → List ListedChoice → (Task → List Choice → Type 0) → Type 0
+abbrev pub WhereListed : List CellParts → List Micro → List Choice → (Task → List Choice → Type 0) → Type 0
 WhereListed cells starts rows Then =
-    (g : Graph) (pats : List Pattern) → AreListedChoices (task g pats cells starts) (plain_rows rows)
-    → Then (task g pats cells starts) (plain_rows rows)
+    (g : Graph) (pats : List Pattern) → AreListedChoices (task g pats cells starts) rows
+    → Then (task g pats cells starts) rows
 
 -- the choices stand at these classes, with cells of the library, each has its tally, and no point is later than now
 pub record IsReadyFor (j : Setup) (now : ℕ) (state : Seen) (fronts : FrontState) : Type 0 where
-  pub of_library : All (λ (r : ListedChoice). IsOfLibrary j.lib.now (plain_part r.stand)) j.rows.now
-  pub class_low : All (λ (r : ListedChoice). r.class.0 < length fronts.least) j.rows.now
+  pub of_library : All (λ (r : Choice). IsOfLibrary j.lib.now r.part) j.rows.now
+  pub class_low : All (λ (r : Choice). r.class < length fronts.least) j.rows.now
   pub tallied : AreTalliedIn j state
   pub late : (k : Spot) → Has fronts.spots k → k.time ≤ now
 
@@ -177,11 +176,11 @@ pub record HaveGainedAll (j : Setup) (fronts new_fronts : FrontState) (coming lo
   pub backed : StayBacked j 0 fronts new_fronts coming looked
 
 -- those choices wait up to this horizon that need no points of pins, whatever library they are of
-pub record IsBegun (starts : List Micro) (rows : List ListedChoice) (horizon : ℕ) (q : Queued) : Type 0 where
+pub record IsBegun (starts : List Micro) (rows : List Choice) (horizon : ℕ) (q : Queued) : Type 0 where
   pub horizon_is : q.horizon ≡ horizon
   pub first : (g : Graph) (pats : List Pattern) (cells : List CellParts)
-      → AreListedChoices (task g pats cells starts) (plain_rows rows)
-      → AreFirst (task g pats cells starts) (plain_rows rows) q
+      → AreListedChoices (task g pats cells starts) rows
+      → AreFirst (task g pats cells starts) rows q
 
 -- the choices are those of some task, and those that need no points wait in a queue of this horizon
 pub record MayBegin (j : Setup) (horizon : ℕ) (looked : Queued) : Type 0 where
@@ -195,7 +194,7 @@ pub record HasNoPoints (fronts : FrontState) : Type 0 where
   pub held_none : fronts.held ≡ []
 
 -- the points of so many classes are settled up to the horizon, each with a choice, and they are not too many
-pub record HaveFronts (cells : List CellParts) (starts : List Micro) (rows : List ListedChoice) (classes horizon : ℕ)
+pub record HaveFronts (cells : List CellParts) (starts : List Micro) (rows : List Choice) (classes horizon : ℕ)
     (fronts : FrontState) : Type 0 where
   pub count : classes ≡ length fronts.least
   pub few : length fronts.spots ≤ most_points
@@ -211,13 +210,13 @@ abbrev pub HaveFrontsIn : Setup → FrontState → ℕ → FrontState → Type 0
 HaveFrontsIn j old horizon fronts = HaveFrontsOf j (length old.least) horizon fronts
 
 -- why the points are not settled up to the horizon
-abbrev pub IsStopFor : List CellParts → List Micro → List ListedChoice → ℕ → CurveFault → Type 0
+abbrev pub IsStopFor : List CellParts → List Micro → List Choice → ℕ → CurveFault → Type 0
 IsStopFor cells starts rows horizon fault = WhereListed cells starts rows (λ s choices. IsStop s choices horizon fault)
 
 abbrev pub IsStopOf : Setup → ℕ → CurveFault → Type 0
 IsStopOf j horizon fault = IsStopFor j.lib.now j.starts.now j.rows.now horizon fault
 
 -- the choices are those of some task with these cells and starts
-abbrev pub AreListedSomewhere : List CellParts → List Micro → List ListedChoice → Type 0
+abbrev pub AreListedSomewhere : List CellParts → List Micro → List Choice → Type 0
 AreListedSomewhere cells starts rows =
-    (g : Graph) × (pats : List Pattern) × AreListedChoices (task g pats cells starts) (plain_rows rows)
+    (g : Graph) × (pats : List Pattern) × AreListedChoices (task g pats cells starts) rows

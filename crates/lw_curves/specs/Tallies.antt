@@ -6,7 +6,7 @@ use Rattle.lw_curves.specs.declared.seen_areas.Seen.{Seen}
 use Rattle.lw_curves.specs.declared.tallies.Tally.{Tally}
 use Rattle.lw_choices.specs.declared.pin_groups.PinGroups.{PinGroups}
 use Rattle.lw_choices.specs.Areas.{area_at, most_area}
-use Rattle.lw_choices.specs.Choices.{Part, Choice}
+use Rattle.lw_choices.specs.Choices.{Part, Choice, pin_count}
 use Rattle.lw_choices.specs.Choices.Part.{input, gate}
 use Rattle.lw_curves.specs.SeenAreas.{sum_seen}
 
@@ -22,10 +22,6 @@ bound_of t = t.high * 2 ^ 64 + t.low
 pub record IsBoundOf (t : Tally) (n : ℕ) : Type 0 where
   pub value : n ≡ bound_of t
   pub small : n < 2 ^ 96
-
-abbrev pub pin_count : Part → ℕ
-pin_count (input i) = 0
-pin_count (gate cell ps) = length ps
 
 -- the area of its cell, as far as it is told
 abbrev pub own_area : List CellParts → Part → ℕ

@@ -7,7 +7,7 @@ ghost use Rattle.lw_choices.specs.Areas.{most_area};
 ghost use Rattle.lw_curves.specs.Setups.{task_of};
 ghost use Rattle.lw_curves.specs.Pricing.{IsBestOfPins};
 ghost use Rattle.lw_choices.specs.Choices.{IsPartFor};
-ghost use Rattle.lw_choices.specs.Rows.{plain_part};
+ghost use Rattle.lw_choices.specs.Stands.{plain_part};
 ghost use Rattle.lw_curves.specs.Settling.{IsBest};
 ghost use Rattle.lw_pool.specs.Numbers.{numbers};
 
@@ -42,7 +42,7 @@ pub(crate) fn price(stand: &Stand, setup: &Setup, fronts: &Fronts, time: u64) ->
         Stand::Input(_) => Some(0),
         Stand::Gate(gate) => {
             let cell = setup.lib.cell(gate.cell);
-            let pins = area_of_pins(cell.delays(), gate.pins.as_slice(), fronts, time)?;
+            let pins = area_of_pins(cell.delays(), gate.pins, fronts, time)?;
             Some(joined(cell.area().0, pins))
         }
     }

@@ -5,12 +5,12 @@ ghost use Rattle.lw_curves.specs.CurveTables.{IsStandAt, AreCurvesOf, IsTable};
 ghost use Rattle.lw_curves.specs.Lasts.{ArePointsRising, IsLastOf, IsRowAt};
 ghost use Rattle.lw_curves.specs.Points.{AreCurves, BoundCovers};
 ghost use Rattle.lw_choices.specs.Tasks.{IsLeastAreaBy, Task};
-ghost use Rattle.lw_choices.specs.Rows.{plain_row, plain_rows};
+ghost use Rattle.lw_choices.specs.Stands.{plain_row};
 
 use crate::last_point::last_by;
 use crate::pareto_fronts::Fronts;
 use crate::point::{Point, Way};
-use lw_choices::{ListedChoice, Stand};
+use lw_choices::{ListedChoice, Listing, Stand};
 use lw_fixed::Micro;
 use lw_pool::ClassId;
 use std::alloc::{AllocError, Global};
@@ -27,19 +27,18 @@ pub struct Curves {
     ways: Vec<Way>,
     // one more than there are classes: none are left behind the last one
     lefts: Vec<usize>,
-    rows: Vec<ListedChoice>,
+    rows: Listing,
 }
 
 impl Model for Curves {
     ghost use Rattle.lw_curves.specs.CurveTables.{AreCurveArrays, CurveLists, rows_of};
-    ghost use Rattle.lw_choices.specs.Rows.{plain_row, plain_rows};
 
     ghost Value = { CurveLists };
 
     ghost view = { λ c. record {
       points = rows_of c.points.items c.lefts.items;
       ways = rows_of c.ways.items c.lefts.items;
-      choices = plain_rows c.rows.items;
+      choices = c.rows;
     } };
 
     ghost invariant = { λ c. AreCurveArrays c.points.items c.ways.items c.lefts.items };
@@ -115,8 +114,8 @@ impl Curves {
 
     /// What stands at the point of a class at a place: an input, or a cell with its pins. None past
     /// the last.
-    pub fn stand(&self, class: ClassId, place: u32) -> Option<&Stand>
-        ensures { IfSome result (λ stand. IsStandAt self.now class.0 place stand.now) }
+    pub fn stand(&self, class: ClassId, place: u32) -> Option<Stand>
+        ensures { IfSome result (IsStandAt self.now class.0 place) }
     {
         let ways = self.ways_of(class)?;
         let place = place as usize;
@@ -127,15 +126,15 @@ impl Curves {
         if choice as usize >= self.rows.len() {
             return None;
         }
-        Some(&self.choice(choice).stand)
+        Some(self.choice(choice).stand)
     }
 
     /// The choice with this number: what may stand at which class.
-    pub(crate) fn choice(&self, choice: u32) -> &ListedChoice
+    pub(crate) fn choice(&self, choice: u32) -> ListedChoice
         requires { choice < length self.now.choices }
-        ensures { slice_get self.now.choices choice ≡ Some (plain_row result.now) }
+        ensures { slice_get self.now.choices choice ≡ Some (plain_row result) }
     {
-        &self.rows[choice as usize]
+        self.rows.at(choice as usize)
     }
 }
 
@@ -145,10 +144,10 @@ pub(crate) fn group(
     alloc: Global,
     fronts: &Fronts,
     classes: u32,
-    rows: Vec<ListedChoice>,
+    rows: Listing,
 ) -> Result<Curves, AllocError>
     requires { classes ≡ length fronts.now.least }
-    ensures { IfOk result (AreCurvesOf fronts.now classes (plain_rows rows.items)) }
+    ensures { IfOk result (AreCurvesOf fronts.now classes rows) }
 {
     let count = fronts.len() as usize;
     let mut points = Vec::with_capacity(alloc, count)?;

@@ -17,7 +17,7 @@ use crate::point::CurveFault;
 use crate::seen_areas::none_seen;
 use crate::settling::settle_all;
 use crate::setup::Setup;
-use lw_choices::{ListedChoice, list_choices, pin_groups_of};
+use lw_choices::{Listing, list_choices, pin_groups_of};
 use lw_fixed::{Micro, Micros};
 use lw_genlib::Library;
 use lw_graph::Graph;
@@ -97,7 +97,7 @@ fn settle_setup(
 // the queue.
 fn settle_rows(
     alloc: Global,
-    rows: &[ListedChoice],
+    rows: &Listing,
     lib: &Library,
     starts: &[Micro],
     classes: u32,

@@ -3,12 +3,12 @@ ghost use Rattle.std.specs.Prelude.{◌≡◌, ◌<◌, ℕ, [], IfOk, MatchResu
 ghost use Rattle.lw_curves.specs.Setups.{IsBegun};
 ghost use Rattle.lw_choices.specs.Tasks.{Task};
 ghost use Rattle.lw_choices.specs.Chains.{number_count};
-ghost use Rattle.lw_choices.specs.Rows.{plain_part};
+ghost use Rattle.lw_choices.specs.Stands.{plain_part};
 ghost use Rattle.lw_curves.specs.Settling.{Gives, IsStarted};
 
 use crate::choice_area::start_of;
 use crate::settling::push_due;
-use lw_choices::{ListedChoice, Stand};
+use lw_choices::{ListedChoice, Listing, Stand};
 use lw_fixed::Micro;
 use lw_queue::Queue;
 use std::alloc::{AllocError, Global};
@@ -17,7 +17,7 @@ use std::alloc::{AllocError, Global};
 /// time at which it gives one, if that is within the horizon.
 pub(crate) fn started(
     alloc: Global,
-    rows: &[ListedChoice],
+    rows: &Listing,
     starts: &[Micro],
     horizon: u64,
 ) -> Result<Queue, AllocError>
@@ -25,8 +25,8 @@ pub(crate) fn started(
     ensures { IfOk result (IsBegun starts.now rows.now horizon) }
 {
     let mut queue = Queue::new(alloc, horizon, 1)?;
-    for (number, row) in rows.iter().enumerate() {
-        push_start(&mut queue, row, starts, number as u32)?;
+    for number in 0..rows.len() {
+        push_start(&mut queue, &rows.at(number), starts, number as u32)?;
     }
     Ok(queue)
 }

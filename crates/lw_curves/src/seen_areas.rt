@@ -1,14 +1,13 @@
 // What the groups of pins have seen: the least area of the points of their class that came.
 ghost use Rattle.std.specs.Prelude.{◌≡◌, All, IfOk, replicate};
 ghost use Rattle.lw_curves.specs.Setups.{MaySee, StayTallied};
-ghost use Rattle.lw_choices.specs.Choices.{IsOfLibrary};
-ghost use Rattle.lw_choices.specs.Rows.{plain_part, plain_rows};
+ghost use Rattle.lw_choices.specs.Choices.{Choice, IsOfLibrary};
 ghost use Rattle.lw_curves.specs.SeenAreas.{IsSeeing};
 ghost use Rattle.lw_curves.specs.Tallies.{AreFirstTallies, unseen};
 
 use crate::pareto_fronts::Fronts;
 use crate::tallies::{Tally, UNSEEN, first_tallies, lower_tallies};
-use lw_choices::{ListedChoice, MOST_AREA, PinGroups};
+use lw_choices::{Listing, MOST_AREA, PinGroups};
 use lw_genlib::Library;
 use std::alloc::{AllocError, Global};
 
@@ -25,14 +24,13 @@ pub(crate) struct Seen {
 /// any sum of areas in millionths, and for each choice in `rows` its first tally.
 pub(crate) fn none_seen(
     alloc: Global,
-    rows: &[ListedChoice],
+    rows: &Listing,
     lib: &Library,
     groups: u32,
 ) -> Result<Seen, AllocError>
-    requires { All (λ (r : ListedChoice). IsOfLibrary lib.now (plain_part r.stand)) rows.now }
+    requires { All (λ (r : Choice). IsOfLibrary lib.now r.part) rows.now }
     ensures areas { IfOk result (λ seen. seen.areas.items ≡ replicate groups unseen) }
-    ensures tallies { IfOk result (λ seen. AreFirstTallies lib.now (plain_rows rows.now)
-        seen.tallies.items) }
+    ensures tallies { IfOk result (λ seen. AreFirstTallies lib.now rows.now seen.tallies.items) }
 {
     let areas = vec![in alloc; UNSEEN; groups as usize]?;
     let tallies = first_tallies(alloc, rows, lib)?;

@@ -168,7 +168,7 @@ fn next_gain(
         ) {
             continue;
         }
-        let row = &setup.rows[number as usize];
+        let row = setup.rows.at(number as usize);
         let Some(area) = price(&row.stand, setup, fronts, time) else {
             continue;
         };

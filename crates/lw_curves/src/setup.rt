@@ -1,5 +1,5 @@
 // What the points of classes are settled by.
-use lw_choices::{ListedChoice, PinGroups};
+use lw_choices::{Listing, PinGroups};
 use lw_fixed::Micro;
 use lw_genlib::Library;
 
@@ -7,7 +7,7 @@ use lw_genlib::Library;
 #[derive(Drop)]
 pub(crate) struct Setup<'a> {
     /// The choices: what may stand at which class.
-    pub rows: &'a [ListedChoice],
+    pub rows: &'a Listing,
     pub lib: &'a Library,
     /// When each input starts.
     pub starts: &'a [Micro],

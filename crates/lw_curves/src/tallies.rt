@@ -1,15 +1,15 @@
 // What is known of each choice while points are found: its class, and no more than its area by what
 // the groups of its pins have seen.
-ghost use Rattle.std.specs.Prelude.{◌≡◌, ◌+◌, ◌^◌, ◌<◌, ℕ, List, All, IfOk};
+ghost use Rattle.std.specs.Prelude.{◌≡◌, ◌+◌, ◌^◌, ◌<◌, ◌≤◌, ℕ, List, All, IfOk};
 ghost use Rattle.lw_genlib.specs.Cells.{CellParts};
-ghost use Rattle.lw_choices.specs.Choices.{Choice, IsOfLibrary};
+ghost use Rattle.lw_choices.specs.Choices.{Choice, IsOfLibrary, pin_count};
 ghost use Rattle.lw_choices.specs.GroupChoices.{AreGroupChoices};
-ghost use Rattle.lw_choices.specs.Rows.{plain_part, plain_row, plain_rows};
+ghost use Rattle.lw_choices.specs.Stands.{plain_part, plain_row};
 ghost use Rattle.lw_curves.specs.Tallies.{AreFirstTallies, AreTallies, HasFallen, IsBoundOf};
 ghost use Rattle.lw_curves.specs.Tallies.{IsFirstTally, IsLowered, bound_of};
 ghost use Rattle.lw_choices.specs.PinGroups.{AreUses};
 
-use lw_choices::{ListedChoice, MOST_AREA, PinGroups, Stand};
+use lw_choices::{ListedChoice, Listing, MOST_AREA, PinGroups, Stand};
 use lw_genlib::Library;
 use lw_pool::ClassId;
 use std::alloc::{AllocError, Global};
@@ -59,16 +59,15 @@ pub(crate) const UNSEEN: u128 = 147_573_952_589_676_412_928;
 /// The tallies of all choices at the start, when no group has seen a point.
 pub(crate) fn first_tallies(
     alloc: Global,
-    rows: &[ListedChoice],
+    rows: &Listing,
     lib: &Library,
 ) -> Result<Vec<Tally>, AllocError>
-    requires { All (λ (r : ListedChoice). IsOfLibrary lib.now (plain_part r.stand)) rows.now }
-    ensures { IfOk result (λ tallies. AreFirstTallies lib.now (plain_rows rows.now)
-        tallies.items) }
+    requires { All (λ (r : Choice). IsOfLibrary lib.now r.part) rows.now }
+    ensures { IfOk result (λ tallies. AreFirstTallies lib.now rows.now tallies.items) }
 {
     let mut tallies = Vec::with_capacity(alloc, rows.len())?;
-    for row in rows {
-        tallies.push(first_tally(lib, row))?;
+    for number in 0..rows.len() {
+        tallies.push(first_tally(lib, &rows.at(number)))?;
     }
     Ok(tallies)
 }
@@ -92,7 +91,8 @@ pub(crate) fn lower_tallies(pin_groups: &PinGroups, tallies: &mut [Tally], group
 
 // The tally of a choice at the start: the area of its cell, and `UNSEEN` for each pin.
 fn first_tally(lib: &Library, row: &ListedChoice) -> Tally
-    requires { IsOfLibrary lib.now (plain_part row.now.stand) }
+    requires of_library { IsOfLibrary lib.now (plain_part row.now.stand) }
+    requires few { pin_count (plain_part row.now.stand) ≤ 16 }
     ensures { IsFirstTally lib.now (plain_row row.now) result }
 {
     let class = row.class;

@@ -1,7 +1,7 @@
 pub mod Agreeing
-mod Assignments
+pub mod Assignments
 mod Begun
-mod Bits
+pub mod Bits
 mod Delays
 mod Evaluating
 mod Faultless

@@ -4,7 +4,7 @@ use Rattle.std.specs.List.{IsDistinct}
 use Rattle.std.specs.Prelude.{All}
 use Rattle.std.specs.Str.{bytes_eq}
 use Rattle.std.proofs.lemmas.List.{length-map, length-take-le}
-use Rattle.std.proofs.lemmas.Option.{get_or_from_slice_get, slice_get_within}
+use Rattle.std.proofs.lemmas.Option.{slice_get_within}
 use Rattle.lw_pool.specs.declared.id.ClassId.{ClassId}
 use Rattle.lw_pool.specs.declared.id.NetId.{NetId}
 use Rattle.lw_pool.specs.Numbers.{numbers}
@@ -20,7 +20,6 @@ use Rattle.lw_laws.specs.Rounds.{labels_in}
 use Rattle.lw_laws.specs.Marks.{Mark as PlainMark}
 use Rattle.lw_laws.specs.Headline.{Port as PlainPort}
 use Rattle.lw_laws.specs.MappedNetlists.{form_classes}
-use Rattle.lw_laws.proofs.Numbers.{slice_get_map, slice_get_map_back}
 use Rattle.lw_laws.proofs.GraphEncodes.{forms_trees}
 use Rattle.lw_net.specs.Networks.{IsNetwork, NetworkParts, input_names, name_in, output_names, output_port}
 use Rattle.lw_net.specs.Plain as network
@@ -42,13 +41,12 @@ use Rattle.lw_extract.specs.Choosing.{heights}
 use Rattle.lw_extract.specs.Covers.{AreFit, IsExtractedCover, IsFirstUncovered}
 use Rattle.lw_map.specs.declared.fault.MapFault.{MapFault}
 use Rattle.lw_map.specs.declared.fault.MapFault.TheVariants as map_fault
-use Rattle.lw_map.specs.Options.{Options, plain_options}
+use Rattle.lw_map.specs.Options.{Options}
 use Rattle.lw_map.specs.Ports.{ArePortsOf}
 use Rattle.lw_map.proofs.Composed.{port_names}
 use Rattle.lw_map.proofs.GateCount.{few_gates}
-use Rattle.lw_map.proofs.PortNames.{few_outputs}
+use Rattle.lw_map.proofs.PortNames.{few_outputs, in_range, net_in_range, output_at, root_at}
 use Rattle.lw_joined.specs.declared.choices.Joined.{Joined}
-use Rattle.lw_joined.specs.declared.covering.Covered.{Covered}
 use Rattle.lw_joined.specs.Choices.{IsJoined}
 use Rattle.lw_joined.specs.Covering.{IsCoverFault, IsCoveredBy, IsFastestOver, IsFirstUncoveredOver, IsLackOver, IsUncoveredOver, options_of}
 use Rattle.lw_joined.specs.Joins.{joined_listing, own_form}
@@ -137,37 +135,18 @@ module _ (net : NetworkParts) (j : Joined) (ports : Ports) (kept : IsNetwork net
     }
 
     module _ (is : IsJoined net j) where
-      in_names : (o : NetId) (k : ℕ) → slice_get net.outputs k ≡ Some o → o.0 < length net.names
-      in_names o k at = subst (λ (p : NetId). p.0 < length net.names) (get_or_from_slice_get net.outputs k o o at) (kept.outputs k o (slice_get_within net.outputs k o at))
-
-      in_nets : (o : NetId) → o.0 < length net.names → o.0 < net.inputs + length (map network.plain_node net.nodes)
-      in_nets o lt = let n = kept.named in let m = length-map net.nodes network.plain_node in omega arith
+      abbrev class_of_net : ℕ → ℕ
+      class_of_net n = class_in (listing net j is) j.choices.graph (form net j is n)
 
       abbrev class_of_output : NetId → ℕ
-      class_of_output o = class_in (listing net j is) j.choices.graph (form net j is o.0)
-
-      abbrev class_of_port : PlainPort → ℕ
-      class_of_port p = class_in (listing net j is) j.choices.graph (form net j is p.net)
-
-      -- the output at a place, and its class
-      output_at : (k : ℕ) (root : ClassId) → slice_get ports.roots k ≡ Some root → (o : NetId) × (slice_get net.outputs k ≡ Some o) × (o.0 < length net.names) × (root.0 ≡ class_of_output o)
-      output_at k root at =
-          let there : slice_get (map class_of_port (map (output_port net) net.outputs)) k ≡ Some root.0 = ap (λ (cs : List ℕ). slice_get cs k) (sym (roots_of is)) ∙ slice_get_map (λ (d : ClassId). d.0) ports.roots k root at in
-          let (p, e, same) = slice_get_map_back class_of_port (map (output_port net) net.outputs) k root.0 there in
-          let (o, f, port) = slice_get_map_back (output_port net) net.outputs k p e in
-          (o, f, in_names o k f, sym same ∙ ap class_of_port (sym port))
-
-      root_at : (k : ℕ) (o : NetId) → slice_get net.outputs k ≡ Some o → (root : ClassId) × (slice_get ports.roots k ≡ Some root) × (root.0 ≡ class_of_output o)
-      root_at k o at =
-          let there : slice_get (map (λ (d : ClassId). d.0) ports.roots) k ≡ Some (class_of_output o) = ap (λ (cs : List ℕ). slice_get cs k) (roots_of is) ∙ slice_get_map class_of_port (map (output_port net) net.outputs) k (output_port net o) (slice_get_map (output_port net) net.outputs k o at) in
-          slice_get_map_back (λ (d : ClassId). d.0) ports.roots k (class_of_output o) there
+      class_of_output o = class_of_net o.0
 
       -- an output whose class has no mark has no cover
       no_mark : (o : NetId) (k : ℕ) → o.0 < length net.names → k ≡ class_of_output o → slice_index_or marks k None ≡ None → IsUncoveredOver cells net starts j is o
       no_mark o k lt same none by by_is tree =
           let label : labels_in (costs_of marks) k ≡ None = label_at marks k ∙ ap (λ (m : Option Mark). option_map (λ (p : PlainMark). p.cost) (option_map plain_mark m)) none in
           let no : IsLeastCover j.choices.graph (library_patterns cells) (time_cost cells starts) k None = subst (IsLeastCover j.choices.graph (library_patterns cells) (time_cost cells starts) k) label (own_least.least k) in
-          no by by_is (subst (Unfolds j.choices.graph (tree_of by)) (sym same) ((forms_trees (options_of j).mode net.inputs (listing net j is) j.choices.graph (sound net j is) is.graph (form net j is o.0) (tree_of by) (form_listed net j is o.0 (in_nets o lt))).1 tree))
+          no by by_is (subst (Unfolds j.choices.graph (tree_of by)) (sym same) ((forms_trees (options_of j).mode net.inputs (listing net j is) j.choices.graph (sound net j is) is.graph (form net j is o.0) (tree_of by) (form_listed net j is o.0 (net_in_range net kept o lt))).1 tree))
 
       -- an output whose class has a mark has one
       some_mark : (o : NetId) (k : ℕ) (m : Mark) → o.0 < length net.names → k ≡ class_of_output o → slice_index_or marks k None ≡ Some m → IsUncoveredOver cells net starts j is o → ⊥
@@ -175,20 +154,20 @@ module _ (net : NetworkParts) (j : Joined) (ports : Ports) (kept : IsNetwork net
           let label : labels_in (costs_of marks) k ≡ Some m.cost = label_at marks k ∙ ap (λ (n : Option Mark). option_map (λ (p : PlainMark). p.cost) (option_map plain_mark n)) some in
           let has : IsLeastCover j.choices.graph (library_patterns cells) (time_cost cells starts) k (Some m.cost) = subst (IsLeastCover j.choices.graph (library_patterns cells) (time_cost cells starts) k) label (own_least.least k) in
           let (by, by_is, u, cost) = has.0 in
-          lacks by by_is ((forms_trees (options_of j).mode net.inputs (listing net j is) j.choices.graph (sound net j is) is.graph (form net j is o.0) (tree_of by) (form_listed net j is o.0 (in_nets o lt))).0 (subst (Unfolds j.choices.graph (tree_of by)) same u))
+          lacks by by_is ((forms_trees (options_of j).mode net.inputs (listing net j is) j.choices.graph (sound net j is) is.graph (form net j is o.0) (tree_of by) (form_listed net j is o.0 (net_in_range net kept o lt))).0 (subst (Unfolds j.choices.graph (tree_of by)) same u))
 
       -- the first root without a mark is that of the first output without a cover
       first_lack : (k : ℕ) → IsFirstUncovered marks ports.roots k → IsFirstUncoveredOver cells net starts j is k
       first_lack k un =
-          let (o, at, lt, same) = output_at k un.root un.at in
+          let (o, at, lt, same) = output_at net kept ports.roots class_of_net (roots_of is) k un.root un.at in
           record {
             output = o;
             at = at;
             lacks = no_mark o un.root.0 lt same un.uncovered;
             first = λ i other below e lacks.
-                let (root, f, is_root) = root_at i other e in
+                let (root, f, is_root) = root_at net kept ports.roots class_of_net (roots_of is) i other e in
                 let (m, marked) = un.first i root below f in
-                some_mark other root.0 m (in_names other i e) is_root marked lacks;
+                some_mark other root.0 m (in_range net kept i other e) is_root marked lacks;
           }
 
     pub lack_over : (fault : ExtractFault) → ((k : ℕ) → fault ≡ extract.NoCover k → IsFirstUncovered marks ports.roots k) → IsLackOver cells net starts j fault

@@ -1,16 +1,18 @@
 -- A union has the values and the forms of the network that it begins with, and with links its forms are a sound listing.
-use Rattle.std.proofs.Common.{ℕ, zero, suc, ◌+◌, ◌<◌, ◌≤◌, ◌≡◌, false, Contains, List, [], ◌∷◌, ◌++◌, length, take, Some, slice_get, refl, ap, sym, ◌∙◌, subst, arith}
+use Rattle.std.proofs.Common.{ℕ, zero, suc, ◌+◌, ◌<◌, ◌≤◌, ◌≡◌, false, Contains, List, [], ◌∷◌, length, take, Some, slice_get, refl, ap, sym, ◌∙◌, subst, arith}
 use Rattle.std.proofs.lemmas.List.{get_or-take, length-append, length-take-le}
 use Rattle.std.proofs.lemmas.Option.{get_or_from_slice_get, slice_get_within}
 use Rattle.std.specs.List.{list_any}
 use Rattle.lw_facts.proofs.Lists.{get_left}
 use Rattle.lw_laws.specs.Networks.{IsInOrder, Network, Node, agrees, row_value}
-use Rattle.lw_laws.specs.Signals.{Signal, input_signals, signal_of_node, signals_after, signals_of}
+use Rattle.lw_laws.specs.Signals.{Signal, input_signals, signals_after, signals_of}
 use Rattle.lw_laws.specs.Listings.{IsListed, listing_of}
 use Rattle.lw_laws.specs.SignalValues.{AreNetForms, IsSoundListing}
 use Rattle.lw_laws.proofs.Mapping.{sop_listed, sop_occurs, sop_value_is}
 use Rattle.lw_laws.proofs.NetValues.{entries_agree}
 use Rattle.lw_laws.proofs.Sound.{links_sound, network_is_sound}
+use Rattle.lw_form.proofs.KeptForms.{after_front}
+use Rattle.lw_form.proofs.Signalled.{after_apart}
 use Rattle.lw_joined.specs.Joins.{BeginsWith, HasTheForms, HasTheValues, IsJoin, joined_listing, own_form}
 
 -- an element of the first ones
@@ -19,15 +21,6 @@ get_front zero xs i lt = absurd (omega arith)
 get_front (suc k) [] i lt = refl
 get_front (suc k) (x ∷ xs) zero lt = refl
 get_front (suc k) (x ∷ xs) (suc i) lt = get_front k xs i (omega arith)
-
--- what stands before further nodes stays
-pub after_more : (width : ℕ) (signals : List Signal) (nodes more : List Node) → signals_after width signals (nodes ++ more) ≡ signals_after width (signals_after width signals nodes) more
-after_more width signals [] more = refl
-after_more width signals (node ∷ nodes) more = after_more width (signals ++ signal_of_node width signals node ∷ []) nodes more
-
-pub after_front : (width : ℕ) (signals : List Signal) (nodes : List Node) (s : ℕ) (x : Signal) → slice_get signals s ≡ Some x → slice_get (signals_after width signals nodes) s ≡ Some x
-after_front width signals [] s x e = e
-after_front width signals (node ∷ nodes) s x e = after_front width (signals ++ signal_of_node width signals node ∷ []) nodes s x (get_left signals (signal_of_node width signals node ∷ []) s x e)
 
 module _ (net union : Network) (begins : BeginsWith net union) where
   node_in : (j : ℕ) (node : Node) → slice_get net.nodes j ≡ Some node → slice_get union.nodes j ≡ Some node
@@ -58,7 +51,7 @@ module _ (net union : Network) (begins : BeginsWith net union) where
       let (x, e, own) = sop_listed width net s lt in
       let all : signals_of width union ≡ signals_after width (signals_of width net) begins.further =
       ap (λ i. signals_after width (input_signals 0 i) union.nodes) begins.inputs
-      ∙ (ap (signals_after width (input_signals 0 net.inputs)) begins.nodes ∙ after_more width (input_signals 0 net.inputs) net.nodes begins.further) in
+      ∙ (ap (signals_after width (input_signals 0 net.inputs)) begins.nodes ∙ after_apart width (input_signals 0 net.inputs) net.nodes begins.further) in
       let there : slice_get (signals_of width union) s ≡ Some x = ap (λ ss. slice_get ss s) all ∙ after_front width (signals_of width net) begins.further s x e in
       ap (λ (y : Signal). y.sop) (get_or_from_slice_get (signals_of width union) s x _ there) ∙ sym own
 

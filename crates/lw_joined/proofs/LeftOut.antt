@@ -1,5 +1,5 @@
 -- Which others are left out of a union, and the limits that they pass.
-use Rattle.std.proofs.Common.{ℕ, zero, suc, ◌+◌, ◌<◌, ◌≤◌, ◌≡◌, ◌≢◌, ◌⊎◌, inl, inr, Bool, true, false, List, [], ◌∷◌, ◌++◌, length, take, replicate, Option, Some, None, Result, Ok, Err, IfOk, slice_get, refl, ap, sym, ◌∙◌, subst, subst₂, arith}
+use Rattle.std.proofs.Common.{ℕ, zero, suc, ◌+◌, ◌<◌, ◌≤◌, ◌≡◌, ◌≢◌, ◌⊎◌, inl, inr, Bool, true, false, List, [], ◌∷◌, ◌++◌, length, replicate, Some, Result, IfOk, slice_get, refl, ap, sym, ◌∙◌, subst, subst₂, arith}
 use Rattle.std.proofs.lemmas.List.{length-take-le, take-append-le, take_all}
 use Rattle.std.proofs.lemmas.Option.{none-some, slice_get_within}
 use Rattle.lw_facts.proofs.Lists.{get_last, get_last_cases, get_left}
@@ -20,7 +20,6 @@ use Rattle.lw_map.specs.declared.options.Options as code
 use Rattle.lw_map.specs.Faults.{IsChoiceFault}
 use Rattle.lw_map.specs.Mapped.{HasTooManySplits, IsWithinLimits}
 use Rattle.lw_map.proofs.ChoiceLemmas.{few_bases}
-use Rattle.lw_joined.specs.declared.uniting.Other.{Other}
 use Rattle.lw_joined.specs.declared.uniting.Union.{Union}
 use Rattle.lw_joined.specs.declared.taking.Left.{Left}
 use Rattle.lw_joined.specs.declared.taking.Limit.{Limit}
@@ -28,7 +27,7 @@ use Rattle.lw_joined.specs.declared.taking.Limit.TheVariants.{Signals, Forms, Sp
 use Rattle.lw_joined.specs.declared.taking.Listed.{Listed}
 use Rattle.lw_joined.specs.declared.taking.Listing.{Listing}
 use Rattle.lw_joined.specs.declared.taking.Offer.{Offer}
-use Rattle.lw_joined.specs.Unions.{LeavesOut, IsListedAs, IsListingOf, IsPast, IsUnion, ListsTaken, ListsUnion, ends_of, first_of, limit_fault, own_places, tried_at, union_in, united}
+use Rattle.lw_joined.specs.Unions.{LeavesOut, IsListedAs, IsListingOf, IsPast, IsUnion, ListsTaken, ListsUnion, first_of, limit_fault, own_places, tried_at, union_in}
 use Rattle.lw_joined.proofs.Alone.{plain_alone}
 use Rattle.lw_joined.proofs.Unions.{ends_without, joined_names, united_none, united_without}
 

@@ -1,10 +1,9 @@
 -- Forms with further pairs of one value are those of a listing with links.
-use Rattle.std.proofs.Common.{ℕ, zero, suc, ◌+◌, ◌*◌, ◌/◌, ◌%◌, ◌<◌, ◌≤◌, ◌≡◌, ◌==◌, Bool, true, false, if◌then◌else◌, List, [], ◌∷◌, ◌++◌, length, map, Option, Some, slice_get, slice_index_or, Contains, refl, ap, ap₂, sym, ◌∙◌, subst, arith}
+use Rattle.std.proofs.Common.{ℕ, zero, suc, ◌+◌, ◌*◌, ◌/◌, ◌%◌, ◌<◌, ◌≡◌, ◌==◌, if◌then◌else◌, List, [], ◌∷◌, ◌++◌, length, map, Some, slice_get, slice_index_or, Contains, refl, ap, ap₂, sym, ◌∙◌, subst, arith}
 use Rattle.std.proofs.lemmas.List.{append-nil, length-map, map-append}
 use Rattle.std.proofs.lemmas.Option.{none-some, slice_get-get_or}
 use Rattle.lw_facts.proofs.Lists.{contained_at}
-use Rattle.lw_laws.specs.Flip.{flip}
-use Rattle.lw_laws.specs.Forms.{Form, complement, form_value}
+use Rattle.lw_laws.specs.Forms.{Form, complement}
 use Rattle.lw_laws.specs.Forms.Form.{true_form}
 use Rattle.lw_laws.specs.Listings.{IsListed, Listing, sign_of}
 use Rattle.lw_laws.specs.NumberedForms.{Base, NumberedForms}

@@ -1,5 +1,5 @@
 -- The graph of a union with links is the graph of a join.
-use Rattle.std.proofs.Common.{ℕ, zero, suc, ◌+◌, ◌*◌, ◌/◌, ◌<◌, ◌≤◌, ◌≡◌, ◌↔◌, Bool, true, false, List, [], ◌∷◌, ◌++◌, length, map, Option, Some, Result, Ok, Err, slice_get, slice_index_or, All, Contains, refl, ap, ap₂, sym, ◌∙◌, subst, subst₂, arith, append_assoc}
+use Rattle.std.proofs.Common.{ℕ, ◌+◌, ◌<◌, ◌≤◌, ◌≡◌, ◌↔◌, Bool, true, false, List, [], ◌∷◌, ◌++◌, length, map, Result, Err, slice_index_or, All, Contains, refl, ap, ap₂, sym, ◌∙◌, subst, subst₂, arith, append_assoc}
 use Rattle.std.specs.List.{AllByRecursion, sum_by}
 use Rattle.std.proofs.lemmas.List.{append-nil, length-append, length-map, map-append}
 use Rattle.std.proofs.lemmas.List.Elements.{All-weaker, recursion_from_All}
@@ -10,8 +10,7 @@ use Rattle.lw_pool.specs.declared.id.ClassId.{ClassId}
 use Rattle.lw_pool.specs.Numbers.{numbers}
 use Rattle.lw_laws.specs.Classes.{IsGraphOf, class_in}
 use Rattle.lw_laws.specs.Encodings.{Encodes}
-use Rattle.lw_laws.specs.Forms.{Form}
-use Rattle.lw_laws.specs.Graphs.{Graph, IsWritten, class_of, most_classes}
+use Rattle.lw_laws.specs.Graphs.{Graph, IsWritten, class_of}
 use Rattle.lw_laws.specs.Listings.{Listing, listing_of}
 use Rattle.lw_laws.specs.Mapped.{forms_of}
 use Rattle.lw_laws.specs.MappedNetlists.{form_classes}
@@ -19,8 +18,8 @@ use Rattle.lw_laws.specs.Modes.{Mode}
 use Rattle.lw_laws.specs.Networks as laws
 use Rattle.lw_laws.specs.NumberedForms.{Base, NumberedForms, family_of}
 use Rattle.lw_laws.specs.Numbering.{number, numbered, numbered_base, sop_number}
-use Rattle.lw_laws.specs.Signals.{Signal, signals_of, sop_at}
-use Rattle.lw_laws.specs.SignalValues.{IsLinkOf, IsSoundListing, with_links}
+use Rattle.lw_laws.specs.Signals.{Signal}
+use Rattle.lw_laws.specs.SignalValues.{IsLinkOf, IsSoundListing}
 use Rattle.lw_laws.proofs.ClassLaws.{encoding_of_forms}
 use Rattle.lw_laws.proofs.Mapping.{sop_listed}
 use Rattle.lw_laws.proofs.Numbers.{slice_get_map}

@@ -14,10 +14,12 @@ use Rattle.lw_laws.specs.Decompositions.HasTree.{factoring_law}
 use Rattle.lw_laws.specs.Headline.{HasLeastTime}
 use Rattle.lw_laws.proofs.Lists.{slice_get_some}
 use Rattle.lw_laws.proofs.Mapping.{after_length, inputs_length, signals_length, sop_listed}
+use Rattle.lw_form.proofs.KeptForms as kept_forms
+use Rattle.lw_form.proofs.KeptForms.{after_front}
+use Rattle.lw_form.proofs.Signalled.{after_apart}
 use Rattle.lw_joined.specs.Joins.{own_form}
 use Rattle.lw_joined.specs.Renaming.{Holds, net_at, node_at, starting}
 use Rattle.lw_joined.proofs.Held.{rewired, rewired_cover, rewired_time, rewired_tree, signal_renamed, trees_renamed}
-use Rattle.lw_joined.proofs.Joins.{after_front, after_more}
 use Rattle.lw_joined.proofs.Renamed.{factored_renamed, renamed, signed_renamed, sum_renamed}
 
 past : {X : Type 0} (xs : List X) (i : ℕ) (d : X) → length xs ≤ i → slice_index_or xs i d ≡ d
@@ -30,15 +32,10 @@ sop_is : (signals : List Signal) (s : ℕ) (x : Signal) → slice_get signals s 
 sop_is signals s x e = ap (λ (y : Signal). y.sop) (get_or_from_slice_get signals s x _ e)
 
 module _ (width : ℕ) (u : Network) where
-  input_at : (j n i : ℕ) → i < n → slice_get (input_signals j n) i ≡ Some (signal_of_input (j + i))
-  input_at j zero i lt = absurd (omega arith)
-  input_at j (suc n) zero lt = let same : j ≡ j + 0 = omega arith in ap (λ k. Some (signal_of_input k)) same
-  input_at j (suc n) (suc i) lt = let same : (j + 1) + i ≡ j + suc i = omega arith in input_at (j + 1) n i (omega arith) ∙ ap (λ k. Some (signal_of_input k)) same
-
   input_signal : (i : ℕ) → i < u.inputs → slice_get (signals_of width u) i ≡ Some (signal_of_input i)
   input_signal i lt =
       let same : 0 + i ≡ i = omega arith in
-      after_front width (input_signals 0 u.inputs) u.nodes i (signal_of_input i) (input_at 0 u.inputs i lt ∙ ap (λ k. Some (signal_of_input k)) same)
+      after_front width (input_signals 0 u.inputs) u.nodes i (signal_of_input i) (kept_forms.input_signal 0 u.inputs i lt ∙ ap (λ k. Some (signal_of_input k)) same)
 
   fanins_same : (before all : List Signal) → ((t : ℕ) → t < length before → sop_at before t ≡ sop_at all t) → (fanins : List ℕ) → ((t : ℕ) → Contains fanins t → t < length before) → map (sop_at before) fanins ≡ map (sop_at all) fanins
   fanins_same before all same [] low = refl
@@ -55,7 +52,7 @@ module _ (width : ℕ) (u : Network) where
       let s = signal_of_node width before node in
       let count : length before ≡ u.inputs + k = omega (arith, after_length width first (take k u.nodes), inputs_length 0 u.inputs) in
       let nodes : u.nodes ≡ take k u.nodes ++ (node ∷ rest) = sym (take-append-drop k u.nodes) ∙ ap (λ (xs : List Node). take k u.nodes ++ xs) (drop_get u.nodes k node e) in
-      let all : signals_of width u ≡ signals_after width before (node ∷ rest) = ap (signals_after width first) nodes ∙ after_more width first (take k u.nodes) (node ∷ rest) in
+      let all : signals_of width u ≡ signals_after width before (node ∷ rest) = ap (signals_after width first) nodes ∙ after_apart width first (take k u.nodes) (node ∷ rest) in
       let here : slice_get (signals_of width u) (length before) ≡ Some s = ap (λ ss. slice_get ss (length before)) all ∙ after_front width (before ++ s ∷ []) rest (length before) s (get_last before s) in
       let same : (t : ℕ) → t < length before → sop_at before t ≡ sop_at (signals_of width u) t = λ t below.
       let (y, at) = slice_get_some before t below in

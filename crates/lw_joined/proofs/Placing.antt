@@ -1,5 +1,5 @@
 -- Names that are looked up among others.
-use Rattle.std.proofs.Common.{ℕ, zero, suc, ◌+◌, ◌<◌, ◌≡◌, Bool, true, false, cond, List, [], ◌∷◌, ◌++◌, length, map, take, get_or, Option, Some, None, slice_get, slice_index_or, refl, ap, ap₂, sym, ◌∙◌, subst, subst₂, arith}
+use Rattle.std.proofs.Common.{ℕ, zero, suc, ◌+◌, ◌<◌, ◌≡◌, true, false, cond, List, [], ◌∷◌, ◌++◌, length, take, get_or, Some, slice_get, ap, ap₂, sym, ◌∙◌, subst₂}
 use Rattle.std.specs.List.{AllZip, Contains, IsDistinct, list_any, position}
 use Rattle.std.specs.Str.{bytes_eq}
 use Rattle.std.proofs.lemmas.Bool.{false≢true}
@@ -9,7 +9,7 @@ use Rattle.std.proofs.lemmas.Map.Views.{list_any-from_Contains}
 use Rattle.std.proofs.lemmas.Option.{slice_get-get_or}
 use Rattle.std.specs.Cmp.Lexicographic.{nat_list_eq_equiv}
 use Rattle.indexmap.specs.IndexSet.{insert_key}
-use Rattle.lw_facts.proofs.Lists.{at_contained, bytes_eq_is, bytes_eq_same, contained_at, none_before}
+use Rattle.lw_facts.proofs.Lists.{at_contained, bytes_eq_is, contained_at, none_before}
 use Rattle.lw_joined.specs.Places.{ArePlacesOf, IsFirstStrange}
 
 -- one more name is in the set

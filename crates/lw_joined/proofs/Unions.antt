@@ -1,10 +1,9 @@
 -- Unions with one network more.
-use Rattle.std.proofs.Common.{ℕ, zero, suc, ◌+◌, ◌-◌, ◌<◌, ◌≤◌, ◌≡◌, Bool, true, false, List, [], ◌∷◌, ◌++◌, length, map, take, drop, Option, Some, None, IfSome, Result, Ok, Err, IfOk, slice_get, All, refl, ap, ap₂, sym, ◌∙◌, subst, subst₂, arith, append_assoc}
+use Rattle.std.proofs.Common.{ℕ, zero, suc, ◌+◌, ◌-◌, ◌<◌, ◌≤◌, ◌≡◌, Bool, true, false, List, [], ◌∷◌, ◌++◌, length, take, drop, Option, Some, None, IfSome, slice_get, All, refl, ap, ap₂, sym, ◌∙◌, subst, subst₂, arith, append_assoc}
 use Rattle.std.proofs.lemmas.List.{append-nil, length-append, length-drop, take_all}
 use Rattle.std.proofs.lemmas.List.Elements.{All-cons, All-nil}
-use Rattle.lw_pool.specs.Numbers.{most_signals}
 use Rattle.lw_net.specs.Networks.{IsNetwork, NetworkParts}
-use Rattle.lw_net.specs.Unions.{ArePlacesIn, bare, joined_to}
+use Rattle.lw_net.specs.Unions.{ArePlacesIn, joined_to}
 use Rattle.lw_joined.specs.declared.uniting.Other.{Other}
 use Rattle.lw_joined.specs.declared.uniting.Union.{Union}
 use Rattle.lw_joined.specs.Unions.{FitsOther, IsUnionOf, end_of, ends_from, own_places, places_from, united_to, with_taken}
@@ -35,21 +34,6 @@ own_fit net = record { one_each = places_long 0 net.inputs; within = places_with
 pub joined_names : (one other : NetworkParts) (places : List ℕ) → IsNetwork other → length (joined_to one other places).names ≡ length one.names + length other.nodes
 joined_names one other places kept =
     omega (arith, length-append one.names (drop other.inputs other.names), length-drop other.inputs other.names, kept.named)
-
-joined_longer : (one other : NetworkParts) (places : List ℕ) → length one.names ≤ length (joined_to one other places).names
-joined_longer one other places = omega (arith, length-append one.names (drop other.inputs other.names))
-
--- a union that goes on with a network that is taken, and with one that is not
-pub goes_on : {E : Type 0} (union : Union) (other : Other) (net : NetworkParts) (ends : List ℕ) (r : Result (Option Union) E) → IsUnionOf net ends (Some union) → IfOk r (IsUnionOf (joined_to union.net other.net.now other.places.now) (union.ends.items ++ length (joined_to union.net other.net.now other.places.now).names ∷ [])) → IfOk r (IsUnionOf (with_taken net other true) (ends ++ end_of (with_taken net other true) true))
-goes_on union other net ends r (same, behind) is =
-    subst (λ (n : NetworkParts). IfOk r (IsUnionOf (joined_to n other.net.now other.places.now) (ends ++ length (joined_to n other.net.now other.places.now).names ∷ []))) same
-    (subst (λ (es : List ℕ). IfOk r (IsUnionOf (joined_to union.net other.net.now other.places.now) (es ++ length (joined_to union.net other.net.now other.places.now).names ∷ []))) behind is)
-
-pub stays_none : (other : Other) (net : NetworkParts) → most_signals < length net.names → most_signals < length (with_taken net other true).names
-stays_none other net many = omega (arith, many, joined_longer net other.net.now other.places.now)
-
-pub stays : (union : Option Union) (net : NetworkParts) (ends : List ℕ) → IsUnionOf net ends union → IsUnionOf net (ends ++ []) union
-stays union net ends is = subst (λ es. IsUnionOf net es union) (sym (append-nil ends)) is
 
 take_nil : (n : ℕ) → ◌≡◌ {A = List Other} (take n []) []
 take_nil zero = refl

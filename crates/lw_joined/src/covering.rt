@@ -1,10 +1,9 @@
 // The cover of the outputs of a network over the graph of several.
-ghost use Rattle.std.specs.Prelude.{◌≡◌, ◌<◌, ◌⊎◌, ℕ, All, IfErr, IfOk, Some, length, slice_get};
+ghost use Rattle.std.specs.Prelude.{All, IfErr, IfOk};
 ghost use Rattle.std.specs.List.{IsDistinct};
 ghost use Rattle.std.specs.Str.{bytes_eq};
-ghost use Rattle.lw_pool.specs.declared.id.NetId.{NetId as Net};
 ghost use Rattle.lw_genlib.specs.Cells.{IsSmall};
-ghost use Rattle.lw_net.specs.Networks.{name_in, output_names};
+ghost use Rattle.lw_net.specs.Networks.{output_names};
 ghost use Rattle.lw_joined.specs.Choices.{IsJoined};
 ghost use Rattle.lw_joined.specs.Covering.{IsCoveredBy, IsCoverFault, IsLackOver};
 
@@ -13,10 +12,9 @@ use lw_extract::{Cover, ExtractFault, extract_with};
 use lw_fixed::Micros;
 use lw_genlib::Library;
 use lw_label::{DelayCost, Labels, relabel_with_bounds};
-use lw_map::{MapFault, ports};
+use lw_map::{MapFault, ports, refused};
 use lw_net::Network;
 use lw_pattern::patterns;
-use lw_pool::{Name, NetId};
 use std::alloc::{AllocError, Global};
 
 /// The netlist of the matches that least labels choose, with the class of each gate, and the labels
@@ -25,31 +23,6 @@ use std::alloc::{AllocError, Global};
 pub struct Covered {
     pub cover: Cover,
     pub labels: Labels,
-}
-
-// The name of a net.
-fn name_of(alloc: Global, net: &Network, id: NetId) -> Result<Name, AllocError>
-    requires { id.0 < length net.now.names }
-    ensures { IfOk result (λ name. name ≡ name_in net.now id) }
-{
-    Name::from_slice(alloc, net.names()[id.0 as usize].as_bytes())
-}
-
-// Why there is no cover: the output that has none by its name, or memory.
-fn refused(alloc: Global, net: &Network, fault: ExtractFault) -> MapFault
-    requires { (k : ℕ) → fault ≡ ExtractFault.NoCover k → k < length net.now.outputs }
-    ensures named { (k : ℕ) (output : Net) → fault ≡ ExtractFault.NoCover k →
-        slice_get net.now.outputs k ≡ Some output →
-        (result ≡ MapFault.Memory) ⊎ (result ≡ MapFault.NoCover (name_in net.now output)) }
-    ensures memory { fault ≡ ExtractFault.Memory → result ≡ MapFault.Memory }
-{
-    match fault {
-        ExtractFault::NoCover(place) => match name_of(alloc, net, net.outputs()[place as usize]) {
-            Ok(name) => MapFault::NoCover(name),
-            Err(_) => MapFault::Memory,
-        },
-        ExtractFault::Memory => MapFault::Memory,
-    }
 }
 
 // The matches that least labels choose for the outputs, or the first output that has none.

@@ -1,5 +1,5 @@
 -- Lists of forms with further pairs.
-use Rattle.std.proofs.Common.{ℕ, zero, suc, ◌+◌, ◌*◌, ◌/◌, ◌%◌, ◌<◌, ◌≡◌, ◌⊎◌, inl, inr, Bool, List, [], ◌∷◌, ◌++◌, length, Some, slice_get, Result, Ok, Err, MatchResult, OnOk, refl, ap, sym, ◌∙◌, subst, arith, append_assoc}
+use Rattle.std.proofs.Common.{ℕ, ◌+◌, ◌*◌, ◌/◌, ◌%◌, ◌<◌, ◌≡◌, ◌⊎◌, inl, inr, Bool, List, [], ◌∷◌, ◌++◌, length, Some, slice_get, Result, Ok, Err, MatchResult, OnOk, refl, ap, sym, ◌∙◌, subst, append_assoc}
 use Rattle.std.proofs.lemmas.List.{append-nil, length-append}
 use Rattle.std.proofs.lemmas.Option.{none-some}
 use Rattle.lw_facts.proofs.Lists.{get_left}
@@ -7,6 +7,7 @@ use Rattle.lw_aig.specs.declared.literal.Literal.{Literal}
 use Rattle.lw_laws.specs.NumberedForms.{NumberedForms}
 use Rattle.lw_laws.specs.NumberedValues.{AreNumberedValues}
 use Rattle.lw_form.specs.Links.{HaveOneValue, with_pair}
+use Rattle.lw_form.proofs.LinkedForms.{pair_cases}
 use Rattle.lw_links.specs.Linked.{IsLinked, TellPairs}
 
 -- values of a longer list are values of the list
@@ -55,14 +56,6 @@ linked_more old now f h linked one = record {
   each = λ k a b e d. by k a b (pair_cases linked.lefts linked.rights f h k a b (sym linked.one_each) e d);
 }
   where
-    pair_cases : (xs ys : List ℕ) (f h s a b : ℕ) → length ys ≡ length xs → slice_get (xs ++ f ∷ []) s ≡ Some a → slice_get (ys ++ h ∷ []) s ≡ Some b → ((slice_get xs s ≡ Some a) × (slice_get ys s ≡ Some b)) ⊎ ((a ≡ f) × (b ≡ h))
-    pair_cases [] [] f h zero a b same e d = inr (cc, cc)
-    pair_cases [] [] f h (suc s) a b same e d = cc
-    pair_cases [] (y ∷ ys) f h s a b same e d = cc
-    pair_cases (x ∷ xs) [] f h s a b same e d = cc
-    pair_cases (x ∷ xs) (y ∷ ys) f h zero a b same e d = inl (e, d)
-    pair_cases (x ∷ xs) (y ∷ ys) f h (suc s) a b same e d = pair_cases xs ys f h s a b (let q : length ys ≡ length xs = omega (arith, same) in q) e d
-
     by : (k a b : ℕ) → ((slice_get linked.lefts k ≡ Some a) × (slice_get linked.rights k ≡ Some b)) ⊎ ((a ≡ f) × (b ≡ h)) → HaveOneValue old a b
     by k a b (inl (p, q)) = linked.each k a b p q
     by k a b (inr (p, q)) = subst (λ n. HaveOneValue old n b) (sym p) (subst (HaveOneValue old f) (sym q) one)

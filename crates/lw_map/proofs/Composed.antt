@@ -1,10 +1,10 @@
 -- What the layers give one after another is what the cells and the network come to.
-use Rattle.std.proofs.Common.{ℕ, ◌+◌, ◌<◌, ◌≤◌, ◌≡◌, List, [], ◌∷◌, map, length, Option, Some, None, option_map, slice_get, slice_index_or, refl, ap, sym, ◌∙◌, subst, arith}
+use Rattle.std.proofs.Common.{ℕ, ◌<◌, ◌≤◌, ◌≡◌, List, [], ◌∷◌, map, length, Option, Some, None, option_map, slice_get, slice_index_or, refl, ap, sym, ◌∙◌, subst, arith}
 use Rattle.std.specs.List.{IsDistinct}
 use Rattle.std.specs.Prelude.{All}
 use Rattle.std.specs.Str.{bytes_eq}
 use Rattle.std.proofs.lemmas.List.{length-map, length-take-le}
-use Rattle.std.proofs.lemmas.Option.{get_or_from_slice_get, slice_get_within}
+use Rattle.std.proofs.lemmas.Option.{slice_get_within}
 use Rattle.lw_pool.specs.declared.id.ClassId.{ClassId}
 use Rattle.lw_pool.specs.declared.id.NetId.{NetId}
 use Rattle.lw_fixed.specs.declared.micro.Micro.{Micro}
@@ -16,7 +16,6 @@ use Rattle.lw_laws.specs.Rounds.{labels_in}
 use Rattle.lw_laws.specs.Mapped.{root_class}
 use Rattle.lw_laws.specs.Marks.{Mark as PlainMark}
 use Rattle.lw_laws.specs.Headline.{Port as PlainPort}
-use Rattle.lw_laws.proofs.Numbers.{slice_get_map, slice_get_map_back}
 use Rattle.lw_laws.proofs.Mapping.{sop_occurs}
 use Rattle.lw_laws.proofs.GraphEncodes.{graph_trees}
 use Rattle.lw_net.specs.Networks.{NetworkParts, IsNetwork, name_in, input_names, output_names}
@@ -47,7 +46,7 @@ use Rattle.lw_extract.proofs.PortLists.{port_name}
 use Rattle.lw_map.proofs.CoverNetlists.{cover_is_netlist}
 use Rattle.lw_map.proofs.GateCount.{few_gates}
 use Rattle.lw_map.proofs.Leaves.{start_is_least}
-use Rattle.lw_map.proofs.PortNames.{few_outputs}
+use Rattle.lw_map.proofs.PortNames.{few_outputs, in_range, net_in_range, output_at, root_at}
 use Rattle.lw_pool.specs.Numbers.{numbers}
 use Rattle.lw_net.specs.Ports.{output_port}
 
@@ -121,37 +120,18 @@ module _ (net : NetworkParts) (starts : List Micro) (c : Choices) (ports : Ports
         let few = are.few in
         omega (arith, n)
 
-    in_names : (o : NetId) (k : ℕ) → slice_get net.outputs k ≡ Some o → o.0 < length net.names
-    in_names o k at = subst (λ (p : NetId). p.0 < length net.names) (get_or_from_slice_get net.outputs k o o at) (kept.outputs k o (slice_get_within net.outputs k o at))
-
-    in_nets : (o : NetId) → o.0 < length net.names → o.0 < net.inputs + length (map network.plain_node net.nodes)
-    in_nets o lt = let n = kept.named in let m = length-map net.nodes network.plain_node in omega arith
+    abbrev class_of_net : ℕ → ℕ
+    class_of_net n = root_class options.width (network.plain net) c.graph n
 
     abbrev class_of_output : NetId → ℕ
-    class_of_output o = root_class options.width (network.plain net) c.graph o.0
-
-    abbrev class_of_port : PlainPort → ℕ
-    class_of_port p = root_class options.width (network.plain net) c.graph p.net
-
-    -- the output at a place, and its class
-    output_at : (k : ℕ) (root : ClassId) → slice_get ports.roots k ≡ Some root → (o : NetId) × (slice_get net.outputs k ≡ Some o) × (o.0 < length net.names) × (root.0 ≡ class_of_output o)
-    output_at k root at =
-        let there : slice_get (map class_of_port (map (output_port net) net.outputs)) k ≡ Some root.0 = ap (λ (cs : List ℕ). slice_get cs k) (sym roots_of) ∙ slice_get_map (λ (d : ClassId). d.0) ports.roots k root at in
-        let (p, e, same) = slice_get_map_back class_of_port (map (output_port net) net.outputs) k root.0 there in
-        let (o, f, port) = slice_get_map_back (output_port net) net.outputs k p e in
-        (o, f, in_names o k f, sym same ∙ ap class_of_port (sym port))
-
-    root_at : (k : ℕ) (o : NetId) → slice_get net.outputs k ≡ Some o → (root : ClassId) × (slice_get ports.roots k ≡ Some root) × (root.0 ≡ class_of_output o)
-    root_at k o at =
-        let there : slice_get (map (λ (d : ClassId). d.0) ports.roots) k ≡ Some (class_of_output o) = ap (λ (cs : List ℕ). slice_get cs k) roots_of ∙ slice_get_map class_of_port (map (output_port net) net.outputs) k (output_port net o) (slice_get_map (output_port net) net.outputs k o at) in
-        slice_get_map_back (λ (d : ClassId). d.0) ports.roots k (class_of_output o) there
+    class_of_output o = class_of_net o.0
 
     -- an output whose class has no mark has no cover
     no_mark : (o : NetId) (k : ℕ) → o.0 < length net.names → k ≡ class_of_output o → slice_index_or marks k None ≡ None → IsUncovered options cells net starts o
     no_mark o k lt same none by by_is tree =
         let label : labels_in (costs_of marks) k ≡ None = label_at marks k ∙ ap (λ (m : Option Mark). option_map (λ (p : PlainMark). p.cost) (option_map plain_mark m)) none in
         let no : IsLeastCover c.graph (library_patterns cells) (time_cost cells starts) k None = subst (IsLeastCover c.graph (library_patterns cells) (time_cost cells starts) k) label (own_least.least k) in
-        no by by_is (subst (Unfolds c.graph (tree_of by)) (sym same) ((graph_trees options.mode options.width (network.plain net) c.graph are.wide.least are.graph (sop_at (signals_of options.width (network.plain net)) o.0) (tree_of by) (sop_occurs options.width are.wide.least (network.plain net) o.0 (in_nets o lt))).1 tree))
+        no by by_is (subst (Unfolds c.graph (tree_of by)) (sym same) ((graph_trees options.mode options.width (network.plain net) c.graph are.wide.least are.graph (sop_at (signals_of options.width (network.plain net)) o.0) (tree_of by) (sop_occurs options.width are.wide.least (network.plain net) o.0 (net_in_range net kept o lt))).1 tree))
 
     -- an output whose class has a mark has one
     some_mark : (o : NetId) (k : ℕ) (m : Mark) → o.0 < length net.names → k ≡ class_of_output o → slice_index_or marks k None ≡ Some m → IsCovered options cells net o
@@ -159,13 +139,13 @@ module _ (net : NetworkParts) (starts : List Micro) (c : Choices) (ports : Ports
         let label : labels_in (costs_of marks) k ≡ Some m.cost = label_at marks k ∙ ap (λ (n : Option Mark). option_map (λ (p : PlainMark). p.cost) (option_map plain_mark n)) some in
         let is : IsLeastCover c.graph (library_patterns cells) (time_cost cells starts) k (Some m.cost) = subst (IsLeastCover c.graph (library_patterns cells) (time_cost cells starts) k) label (own_least.least k) in
         let (by, by_is, u, cost) = is.0 in
-        let tree = (graph_trees options.mode options.width (network.plain net) c.graph are.wide.least are.graph (sop_at (signals_of options.width (network.plain net)) o.0) (tree_of by) (sop_occurs options.width are.wide.least (network.plain net) o.0 (in_nets o lt))).0 (subst (Unfolds c.graph (tree_of by)) same u) in
+        let tree = (graph_trees options.mode options.width (network.plain net) c.graph are.wide.least are.graph (sop_at (signals_of options.width (network.plain net)) o.0) (tree_of by) (sop_occurs options.width are.wide.least (network.plain net) o.0 (net_in_range net kept o lt))).0 (subst (Unfolds c.graph (tree_of by)) same u) in
         (by, record { is_cover = by_is; has_tree = tree })
 
     -- the first root without a mark is that of the first output without a cover
     pub first_lack : (k : ℕ) → IsFirstUncovered marks ports.roots k → (o : NetId) × (slice_get net.outputs k ≡ Some o) × LacksCover options cells net starts (name_in net o)
     first_lack k is =
-        let (o, at, lt, same) = output_at k is.root is.at in (
+        let (o, at, lt, same) = output_at net kept ports.roots class_of_net roots_of k is.root is.at in (
           o,
           at,
           record {
@@ -176,9 +156,9 @@ module _ (net : NetworkParts) (starts : List Micro) (c : Choices) (ports : Ports
             named = refl;
             lacks = no_mark o is.root.0 lt same is.uncovered;
             first = λ i other below e.
-                let (root, f, is_root) = root_at i other e in
+                let (root, f, is_root) = root_at net kept ports.roots class_of_net roots_of i other e in
                 let (m, marked) = is.first i root below f in
-                some_mark other root.0 m (in_names other i e) is_root marked;
+                some_mark other root.0 m (in_range net kept i other e) is_root marked;
           },
         )
 

@@ -9,12 +9,14 @@ use Rattle.std.proofs.lemmas.List.Elements.{recursion_from_All}
 use Rattle.std.proofs.lemmas.Map.Made.{is_member-Decides, length-le_from_is_member}
 use Rattle.std.proofs.lemmas.Option.{get_or_from_slice_get, slice_get_within}
 use Rattle.std.proofs.lemmas.Slice.Eq.{bytes_eq-Decides}
+use Rattle.lw_pool.specs.declared.id.ClassId.{ClassId}
 use Rattle.lw_pool.specs.declared.id.NetId.{NetId}
+use Rattle.lw_pool.specs.Numbers.{numbers}
 use Rattle.lw_laws.specs.Names.{AreDifferent}
 use Rattle.lw_laws.specs.Headline.{Port as PlainPort}
 use Rattle.lw_laws.specs.MappedNetlists.{HasPorts, ArePortNames}
 use Rattle.lw_laws.proofs.Lists.{slice_get_some, all_map}
-use Rattle.lw_laws.proofs.Numbers.{slice_get_map_back}
+use Rattle.lw_laws.proofs.Numbers.{slice_get_map, slice_get_map_back}
 use Rattle.lw_net.specs.Networks.{NetworkParts, IsNetwork, name_in, input_names, output_names}
 use Rattle.lw_net.specs.Plain as network
 use Rattle.lw_lut_text.proofs.ReadNames.{different_of}
@@ -45,8 +47,25 @@ module _ (net : NetworkParts) (kept : IsNetwork net) where
       let (x, e) = slice_get_some net.names o.0 lt in
       e ∙ ap Some (sym (get_or_from_slice_get net.names o.0 x [] e))
 
-  in_range : (k : ℕ) (o : NetId) → slice_get net.outputs k ≡ Some o → o.0 < length net.names
+  pub in_range : (k : ℕ) (o : NetId) → slice_get net.outputs k ≡ Some o → o.0 < length net.names
   in_range k o e = subst (λ (p : NetId). p.0 < length net.names) (get_or_from_slice_get net.outputs k o o e) (kept.outputs k o (slice_get_within net.outputs k o e))
+
+  pub net_in_range : (o : NetId) → o.0 < length net.names → o.0 < net.inputs + length (map network.plain_node net.nodes)
+  net_in_range o lt = let n = kept.named in let m = length-map net.nodes network.plain_node in omega arith
+
+  -- the output at the place of a root, and the root at that of an output
+  module _ (roots : List ClassId) (class_of : ℕ → ℕ) (are : numbers roots ≡ map (λ (p : PlainPort). class_of p.net) (map (output_port net) net.outputs)) where
+    pub output_at : (k : ℕ) (root : ClassId) → slice_get roots k ≡ Some root → (o : NetId) × (slice_get net.outputs k ≡ Some o) × (o.0 < length net.names) × (root.0 ≡ class_of o.0)
+    output_at k root at =
+        let there : slice_get (map (λ (p : PlainPort). class_of p.net) (map (output_port net) net.outputs)) k ≡ Some root.0 = ap (λ (cs : List ℕ). slice_get cs k) (sym are) ∙ slice_get_map (λ (d : ClassId). d.0) roots k root at in
+        let (p, e, same) = slice_get_map_back (λ (p : PlainPort). class_of p.net) (map (output_port net) net.outputs) k root.0 there in
+        let (o, f, port) = slice_get_map_back (output_port net) net.outputs k p e in
+        (o, f, in_range k o f, sym same ∙ ap (λ (q : PlainPort). class_of q.net) (sym port))
+
+    pub root_at : (k : ℕ) (o : NetId) → slice_get net.outputs k ≡ Some o → (root : ClassId) × (slice_get roots k ≡ Some root) × (root.0 ≡ class_of o.0)
+    root_at k o at =
+        let there : slice_get (map (λ (d : ClassId). d.0) roots) k ≡ Some (class_of o.0) = ap (λ (cs : List ℕ). slice_get cs k) are ∙ slice_get_map (λ (p : PlainPort). class_of p.net) (map (output_port net) net.outputs) k (output_port net o) (slice_get_map (output_port net) net.outputs k o at) in
+        slice_get_map_back (λ (d : ClassId). d.0) roots k (class_of o.0) there
 
   -- an output with an input's name is that input
   tied : IsDistinct bytes_eq net.names → (i k : ℕ) (p : PlainPort) → slice_get (map (output_port net) net.outputs) k ≡ Some p → slice_get (input_names net) i ≡ Some p.name → p.net ≡ i
@@ -62,7 +81,7 @@ module _ (net : NetworkParts) (kept : IsNetwork net) where
 
   pub has_ports : HasPorts (network.plain net) (ports_of net)
   has_ports = all_map (λ (o : NetId). o.0 < length net.names) (λ (p : PlainPort). p.net < net.inputs + length (map network.plain_node net.nodes)) (output_port net) net.outputs
-      (λ o lt. let n = kept.named in let m = length-map net.nodes network.plain_node in omega arith)
+      net_in_range
       (recursion_from_All (λ (o : NetId). o.0 < length net.names) net.outputs kept.outputs)
 
   pub port_names : IsDistinct bytes_eq net.names → IsDistinct bytes_eq (input_names net) → IsDistinct bytes_eq (output_names net) → ArePortNames (network.plain net) (ports_of net)

@@ -55,6 +55,7 @@ pub use lw_assoc::Mode;
 pub use lw_big::generate;
 pub use lw_check::{Reason, Verdict};
 pub use mapping::{CertifiedNetlist, map};
+pub use naming::refused;
 pub use options::Options;
 pub use tabling::lut;
 pub use trading::trade;

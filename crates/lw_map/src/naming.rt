@@ -38,7 +38,7 @@ fn name_of(alloc: Global, net: &Network, id: NetId) -> Result<Name, AllocError>
 
 /// Why a network is not mapped, by the fault of its cover: the output that has none by its name, or
 /// memory.
-pub(crate) fn refused(alloc: Global, net: &Network, fault: ExtractFault) -> MapFault
+pub fn refused(alloc: Global, net: &Network, fault: ExtractFault) -> MapFault
     requires { (k : ℕ) → fault ≡ ExtractFault.NoCover k → k < length net.now.outputs }
     ensures named { (k : ℕ) (output : Net) → fault ≡ ExtractFault.NoCover k →
         slice_get net.now.outputs k ≡ Some output →

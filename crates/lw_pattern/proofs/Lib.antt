@@ -1,7 +1,7 @@
 mod Bracketings
 mod Counts
 mod Growth
-mod Keeping
+pub mod Keeping
 pub mod LibraryLaws
 mod Meanings
 mod Placement

@@ -15,7 +15,7 @@ returns c = record {
   point_at = let d : Point = record { time = record { 0 = 0 }; area = 0 } in got c.in_ok-get.field-0.now c.args.node.place d c.in_ok-point.ensures.lookup.3.0 ∙ ap Some (sym (c.in_ok-point.ensures.lookup.3.1 d));
   cell_at = c.cell.ensures;
   cell_is = refl;
-  pins_are = c.as_slice.ensures.classes;
+  pins_are = refl;
   delays_are = c.delays.ensures.delays;
   time_is = refl;
   exact_is = refl;

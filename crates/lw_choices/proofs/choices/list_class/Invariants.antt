@@ -8,8 +8,8 @@ use Rattle.lw_cost.specs.Least.{AreOfCells}
 use Rattle.lw_choices.specs.Areas.{area_cost}
 use Rattle.lw_choices.specs.PinUses.{bucket_count}
 use Rattle.lw_choices.specs.Tasks.{task}
-use Rattle.lw_choices.specs.Rows.{IsListing, IsUnderWay, plain_rows}
-use Rattle.lw_choices.proofs.Listing.{IsListingAt}
+use Rattle.lw_choices.specs.Rows.{IsListing, IsUnderWay}
+use Rattle.lw_choices.proofs.Growing.{IsListingAt}
 use Rattle.lw_choices.proofs.choices.list_class.Given as goal
 
 abbrev pub invariant-loop-found : goal.invariant-loop-found
@@ -17,7 +17,7 @@ invariant-loop-found l = record {
   count : l.to.chains.count ≡ bucket_count;
   way : (cells : List CellParts) → IsUnderWay cells l.initial.to → IsUnderWay cells l.to;
   coming : (m : Match) → Contains (map plain_match l.list.items) m → IsPatternMatch l.graph l.pats l.fn.class.0 m;
-  listing : (cells : List CellParts) (starts : List Micro) → IsUnderWay cells l.initial.to → AreOfCells (area_cost cells).pin_counts l.pats → IsListing (task l.graph l.pats cells starts) (length l.graph.leaves) (l.fn.class.0 + 1) (plain_rows l.initial.to.rows.items) → IsListingAt (task l.graph l.pats cells starts) (length l.graph.leaves) l.fn.class.0 (map plain_match l.list.items) (plain_rows l.to.rows.items);
+  listing : (cells : List CellParts) (starts : List Micro) → IsUnderWay cells l.initial.to → AreOfCells (area_cost cells).pin_counts l.pats → IsListing (task l.graph l.pats cells starts) (length l.graph.leaves) (l.fn.class.0 + 1) l.initial.to.rows → IsListingAt (task l.graph l.pats cells starts) (length l.graph.leaves) l.fn.class.0 (map plain_match l.list.items) l.to.rows;
 }
 
 abbrev pub decreases-loop-found : goal.decreases-loop-found

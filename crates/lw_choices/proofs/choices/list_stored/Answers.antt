@@ -4,7 +4,7 @@ use Rattle.lw_settle.specs.Stores.{IsFound, placed, pins_of}
 use Rattle.lw_choices.specs.Choices.{Choice}
 use Rattle.lw_choices.specs.Choices.Part.{gate}
 use Rattle.lw_choices.specs.Tasks.{task}
-use Rattle.lw_choices.specs.Rows.{plain_rows}
+use Rattle.lw_choices.specs.Rows.{IsGateAdded}
 use Rattle.lw_choices.proofs.Storing.{AreStoredFrom, stored_first, stored_next, stored_over}
 use Rattle.lw_choices.proofs.choices.list_stored.Goals as goal
 
@@ -16,7 +16,7 @@ loop-place-init c = record {
   listing = λ g pats starts store of_cells.
       let s = task g pats c.args.lib.now starts in
       let lists = c.args.store.now.lists in
-      subst (λ rows. AreStoredFrom s (placed lists) c.matches-place.result (plain_rows rows)) (sym c.in_ok-to.ensures.none) (stored_first s lists store of_cells c.matches-place.result c.matches-place.ensures.matches);
+      subst (λ rows. AreStoredFrom s (placed lists) c.matches-place.result rows) (sym c.in_ok-to.ensures.none) (stored_first s lists store of_cells c.matches-place.result c.matches-place.ensures.matches);
 }
 
 pub read-found-requires-clause-place : goal.read-found-requires-clause-place
@@ -28,8 +28,11 @@ pub read-found-requires-clause-fresh : goal.read-found-requires-clause-fresh
 read-found-requires-clause-fresh c =
     omega (arith, c.loop-place.invariant.done, c.matches-place.ensures.kept.few)
 
-pub add_gate-requires : goal.add_gate-requires
-add_gate-requires c = c.loop-place.invariant.way.count
+pub add_gate-requires-clause-count : goal.add_gate-requires-clause-count
+add_gate-requires-clause-count c = c.loop-place.invariant.way.count
+
+pub add_gate-requires-clause-few : goal.add_gate-requires-clause-few
+add_gate-requires-clause-few c = c.as_slice.ensures.few
 
 pub loop-place-preserved : goal.loop-place-preserved
 loop-place-preserved c = record {
@@ -45,16 +48,17 @@ loop-place-preserved c = record {
       let found = subst (λ ls. IsFound ls place read) c.loop-place.invariant.lists c.read-found.ensures.found in
       let x : Choice = record { class = read.class.0; part = gate read.cell.0 (numbers read.pins) } in
       let same : x ≡ record { class = found.at.class; part = gate found.at.stored.cell (pins_of found.at) } = λ j. record { class = found.class_is j; part = gate (found.cell_is j) (found.pins_are j) } in
-      let xs = plain_rows c.loop-place.to.rows.items in
-      let ys = plain_rows c.add_gate.new.to.rows.items in
+      let xs = c.loop-place.to.rows in
+      let ys = c.add_gate.new.to.rows in
       let here = subst (λ k. AreStoredFrom s (placed lists) k xs) one (c.loop-place.invariant.listing g pats starts store of_cells) in
-      stored_next s lists store of_cells place xs ys x found.at c.matches-place.ensures.kept found.listed same (c.in_ok-add_gate.ensures.added c.args.lib.now c.loop-place.invariant.way) here;
+      let added = subst (λ ps. IsGateAdded c.args.lib.now xs ys (record { class = read.class.0; part = gate read.cell.0 (numbers ps) })) c.as_slice.ensures.classes (c.in_ok-add_gate.ensures.added c.args.lib.now c.loop-place.invariant.way) in
+      stored_next s lists store of_cells place xs ys x found.at c.matches-place.ensures.kept found.listed same added here;
 }
 
 pub returns : goal.returns
 returns c g pats store starts of_cells =
     let s = task g pats c.args.lib.now starts in
     let lists = c.args.store.now.lists in
-    let xs = plain_rows c.loop-place.to.rows.items in
+    let xs = c.loop-place.to.rows in
     let over : ◌≡◌ {A = ℕ} c.loop-place.place 0 = omega (arith, c.loop-place-test.false) in
     stored_over s lists store of_cells xs (subst (λ k. AreStoredFrom s (placed lists) k xs) over (c.loop-place.invariant.listing g pats starts store of_cells))

@@ -1,4 +1,4 @@
-use Rattle.std.proofs.Common.{◌≡◌, ◌++◌, ◌∷◌, ◌∙◌, [], List, map, ap, sym, subst}
+use Rattle.std.proofs.Common.{◌++◌, map, sym, subst}
 use Rattle.lw_cost.specs.Coming.{AreMatches, still_to_come}
 use Rattle.lw_cost.specs.Values.{plain_match}
 use Rattle.lw_choices.proofs.Moving.{matches_ended, matches_moved}

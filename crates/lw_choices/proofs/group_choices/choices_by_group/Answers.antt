@@ -8,7 +8,7 @@ pub loop-group-init : goal.loop-group-init
 loop-group-init c =
     let groups = c.args.members.now.classes in
     let owners = c.args.owners.now in
-    subst₂ (λ ss ns. AreOwnersTo groups owners 0 ss ns) (sym c.new-starts.ensures.items) (sym c.new-numbers.ensures.items) (listed_none groups owners)
+    subst₂ (λ ss ns. AreOwnersTo groups owners 0 ss ns) (sym c.in_ok-starts.ensures.items) (sym c.in_ok-numbers.ensures.items) (listed_none groups owners)
 
 pub loop-group-preserved : goal.loop-group-preserved
 loop-group-preserved c =

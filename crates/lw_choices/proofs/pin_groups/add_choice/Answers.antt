@@ -1,5 +1,4 @@
-use Rattle.std.proofs.Common.{◌≡◌, ◌<◌, ◌+◌, ◌∙◌, All, Some, length, map, slice_get, sym, ap, subst}
-use Rattle.std.specs.List.{AllByRecursion}
+use Rattle.std.proofs.Common.{◌<◌, ◌+◌, ◌∙◌, All, Some, length, map, sym, ap, subst}
 use Rattle.std.proofs.lemmas.List.{length-map}
 use Rattle.lw_pool.specs.declared.id.ClassId.{ClassId}
 use Rattle.lw_genlib.specs.Tables.{millionths}
@@ -7,7 +6,7 @@ use Rattle.lw_choices.specs.declared.rows.Stand.{Stand}
 use Rattle.lw_choices.specs.Choices.Part.{gate}
 use Rattle.lw_choices.specs.Chains.{ChainState}
 use Rattle.lw_choices.specs.Choices.{IsPartFor}
-use Rattle.lw_choices.specs.Rows.{plain_part}
+use Rattle.lw_choices.specs.Stands.{plain_part}
 use Rattle.lw_choices.proofs.Parts.{within_pins}
 use Rattle.lw_choices.proofs.Using.{choice_used, first_behind, first_used, firsts_longer, groups_first, input_used}
 use Rattle.lw_choices.proofs.pin_groups.add_choice.Goals as goal
@@ -26,11 +25,11 @@ add_pins-requires-clause-pins c =
     let gate = c.in-Gate.gate in
     let count = c.args.pin_groups.now.links.count in
     let part = subst (λ (st : Stand). IsPartFor c.args.lib.now count (plain_part st)) c.in-Gate.is c.requires.part in
-    let n = pins_at c.args.lib.now gate.cell.0 (length (numbers gate.pins)) c.cell.result.now c.cell.ensures part.of_library in
-    let all = within_pins count c.as_slice.result.now (subst (λ ps. AllByRecursion (λ p. p < count) (numbers ps)) (sym c.as_slice.ensures.classes) part.within) in
+    let n = pins_at c.args.lib.now gate.cell.0 (length (numbers gate.pins.now)) c.cell.result.now c.cell.ensures part.of_library in
+    let all = within_pins count gate.pins.now part.within in
     record {
-      one_each = ap length c.delays-delays.ensures.delays ∙ (n ∙ (length-map gate.pins (λ (p : ClassId). p.0) ∙ sym (ap length c.as_slice.ensures.classes)));
-      within = subst (λ n. All (λ (p : ClassId). p.0 < n) c.as_slice.result.now) (sym (ap (λ (l : ChainState). l.count) c.in_ok-add_first.ensures.links)) all;
+      one_each = ap length c.delays-delays.ensures.delays ∙ (n ∙ length-map gate.pins.now (λ (p : ClassId). p.0));
+      within = subst (λ n. All (λ (p : ClassId). p.0 < n) gate.pins.now) (sym (ap (λ (l : ChainState). l.count) c.in_ok-add_first.ensures.links)) all;
     }
 
 pub returns-in-Input-clause-added : goal.returns-in-Input-clause-added
@@ -63,8 +62,7 @@ returns-in_ok-add_pins-in-Gate-clause-added c =
       };
       pin_groups = λ xs at are.
           let here = at ∙ ap (λ (st : Stand). Some (record { class = c.args.row.now.class.0; part = plain_part st })) c.in-Gate.is in
-          let here' = subst (λ ps. slice_get xs c.args.choice ≡ Some (record { class = c.args.row.now.class.0; part = gate gate'.cell.0 (numbers ps) })) (sym c.as_slice.ensures.classes) here in
           let delays = delays_at cells gate'.cell.0 c.cell.result.now c.cell.ensures ∙ ap (map millionths) (sym c.delays-delays.ensures.delays) in
-          let all = added.pin_groups cells xs c.args.row.now.class.0 gate'.cell.0 here' delays (first_used cells xs c.args.choice old mid first are) in
-          choice_used cells xs c.args.choice (length c.as_slice.result.now) gate'.cell.0 c.args.row.now.class.0 (numbers c.as_slice.result.now) c.add_pins.new.pin_groups here' (length-map c.as_slice.result.now (λ (p : ClassId). p.0)) all;
+          let all = added.pin_groups cells xs c.args.row.now.class.0 gate'.cell.0 here delays (first_used cells xs c.args.choice old mid first are) in
+          choice_used cells xs c.args.choice (length gate'.pins.now) gate'.cell.0 c.args.row.now.class.0 (numbers gate'.pins.now) c.add_pins.new.pin_groups here (length-map gate'.pins.now (λ (p : ClassId). p.0)) all;
     }

@@ -1,6 +1,6 @@
 use Rattle.std.proofs.Common.{◌≡◌, ◌∙◌, length, arith}
 use Rattle.lw_choices.specs.Tasks.{task}
-use Rattle.lw_curves.proofs.Adding.{row_at}
+use Rattle.lw_choices.specs.Stands.{plain_row}
 use Rattle.lw_queue.proofs.Queueing.{none_waits}
 use Rattle.lw_curves.proofs.Starts.{started_next, started_all}
 use Rattle.lw_curves.proofs.first_choices.started.Goals as goal
@@ -16,17 +16,15 @@ loop-number-init c = record {
 
 pub loop-number-preserved : goal.loop-number-preserved
 loop-number-preserved c =
-    let r = c.index-rows-number.result in
-    let at = row_at c.args.rows.now c.loop-number.number r c.loop-number-test.true c.index-rows-number.is in
     record {
       horizon = c.in_ok-push_start.ensures.horizon ∙ c.loop-number.invariant.horizon;
-      started = started_next c.args.starts.now c.args.rows.now c.loop-number.number r c.loop-number.queue c.push_start.new.queue at c.in_ok-push_start.ensures.horizon c.in_ok-push_start.ensures c.loop-number.invariant.started;
+      started = started_next c.args.starts.now c.args.rows.now c.loop-number.number (plain_row c.at.result) c.loop-number.queue c.push_start.new.queue c.at.ensures.choice c.in_ok-push_start.ensures.horizon c.in_ok-push_start.ensures c.loop-number.invariant.started;
     }
 
 pub returns : goal.returns
 returns c = record {
   horizon_is = c.loop-number.invariant.horizon;
   first = λ g pats cells are.
-      let n : c.loop-number.number ≡ length c.args.rows.now = omega (arith, c.loop-number-test.false, c.loop-number.auto.number-end) in
+      let n : c.loop-number.number ≡ length c.args.rows.now = omega (arith, c.loop-number-test.false, c.loop-number.auto.number-end, c.len-number-end.ensures) in
       started_all (task g pats cells c.args.starts.now) c.args.rows.now c.loop-number.number c.loop-number.queue n c.loop-number.invariant.started are;
 }

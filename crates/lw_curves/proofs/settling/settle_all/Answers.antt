@@ -1,7 +1,6 @@
 use Rattle.std.proofs.Common.{◌∙◌, ◌≤◌, length, refl, subst, sym, arith}
 use Rattle.lw_curves.specs.Setups.{IsSetup}
 use Rattle.lw_choices.specs.Tasks.{task}
-use Rattle.lw_choices.specs.Rows.{plain_rows}
 use Rattle.lw_curves.specs.Settling.{Comes}
 use Rattle.lw_curves.specs.Turns.{turns_of}
 use Rattle.lw_curves.proofs.Adding.{later_in_time, none_comes}
@@ -24,7 +23,7 @@ pub settle_at-requires : goal.settle_at-requires
 settle_at-requires c =
     let (g, pats, st) = c.requires.still in
     let w = turns_of c.args.setup.now.pin_groups.now c.loop-time.coming c.loop-time.queue in
-    let n = length (plain_rows c.args.setup.now.rows.now) in
+    let n = length c.args.setup.now.rows.now in
     let (now, le, (are, time, still)) = c.loop-time.invariant.still g pats st in
     let first = c.in-Some.ensures in
     let within = first_within now n c.in-Some.time w time first in
@@ -33,13 +32,13 @@ settle_at-requires c =
       time = within.1;
       tallied = c.loop-time.invariant.tallied;
       seen = c.loop-time.invariant.seen;
-      still = (g, pats, (are, later_in_time now n w time c.in-Some.time first.2 first.1, still_later (task g pats c.args.setup.now.lib.now c.args.setup.now.starts.now) (plain_rows c.args.setup.now.rows.now) now c.loop-time.coming.horizon c.loop-time.fronts.spots (Comes w) still c.in-Some.time within.0));
+      still = (g, pats, (are, later_in_time now n w time c.in-Some.time first.2 first.1, still_later (task g pats c.args.setup.now.lib.now c.args.setup.now.starts.now) c.args.setup.now.rows.now now c.loop-time.coming.horizon c.loop-time.fronts.spots (Comes w) still c.in-Some.time within.0));
     }
 
 pub returns-then-len-gt-MOST_POINTS-clause-settled : goal.returns-then-len-gt-MOST_POINTS-clause-settled
 returns-then-len-gt-MOST_POINTS-clause-settled c g pats st =
     let s = task g pats c.args.setup.now.lib.now c.args.setup.now.starts.now in
-    let xs = plain_rows c.args.setup.now.rows.now in
+    let xs = c.args.setup.now.rows.now in
     let w = turns_of c.args.setup.now.pin_groups.now c.loop-time.coming c.loop-time.queue in
     let v = turns_of c.args.setup.now.pin_groups.now c.settle_at.new.coming c.settle_at.new.queue in
     let (now, le, (are, time, still)) = c.loop-time.invariant.still g pats st in
@@ -60,7 +59,7 @@ pub loop-time-smaller : goal.loop-time-smaller
 loop-time-smaller c =
     let (g, pats, st) = c.requires.still in
     let s = task g pats c.args.setup.now.lib.now c.args.setup.now.starts.now in
-    let xs = plain_rows c.args.setup.now.rows.now in
+    let xs = c.args.setup.now.rows.now in
     let w = turns_of c.args.setup.now.pin_groups.now c.loop-time.coming c.loop-time.queue in
     let (now, le, (are, time, still)) = c.loop-time.invariant.still g pats st in
     let first = c.in-Some.ensures in
@@ -77,7 +76,7 @@ loop-time-preserved c = record {
   seen = c.in_ok-settle_at.ensures.gained.seen;
   still = λ g pats st.
       let s = task g pats c.args.setup.now.lib.now c.args.setup.now.starts.now in
-      let xs = plain_rows c.args.setup.now.rows.now in
+      let xs = c.args.setup.now.rows.now in
       let w = turns_of c.args.setup.now.pin_groups.now c.loop-time.coming c.loop-time.queue in
       let (now, le, (are, time, still)) = c.loop-time.invariant.still g pats st in
       let first = c.in-Some.ensures in
@@ -89,7 +88,7 @@ loop-time-preserved c = record {
     few_points = λ few. omega (arith, c.if-len-gt-MOST_POINTS.false, c.len.ensures.len);
     backed = λ g pats st backed.
         let s = task g pats c.args.setup.now.lib.now c.args.setup.now.starts.now in
-        let xs = plain_rows c.args.setup.now.rows.now in
+        let xs = c.args.setup.now.rows.now in
         let w = turns_of c.args.setup.now.pin_groups.now c.loop-time.coming c.loop-time.queue in
         let (now, le, (are, time, still)) = c.loop-time.invariant.still g pats st in
         let first = c.in-Some.ensures in
@@ -102,7 +101,7 @@ loop-time-preserved c = record {
 pub returns-clause-settled : goal.returns-clause-settled
 returns-clause-settled c g pats st =
     let s = task g pats c.args.setup.now.lib.now c.args.setup.now.starts.now in
-    let xs = plain_rows c.args.setup.now.rows.now in
+    let xs = c.args.setup.now.rows.now in
     let w = turns_of c.args.setup.now.pin_groups.now c.loop-time.coming c.loop-time.queue in
     let (now, le, (are, time, still)) = c.loop-time.invariant.still g pats st in
     let (none, none') = c.in_default.ensures in

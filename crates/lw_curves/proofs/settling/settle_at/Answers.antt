@@ -1,7 +1,6 @@
 use Rattle.std.proofs.Common.{◌∙◌, refl, subst, sym, arith}
 use Rattle.lw_curves.specs.Setups.{HaveFallen, IsSetup}
 use Rattle.lw_choices.specs.Tasks.{task}
-use Rattle.lw_choices.specs.Rows.{plain_rows}
 use Rattle.lw_curves.specs.SeenAreas.{AreSeenAfter}
 use Rattle.lw_curves.specs.Settling.{Comes, IsAfter, IsStill}
 use Rattle.lw_curves.specs.Turns.{turns_of}
@@ -43,7 +42,7 @@ loop-class-preserved c = record {
   horizon = c.in_ok-push_groups.ensures.horizon ∙ (c.in_ok-class.ensures.kept.horizon ∙ c.loop-class.invariant.horizon);
   still = λ g pats st.
       let s = task g pats c.args.setup.now.lib.now c.args.setup.now.starts.now in
-      let xs = plain_rows c.args.setup.now.rows.now in
+      let xs = c.args.setup.now.rows.now in
       let u = c.args.setup.now.pin_groups.now in
       let next = c.gain_at.new in
       let now = c.loop-class.invariant.still g pats st in
@@ -90,6 +89,6 @@ returns-clause-gained c =
     let next = c.gain_at.new in
     record {
       seen = subst (AreSeenAfter setup.pin_groups.now next.seen.areas.items next.fronts.spots next.coming c.args.time) c.in_default.is c.in_ok-class.ensures.gain.seen;
-      still = λ g pats st. subst (λ o. IsAfter (task g pats setup.lib.now setup.starts.now) (plain_rows setup.rows.now) c.args.time next.fronts.spots (turns_of setup.pin_groups.now next.coming next.queue) o) c.in_default.is (c.in_ok-class.ensures.gain.after g pats (c.loop-class.invariant.still g pats st));
+      still = λ g pats st. subst (λ o. IsAfter (task g pats setup.lib.now setup.starts.now) setup.rows.now c.args.time next.fronts.spots (turns_of setup.pin_groups.now next.coming next.queue) o) c.in_default.is (c.in_ok-class.ensures.gain.after g pats (c.loop-class.invariant.still g pats st));
       backed = λ g pats st backed. c.in_ok-class.ensures.gain.backed g pats (c.loop-class.invariant.still g pats st) (c.loop-class.invariant.backed g pats st backed);
     }

@@ -1,7 +1,5 @@
 use Rattle.std.proofs.Common.{ℕ, ◌≡◌, ◌<◌, ◌⊎◌, inl, inr, length, refl, arith}
-use Rattle.std.proofs.lemmas.List.{length-map}
 use Rattle.lw_queue.specs.Queues.{Waits}
-use Rattle.lw_choices.specs.Rows.{plain_row, plain_rows}
 use Rattle.lw_curves.proofs.Adding.{pushed_kept, pushed_only, pushed_waits}
 use Rattle.lw_curves.proofs.waking.look_at.Goals as goal
 
@@ -19,10 +17,10 @@ returns-then-may_give-clause-looked c g pats starts us =
       done = inl (pushed_waits old new c.args.time 0 c.args.number within same items);
     }
   where
-    low : c.args.number < length (plain_rows c.args.at.now.setup.now.rows.now)
-    low = omega (arith, c.may_give.ensures.listed c.if-may_give.true, length-map c.args.at.now.setup.now.rows.now plain_row)
+    low : c.args.number < length c.args.at.now.setup.now.rows.now
+    low = omega (arith, c.may_give.ensures.listed c.if-may_give.true)
 
-    from : (t m : ℕ) → Waits c.args.queue.now t m ⊎ ((t ≡ c.args.time) × (m ≡ c.args.number)) → Waits c.args.queue.now t m ⊎ ((t ≡ c.args.time) × (m < length (plain_rows c.args.at.now.setup.now.rows.now)))
+    from : (t m : ℕ) → Waits c.args.queue.now t m ⊎ ((t ≡ c.args.time) × (m ≡ c.args.number)) → Waits c.args.queue.now t m ⊎ ((t ≡ c.args.time) × (m < length c.args.at.now.setup.now.rows.now))
     from t m (inl w) = inl w
     from t m (inr (e, f)) = inr (e, omega (arith, f, low))
 

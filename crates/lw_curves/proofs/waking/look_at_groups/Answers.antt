@@ -1,6 +1,5 @@
 use Rattle.std.proofs.Common.{◌∙◌, ◌<◌, ◌≤◌, ℕ, length, refl, sym, subst, arith}
 use Rattle.lw_choices.specs.Tasks.{task}
-use Rattle.lw_choices.specs.Rows.{plain_rows}
 use Rattle.lw_curves.specs.SeenAreas.{AreSeen, HasUnseen}
 use Rattle.lw_curves.specs.Settling.{IsStillFor, IsStill, Comes}
 use Rattle.lw_queue.specs.Queues.{Waits}
@@ -57,7 +56,7 @@ look_at_group-requires-clause-ready c =
       ready = record {
         of_library = λ k d lt. (c.requires.setup.rows k d lt).part.of_library;
         class_low = λ k d lt. (c.requires.setup.rows k d lt).class_low;
-        tallied = c.see.ensures.tallied c.args.setup.now.lib.now (plain_rows c.args.setup.now.rows.now) c.requires.setup.pin_groups c.loop-place.invariant.tallied;
+        tallied = c.see.ensures.tallied c.args.setup.now.lib.now c.args.setup.now.rows.now c.requires.setup.pin_groups c.loop-place.invariant.tallied;
         late = still.low;
       };
       group_low = (time.coming c.args.time c.in-Some.group w).1;
@@ -76,11 +75,11 @@ loop-place-preserved c =
     let all = seen_taken u c.loop-place.seen.areas.items c.see.new.seen.areas.items c.args.fronts.now.spots c.loop-place.coming c.take_hinted_at.new.self c.args.time c.in-Some.group within c.in-Some.ensures c.see.ensures.seeing c.loop-place.invariant.seen in
     record {
       horizon = c.in-Some.ensures.0 ∙ c.loop-place.invariant.horizon;
-      tallied = c.see.ensures.tallied c.args.setup.now.lib.now (plain_rows c.args.setup.now.rows.now) c.requires.setup.pin_groups c.loop-place.invariant.tallied;
+      tallied = c.see.ensures.tallied c.args.setup.now.lib.now c.args.setup.now.rows.now c.requires.setup.pin_groups c.loop-place.invariant.tallied;
       seen = all;
       still = λ g pats st.
           let s = task g pats c.args.setup.now.lib.now c.args.setup.now.starts.now in
-          let xs = plain_rows c.args.setup.now.rows.now in
+          let xs = c.args.setup.now.rows.now in
           let ks = c.args.fronts.now.spots in
           let coming = c.take_hinted_at.new.self in
           let queue = c.look_at_group.new.queue in
@@ -100,11 +99,11 @@ pub returns-in_err-look_at_group-clause-horizon : goal.returns-in_err-look_at_gr
 returns-in_err-look_at_group-clause-horizon c = c.in-Some.ensures.0 ∙ c.loop-place.invariant.horizon
 
 pub returns-in_err-look_at_group-clause-tallied : goal.returns-in_err-look_at_group-clause-tallied
-returns-in_err-look_at_group-clause-tallied c = c.see.ensures.tallied c.args.setup.now.lib.now (plain_rows c.args.setup.now.rows.now) c.requires.setup.pin_groups c.loop-place.invariant.tallied
+returns-in_err-look_at_group-clause-tallied c = c.see.ensures.tallied c.args.setup.now.lib.now c.args.setup.now.rows.now c.requires.setup.pin_groups c.loop-place.invariant.tallied
 
 pub returns-clause-over : goal.returns-clause-over
 returns-clause-over c = record {
   seen = subst (AreSeen c.args.setup.now.pin_groups.now c.loop-place.seen.areas.items c.args.fronts.now.spots) (sym c.in_default.ensures.0) c.loop-place.invariant.seen;
   over = subst (λ q. (t g : ℕ) → Waits q t g → c.args.time < t) (sym c.in_default.ensures.0) c.in_default.ensures.1;
-  still = λ g pats st. subst (λ q. IsStillFor (task g pats c.args.setup.now.lib.now c.args.setup.now.starts.now) (plain_rows c.args.setup.now.rows.now) c.args.time c.args.fronts.now.spots (turns_of c.args.setup.now.pin_groups.now q c.loop-place.queue)) (sym c.in_default.ensures.0) (c.loop-place.invariant.still g pats st);
+  still = λ g pats st. subst (λ q. IsStillFor (task g pats c.args.setup.now.lib.now c.args.setup.now.starts.now) c.args.setup.now.rows.now c.args.time c.args.fronts.now.spots (turns_of c.args.setup.now.pin_groups.now q c.loop-place.queue)) (sym c.in_default.ensures.0) (c.loop-place.invariant.still g pats st);
 }

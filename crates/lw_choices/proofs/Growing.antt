@@ -1,6 +1,5 @@
 -- Listings of what may stand at classes grow by inputs and matches.
-use Rattle.std.proofs.Common.{◌≡◌, ℕ, zero, suc, ◌+◌, ◌<◌, ◌≤◌, ◌⊎◌, inl, inr, length, map, reverse, List, [], ◌∷◌, ◌++◌, Contains, Some, slice_get, refl, ap, sym, ◌∙◌, subst, arith}
-use mathlib.Core.List.{reverse-cons}
+use Rattle.std.proofs.Common.{◌≡◌, ℕ, ◌+◌, ◌<◌, ◌≤◌, ◌⊎◌, inl, inr, length, reverse, List, [], ◌∷◌, ◌++◌, Contains, Some, slice_get, refl, ap, sym, ◌∙◌, subst, arith}
 use native.Mathlib.Nat.{eq-or-lt_of_le}
 use Rattle.std.proofs.lemmas.List.Sorted.{Contains-permutation, IsPermutation-refl, IsPermutation-reverse, IsPermutation-sym}
 use Rattle.std.proofs.lemmas.Option.{same_Some, slice_get_within}
@@ -10,21 +9,12 @@ use Rattle.lw_cost.specs.Coming.{AreMatches, IsPatternMatch}
 use Rattle.lw_cost.specs.Least.{AreOfCells}
 use Rattle.lw_cost.proofs.CellMatches.{of_cell, of_pattern}
 use Rattle.lw_genlib.specs.Cells.{CellParts}
-use Rattle.lw_choices.specs.declared.rows.ListedChoice.{ListedChoice}
 use Rattle.lw_choices.specs.Areas.{area_cost}
 use Rattle.lw_choices.specs.Choices.{Part, Choice, MayStand, AreAlike, AreListedChoices, IsListedLike, uses_of}
 use Rattle.lw_choices.specs.Choices.Part.{input, gate}
 use Rattle.lw_choices.specs.Tasks.{Task}
-use Rattle.lw_choices.specs.Rows.{plain_row, plain_rows, IsAmong, IsGateAdded, IsListing}
+use Rattle.lw_choices.specs.Rows.{IsAmong, IsGateAdded, IsListing}
 use Rattle.lw_choices.proofs.Lists.{get_last, get_push, push_cases, contained_at, at_contained}
-
-pub rows_push : (rows : List ListedChoice) (r : ListedChoice) → plain_rows (rows ++ r ∷ []) ≡ plain_rows rows ++ plain_row r ∷ []
-rows_push [] r = refl
-rows_push (q ∷ rows) r = ap (λ xs. plain_row q ∷ xs) (rows_push rows r)
-
-pub rows_reverse : (rows : List ListedChoice) → plain_rows (reverse rows) ≡ reverse (plain_rows rows)
-rows_reverse [] = refl
-rows_reverse (r ∷ rows) = ap plain_rows (reverse-cons r rows) ∙ (rows_push (reverse rows) r ∙ (ap (λ xs. xs ++ plain_row r ∷ []) (rows_reverse rows) ∙ sym (reverse-cons (plain_row r) (plain_rows rows))))
 
 -- each is alike to itself
 pub alike_itself : (cells : List CellParts) (part : Part) → AreAlike cells part part
