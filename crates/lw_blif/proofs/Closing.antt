@@ -1,5 +1,5 @@
 -- The parts of lines that break no rule are closed.
-use Rattle.std.proofs.Common.{ℕ, ◌+◌, ◌≡◌, List, length, map, drop, Result, Ok, Err, refl, ap, sym, ◌∙◌, subst}
+use Rattle.std.proofs.Common.{ℕ, ◌+◌, ◌≡◌, List, length, map, drop, Result, Ok, Err, ap, sym, ◌∙◌, subst}
 use Rattle.std.specs.Prelude.{All, replicate}
 use Rattle.std.specs.Result.{IsErr, IsErrAnd}
 use Rattle.std.specs.List.{flat_map, IsDistinct}

@@ -1,9 +1,7 @@
-pub mod Appending
 pub mod Arriving
 pub mod Closing
 pub mod Differing
 pub mod Fresh
-pub mod Given
 pub mod Keeping
 pub mod NodesBehind
 pub mod Reading

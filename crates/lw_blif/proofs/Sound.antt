@@ -20,7 +20,8 @@ use Rattle.lw_blif.specs.declared.fault.BlifKind.TheVariants as kind
 use Rattle.lw_blif.specs.LineFaults.{command, last_word, other_words, is_row_command, is_names_command, is_ignored_command, is_row, is_names, is_ignored, defined_for, defined_on, defined_by, fanins_on, nearest, rows_before, node_before, has_shape, is_column, is_value, first_broken, row_rules, name_rules, rules_for, wants_words, line_fault, first_fault, differs_from}
 use Rattle.lw_blif.specs.Drafts.{draft_of, nodes_of, node_of, row_of, columns_of, inputs_for, inputs_on, outputs_on, latch_of, latches_for, latches_on}
 use Rattle.lw_blif.specs.Readers.{whole_nodes, are_fresh, fault_else, names_fault_of}
-use Rattle.lw_blif.proofs.Appending.{fault_or_none}
+use Rattle.lw_blif_text.specs.FirstFaults.{first_fault_by}
+use Rattle.lw_blif_text.proofs.Appending.{fault_or_none}
 use Rattle.lw_frame.proofs.Once.{roots_differ, none-distinct}
 use Rattle.lw_frame.specs.Frames.{input_names, output_of}
 use Rattle.lw_blif.proofs.Differing.{distinct-fresh, in-two}
@@ -212,7 +213,7 @@ sound-more lines line none h = by_command (command line) refl (short line.long (
     by_command End e b = sound-names End lines line e refl refl (fit-both (defined_by lines) End line.words b) h
 
 sound-all : (before lines : List LogicalLine) → first_fault before lines ≡ None → IsSound before → IsSound (before ++ lines)
-unfolding first_fault
+unfolding first_fault_by
 sound-all before [] none h = subst IsSound (sym (append-nil before)) h
 sound-all before (line ∷ lines) none h =
     let parts = fault_or_none line.number (line_fault before line) (first_fault (before ++ line ∷ []) lines) none in

@@ -1,6 +1,6 @@
 -- The first rule that a line of a network's text breaks, behind the lines before it.
 use Rattle.std.specs.Prelude.{ℕ, ◌+◌, ◌-◌, Bool, true, false, not, ◌&&◌, ◌||◌, ◌==◌, nat_lt, nat_le, List, [], ◌∷◌}
-use Rattle.std.specs.Prelude.{◌++◌, length, take, drop, reverse, filter, Option, Some, None, Result, Ok, Err}
+use Rattle.std.specs.Prelude.{length, take, drop, reverse, filter, Option, Some, None, Result, Ok, Err}
 use Rattle.std.specs.Prelude.{if◌then◌else◌, codes}
 use Rattle.std.specs.List.{list_any, list_all, flat_map}
 use Rattle.std.specs.Str.{bytes_eq}
@@ -16,6 +16,8 @@ use Rattle.lw_fixed.specs.declared.fault.DecimalFault.{DecimalFault}
 use Rattle.lw_fixed.specs.declared.fault.DecimalFault.TheVariants.{Shape}
 use Rattle.lw_frame.specs.Starts.{start_said}
 use Rattle.lw_frame.specs.Ending.{lines_until, has_end}
+use Rattle.lw_blif_text.specs.FirstFaults as faults
+use Rattle.lw_blif_text.specs.FirstFaults.{first_fault_by}
 use Rattle.lw_words.specs.Words.{is_among, first_word, front, is_name}
 use Rattle.lw_pool.specs.Numbers.{most_signals}
 
@@ -241,19 +243,12 @@ line_fault before line =
     ∷ rules_for (node_before before) (rows_before before) (defined_by before) (command line) line.words)
 
 -- a rule, and the number of the line that breaks it
-pub record FaultAt : Type 0 where
-  pub number : ℕ
-  pub kind : BlifKind
-
-abbrev pub fault_or : ℕ → Option BlifKind → Option FaultAt → Option FaultAt
-fault_or number (Some kind) other = Some (record { number = number; kind = kind })
-fault_or number None other = other
+abbrev pub FaultAt : Type 0
+FaultAt = faults.FaultAt BlifKind
 
 -- the first of the lines behind these that breaks a rule
-unfoldable pub first_fault : List LogicalLine → List LogicalLine → Option FaultAt
-first_fault before [] = None
-first_fault before (line ∷ lines) =
-    fault_or line.number (line_fault before line) (first_fault (before ++ line ∷ []) lines)
+abbrev pub first_fault : List LogicalLine → List LogicalLine → Option FaultAt
+first_fault before lines = first_fault_by line_fault before lines
 
 -- a line of these ends the reading
 abbrev pub has_ended : List LogicalLine → Bool

@@ -38,4 +38,4 @@ pub use command::Command;
 pub use fault::{BlifFault, BlifKind};
 pub use laws::model_is_network;
 pub use parsed::Parsed;
-pub use reader::{Reader, Stop};
+pub use reader::Reader;

@@ -6,28 +6,9 @@ use crate::command::command_of;
 use crate::naming::first_word;
 use crate::parts::Parts;
 use crate::{BlifFault, BlifKind, Command, Parsed};
+use lw_blif_text::Stop;
 use lw_words::Line;
 use std::alloc::Global;
-
-/// The answer that a stopped reader gives to each later line.
-#[derive(Clone, Copy)]
-pub enum Stop {
-    Broken(u32, BlifKind),
-    Memory,
-}
-
-impl Stop {
-    ghost use Rattle.lw_blif.specs.Standing.{fault_of};
-
-    fn fault(self) -> BlifFault
-        ensures { result ≡ fault_of self }
-    {
-        match self {
-            Stop::Broken(number, kind) => BlifFault::Line(number, kind),
-            Stop::Memory => BlifFault::Memory,
-        }
-    }
-}
 
 impl Command {
     ghost use Rattle.lw_blif.specs.LineFaults.{ends};
@@ -50,7 +31,7 @@ impl Command {
 pub struct Reader {
     begun: bool,
     ended: bool,
-    stop: Option<Stop>,
+    stop: Option<Stop<BlifKind>>,
     parts: Parts,
     ghost kept: { ∥ IsKeptOfSome begun ended stop parts ∥₁ },
 }
@@ -59,8 +40,18 @@ impl Reader {
     ghost use Rattle.lw_words.specs.Lines.{LogicalLine};
     ghost use Rattle.lw_blif.specs.LineFaults.{first_fault, lines_read};
     ghost use Rattle.lw_blif.specs.BlifNetworks.{IsBlifNetwork, IsModel};
-    ghost use Rattle.lw_blif.specs.Standing.{StandsFor, Tells, Stopped, stop_of, fault_of};
+    ghost use Rattle.lw_blif.specs.Standing.{StandsFor, Tells, Stopped, fault_of, stop_of};
     ghost use Rattle.lw_net.specs.Plain.{HasRisingDepths};
+
+    // What a reader that stopped answers from then on.
+    fn fault_of(stop: Stop<BlifKind>) -> BlifFault
+        ensures { result ≡ fault_of stop }
+    {
+        match stop {
+            Stop::Broken(number, kind) => BlifFault::Line(number, kind),
+            Stop::Memory => BlifFault::Memory,
+        }
+    }
 
     /// A reader of a model, before its first line.
     pub fn new(alloc: Global) -> Self
@@ -86,7 +77,7 @@ impl Reader {
         ensures unchanged { IsSome (stop_of self.old) → self.new ≡ self.old }
     {
         if let Some(stop) = self.stop {
-            return Err(stop.fault());
+            return Err(Self::fault_of(stop));
         }
         if self.ended {
             return Ok(());
@@ -123,7 +114,7 @@ impl Reader {
         let Reader { stop, parts, .. } = self;
         if let Some(stop) = stop {
             drop(parts);
-            return Err(stop.fault());
+            return Err(Self::fault_of(stop));
         }
         parts.close()
     }

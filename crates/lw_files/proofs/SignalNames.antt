@@ -22,7 +22,8 @@ use Rattle.lw_blif.specs.declared.parsed.Parsed.{Parsed}
 use Rattle.lw_blif.specs.LineFaults.{ends_on, FaultAt, other_words, command, names_for, wants_words, first_broken, name_rules, arrival_rules, start_rules, start_in, times_for, rules_for, node_before, rows_before, defined_by, line_fault, first_fault, lines_read}
 use Rattle.lw_blif.specs.Drafts.{model_for, inputs_for, outputs_for, latches_for, latch_of, model_on, inputs_on, outputs_on, latches_on, draft_of, frame_on}
 use Rattle.lw_blif.specs.BlifNetworks.{IsModelOf, IsBlifNetwork, ComesTo}
-use Rattle.lw_blif.proofs.Appending.{fault_or_none}
+use Rattle.lw_blif_text.specs.FirstFaults.{first_fault_by}
+use Rattle.lw_blif_text.proofs.Appending.{fault_or_none}
 use Rattle.lw_blif.proofs.Sound.{lines-draft, short}
 use Rattle.lw_mapped.proofs.GoodWords.{right-word}
 use Rattle.lw_mapped.proofs.SaidNames.{control-named, model-or-unnamed, once-named}
@@ -127,7 +128,7 @@ record AreNamed (lines : List LogicalLine) : Type 0 where
   latches : Each IsReadableLatch (flat_map latches_on lines)
 
 lines-named : (before lines : List LogicalLine) → first_fault before lines ≡ None → Each HasWords lines → AreNamed lines
-unfolding first_fault
+unfolding first_fault_by
 lines-named before [] none are = record { model = tt; inputs = tt; outputs = tt; latches = tt }
 lines-named before (line ∷ lines) none are =
     let parts = fault_or_none line.number (line_fault before line) (first_fault (before ++ line ∷ []) lines) none in

@@ -5,8 +5,9 @@ use Rattle.std.proofs.lemmas.List.Elements.{All-from_recursion, recursion_from_A
 use Rattle.lw_words.specs.Lines.{LogicalLine}
 use Rattle.lw_blif.specs.declared.fault.BlifKind.{BlifKind}
 use Rattle.lw_blif.specs.declared.fault.BlifKind.TheVariants as kind
-use Rattle.lw_blif.specs.LineFaults.{Rule, FaultAt, first_broken, line_fault, fault_or, first_fault}
-use Rattle.lw_blif.proofs.Appending.{fault_or_none}
+use Rattle.lw_blif.specs.LineFaults.{Rule, FaultAt, first_broken, line_fault, first_fault}
+use Rattle.lw_blif_text.specs.FirstFaults.{fault_or, first_fault_by}
+use Rattle.lw_blif_text.proofs.Appending.{fault_or_none}
 use Rattle.lw_lut_text.specs.Readable.{rules_on, IsUnlimited, AreUnlimited}
 use Rattle.lw_lut_text.proofs.Unlimited.{IsKept, AreUnlimitedBehind, kept, unlimited_from}
 
@@ -38,7 +39,7 @@ free_on before line e = All-from_recursion IsKept (rules_on before line) (none_b
 -- Lines.
 
 limit_behind : (before lines : List LogicalLine) (f : FaultAt) → AreUnlimitedBehind before lines → first_fault before lines ≡ Some f → f.kind ≡ kind.LimitSignals
-unfolding first_fault
+unfolding first_fault_by
 limit_behind before [] f are e = cc
 limit_behind before (line ∷ lines) f are e = by_fault (line_fault before line) refl e (limit_behind (before ++ line ∷ []) lines f are.1)
   where
@@ -49,7 +50,7 @@ limit_behind before (line ∷ lines) f are e = by_fault (line_fault before line)
     by_fault None is g others = others g
 
 free_behind : (before lines : List LogicalLine) → first_fault before lines ≡ None → AreUnlimitedBehind before lines
-unfolding first_fault
+unfolding first_fault_by
 free_behind before [] e = tt
 free_behind before (line ∷ lines) e =
     let parts = fault_or_none line.number (line_fault before line) (first_fault (before ++ line ∷ []) lines) e in

@@ -8,7 +8,8 @@ use Rattle.lw_mapped.specs.declared.command.Command.{Command}
 use Rattle.lw_mapped.specs.declared.saying.Saying.{Saying}
 use Rattle.lw_mapped.specs.Commands.{command_of, point_command}
 use Rattle.lw_mapped.specs.Sayings.{words_say}
-use Rattle.lw_mapped.specs.LineFaults.{ends, goes_on, lines_read, is_names_command, is_row, wire_without_row, what_is_said, lines_say, told_fault, saying_fault, fault_behind, line_fault, fault_or, first_fault, fault_else, text_fault}
+use Rattle.lw_mapped.specs.LineFaults.{ends, goes_on, lines_read, is_names_command, is_row, wire_without_row, what_is_said, lines_say, told_fault, saying_fault, fault_behind, line_fault, first_fault, fault_else, text_fault}
+use Rattle.lw_blif_text.specs.FirstFaults.{fault_or, first_fault_by}
 use Rattle.lw_mapped.proofs.ReadingLemmas.{say-last, wire-last, row-says, row-wire, none-wire, none-say}
 use Rattle.lw_words.specs.Words.{first_word, front}
 use Rattle.lw_frame.specs.Ending.{lines_until}
@@ -58,11 +59,11 @@ record IsGood (cells : List CellParts) (before lines : List LogicalLine) : Type 
   row_given : wire_without_row (before ++ lines) ≡ None
 
 good-none : (cells : List CellParts) (before : List LogicalLine) → wire_without_row before ≡ None → IsGood cells before []
-unfolding first_fault
+unfolding first_fault_by
 good-none cells before wire = record { none = refl; row_given = ap wire_without_row (append-nil before) ∙ wire }
 
 good-more : (cells : List CellParts) (before lines : List LogicalLine) (line : LogicalLine) → line_fault cells before line ≡ None → IsGood cells (before ++ line ∷ []) lines → IsGood cells before (line ∷ lines)
-unfolding first_fault
+unfolding first_fault_by
 good-more cells before lines line fine rest = record {
   none = ap (λ f. fault_or line.number f (first_fault cells (before ++ line ∷ []) lines)) fine ∙ rest.none;
   row_given = ap wire_without_row (sym (append_assoc before (line ∷ []) lines)) ∙ rest.row_given;

@@ -1,4 +1,3 @@
-pub mod Appending
 pub mod CellGates
 pub mod CellLemmas
 pub mod ClosedOnce
@@ -10,7 +9,6 @@ pub mod Ending
 pub mod Faultless
 pub mod Fitted
 pub mod GateItems
-pub mod Given
 pub mod GoodWords
 pub mod Items
 pub mod KeepingLemmas

@@ -1,5 +1,5 @@
 -- The first rule that a line of a mapped text breaks, behind the lines before it.
-use Rattle.std.specs.Prelude.{ℕ, Bool, true, false, not, List, [], ◌∷◌, ◌++◌, Option, Some, None, Result, Ok, Err, ⊤}
+use Rattle.std.specs.Prelude.{ℕ, Bool, true, false, not, List, [], ◌∷◌, Option, Some, None, Result, Ok, Err, ⊤}
 use Rattle.std.specs.Prelude.{if◌then◌else◌, is_some, codes}
 use Rattle.std.specs.List.{flat_map}
 use Rattle.std.specs.Str.{bytes_eq}
@@ -15,6 +15,8 @@ use Rattle.lw_mapped.specs.Commands.{command_of}
 use Rattle.lw_mapped.specs.Sayings.{words_say}
 use Rattle.lw_mapped.specs.Said.{label_among, class_among, labels_in, nets_in}
 use Rattle.lw_frame.specs.Ending.{lines_until, has_end}
+use Rattle.lw_blif_text.specs.FirstFaults as faults
+use Rattle.lw_blif_text.specs.FirstFaults.{first_fault_by}
 use Rattle.lw_words.specs.Words.{first_word}
 
 abbrev pub command : LogicalLine → Command
@@ -103,19 +105,12 @@ line_fault cells before line =
     else fault_behind (wire_without_row before) (lines_say cells before) line.words (words_say cells line.words)
 
 -- a rule, and the number of the line that breaks it
-pub record FaultAt : Type 0 where
-  pub number : ℕ
-  pub kind : MappedKind
-
-abbrev pub fault_or : ℕ → Option MappedKind → Option FaultAt → Option FaultAt
-fault_or number (Some kind) other = Some (record { number = number; kind = kind })
-fault_or number None other = other
+abbrev pub FaultAt : Type 0
+FaultAt = faults.FaultAt MappedKind
 
 -- the first of the lines behind these that breaks a rule
-unfoldable pub first_fault : List CellParts → List LogicalLine → List LogicalLine → Option FaultAt
-first_fault cells before [] = None
-first_fault cells before (line ∷ lines) =
-    fault_or line.number (line_fault cells before line) (first_fault cells (before ++ line ∷ []) lines)
+abbrev pub first_fault : List CellParts → List LogicalLine → List LogicalLine → Option FaultAt
+first_fault cells before lines = first_fault_by (line_fault cells) before lines
 
 abbrev pub fault_else : Option FaultAt → Option ℕ → Option FaultAt
 fault_else (Some fault) wire = Some fault

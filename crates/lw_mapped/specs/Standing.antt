@@ -1,36 +1,37 @@
 -- What a reader stands for: the lines that it was given, over one library.
-use Rattle.std.specs.Prelude.{ℕ, ◌≡◌, ◌<◌, ◌≤◌, Bool, not, List, [], Option, Some, None, Result, Ok, Err, ⊤, length}
+use Rattle.std.specs.Prelude.{ℕ, ◌≡◌, ◌<◌, ◌≤◌, Bool, List, Option, Some, None, Result, Ok, Err, ⊤, length}
 use Rattle.std.specs.Prelude.{sum_by, All, IfSome, IsSome}
 use Rattle.lw_words.specs.Lines.{LogicalLine}
 use Rattle.lw_genlib.specs.Cells.{CellParts}
 use Rattle.lw_mapped.specs.declared.certificate.Certificate.{Certificate}
 use Rattle.lw_mapped.specs.declared.parts.Parts.{Parts}
+use Rattle.lw_mapped.specs.declared.fault.MappedKind.{MappedKind}
 use Rattle.lw_mapped.specs.declared.fault.MappedFault.{MappedFault}
 use Rattle.lw_mapped.specs.declared.fault.MappedFault.TheVariants as fault
 use Rattle.lw_mapped.specs.declared.fault.Refusal.{Refusal}
 use Rattle.lw_mapped.specs.declared.fault.Refusal.TheVariants as refusal
 use Rattle.lw_mapped.specs.declared.reader.MappedReader.{MappedReader}
-use Rattle.lw_mapped.specs.declared.reader.Stop.{Stop}
-use Rattle.lw_mapped.specs.declared.reader.Stop.TheVariants as stop
 use Rattle.lw_mapped.specs.Keeping.{Keeps}
-use Rattle.lw_mapped.specs.LineFaults.{FaultAt, first_fault, lines_read, lines_say, has_ended, wire_without_row}
+use Rattle.lw_mapped.specs.LineFaults.{FaultAt, line_fault, ends_on, lines_say, wire_without_row}
 use Rattle.lw_mapped.specs.Limits.{word_limit}
 use Rattle.lw_mapped.specs.Parsed.{IsLabel}
 use Rattle.lw_laws.specs.Graphs.{most_classes}
-use Rattle.lw_frame.specs.Ending.{is_first}
+use Rattle.lw_blif_text.specs.declared.stop.Stop.{Stop}
+use Rattle.lw_blif_text.specs.declared.stop.Stop.TheVariants as stop
+use Rattle.lw_blif_text.specs.Standing.{IsKeptBy}
 
 -- What a reader answers.
 
-abbrev pub stop_of : MappedReader → Option Stop
+abbrev pub stop_of : MappedReader → Option (Stop MappedKind)
 stop_of reader = reader.stop
 
 -- what a reader answers from then on
-abbrev pub fault_of : Stop → MappedFault
+abbrev pub fault_of : Stop MappedKind → MappedFault
 fault_of (stop.Broken number kind) = fault.Line number kind
 fault_of stop.Memory = fault.Memory
 
 -- a reader stops at the line with this number
-abbrev pub stop_at : ℕ → Refusal → Stop
+abbrev pub stop_at : ℕ → Refusal → Stop MappedKind
 stop_at number (refusal.Broken kind) = stop.Broken number kind
 stop_at number refusal.Memory = stop.Memory
 
@@ -42,7 +43,7 @@ Tells (Err (fault.Whole other)) first = ⊥
 Tells (Err fault.Memory) first = ⊤
 
 -- The answer is that of each later line too: it is kept why no more is read, or nothing where the answer is good.
-abbrev pub Stopped : Result (Unit {0}) MappedFault → Option Stop → Type 0
+abbrev pub Stopped : Result (Unit {0}) MappedFault → Option (Stop MappedKind) → Type 0
 Stopped (Ok u) stopped = stopped ≡ None
 Stopped (Err answer) None = ⊥
 Stopped (Err answer) (Some why) = answer ≡ fault_of why
@@ -55,24 +56,15 @@ pub record StaysStopped (old new : MappedReader) (result : Result (Unit {0}) Map
 
 -- What is kept of the lines.
 
--- The reader stopped at this first fault. Running out of memory is always allowed.
-abbrev pub Stops : Option Stop → Option FaultAt → Type 0
-Stops None first = first ≡ None
-Stops (Some (stop.Broken number kind)) first = first ≡ Some (record { number = number; kind = kind })
-Stops (Some stop.Memory) first = ⊤
-
 -- This is kept of lines that are read and break no rule.
 pub record KeepsLines (parts : Parts) (cells : List CellParts) (lines : List LogicalLine) : Type 0 where
   pub wire : parts.wire ≡ wire_without_row lines
   pub said : Keeps parts.contents (lines_say cells lines)
 
 -- This is kept of the lines that were given.
-pub record IsKept (is_begun is_ended : Bool) (stopped : Option Stop) (parts : Parts) (cells : List CellParts)
-    (lines : List LogicalLine) : Type 0 where
-  pub stop : Stops stopped (first_fault cells [] (lines_read lines))
-  pub begun : stopped ≡ None → is_begun ≡ not (is_first lines)
-  pub ended : stopped ≡ None → is_ended ≡ has_ended lines
-  pub kept : stopped ≡ None → KeepsLines parts cells (lines_read lines)
+abbrev pub IsKept : Bool → Bool → Option (Stop MappedKind) → Parts → List CellParts → List LogicalLine → Type 0
+IsKept is_begun is_ended stopped parts cells lines =
+    IsKeptBy ends_on (line_fault cells) (λ (kept : Parts). KeepsLines kept cells) is_begun is_ended stopped parts lines
 
 -- The reader was given these lines over these cells.
 abbrev pub StandsFor : MappedReader → List CellParts → List LogicalLine → Type 0

@@ -48,6 +48,6 @@ pub use laws::{
 };
 pub use lines::name_of;
 pub use parts::Parts;
-pub use reader::{MappedReader, Stop};
+pub use reader::MappedReader;
 pub use saying::Saying;
 pub use writing::write;

@@ -1,41 +1,33 @@
 // Reads a mapped text line by line.
 ghost use Rattle.std.specs.Prelude.{◌≡◌, ◌++◌, [], ◌∷◌, List, Err, IfOk, IfSome};
+ghost use Rattle.lw_mapped.specs.Standing.{fault_of, stop_at};
 
 use crate::closing::Mapped;
 use crate::command::{Command, command_of};
 use crate::parts::Parts;
 use crate::{MappedFault, MappedKind, Refusal};
+use lw_blif_text::Stop;
 use lw_genlib::Library;
 use lw_words::Line;
 use std::alloc::Global;
 
-/// The answer that a stopped reader gives to each later line.
-#[derive(Clone, Copy)]
-pub enum Stop {
-    Broken(u32, MappedKind),
-    Memory,
+// What a reader that stopped answers from then on.
+fn fault_of(stop: Stop<MappedKind>) -> MappedFault
+    ensures { result ≡ fault_of stop }
+{
+    match stop {
+        Stop::Broken(number, kind) => MappedFault::Line(number, kind),
+        Stop::Memory => MappedFault::Memory,
+    }
 }
 
-impl Stop {
-    ghost use Rattle.lw_mapped.specs.Standing.{fault_of, stop_at};
-
-    fn fault(self) -> MappedFault
-        ensures { result ≡ fault_of self }
-    {
-        match self {
-            Stop::Broken(number, kind) => MappedFault::Line(number, kind),
-            Stop::Memory => MappedFault::Memory,
-        }
-    }
-
-    // A reader stops at the line with this number.
-    fn at(number: u32, refusal: Refusal) -> Self
-        ensures { result ≡ stop_at number refusal }
-    {
-        match refusal {
-            Refusal::Broken(kind) => Stop::Broken(number, kind),
-            Refusal::Memory => Stop::Memory,
-        }
+// A reader stops at the line with this number.
+fn stop_at(number: u32, refusal: Refusal) -> Stop<MappedKind>
+    ensures { result ≡ stop_at number refusal }
+{
+    match refusal {
+        Refusal::Broken(kind) => Stop::Broken(number, kind),
+        Refusal::Memory => Stop::Memory,
     }
 }
 
@@ -60,7 +52,7 @@ impl Command {
 pub struct MappedReader {
     begun: bool,
     ended: bool,
-    stop: Option<Stop>,
+    stop: Option<Stop<MappedKind>>,
     parts: Parts,
 }
 
@@ -70,7 +62,6 @@ impl MappedReader {
     ghost use Rattle.lw_mapped.specs.LineFaults.{first_fault, lines_read};
     ghost use Rattle.lw_mapped.specs.Unmapped.{IsUnmapped};
     ghost use Rattle.lw_mapped.specs.Standing.{StandsFor, IsGivenFew, Tells, StaysStopped, stop_of};
-    ghost use Rattle.lw_mapped.specs.Standing.{fault_of};
     ghost use Rattle.lw_mapped.specs.Closings.{IsReadOver, HasFewGates};
 
     /// A reader of a mapped netlist, before its first line.
@@ -95,7 +86,7 @@ impl MappedReader {
         ensures stays { StaysStopped self.old self.new result }
     {
         if let Some(stop) = self.stop {
-            return Err(stop.fault());
+            return Err(fault_of(stop));
         }
         if self.ended {
             return Ok(());
@@ -110,9 +101,9 @@ impl MappedReader {
         match self.parts.read(line, asked, lib) {
             Ok(()) => Ok(()),
             Err(refusal) => {
-                let stop = Stop::at(line.number, refusal);
+                let stop = stop_at(line.number, refusal);
                 self.stop = Some(stop);
-                Err(stop.fault())
+                Err(fault_of(stop))
             }
         }
     }
@@ -137,7 +128,7 @@ impl MappedReader {
         } = parts;
         if let Some(stop) = stop {
             drop(contents);
-            return Err(stop.fault());
+            return Err(fault_of(stop));
         }
         if let Some(number) = wire {
             drop(contents);
