@@ -23,7 +23,7 @@ CLAUSES = {
     "no_cover": ("lw_top.specs.Mappings.LacksOutput", 45, 1450, 500),
     "checked": ("lw_top.specs.Mappings.IsCheckedMapping", 60, 2200, 600),
     "tables": ("lw_top.specs.Tabled.AreTables", 40, 1100, 400),
-    "trading": ("lw_top.specs.Traded.IsTrade", 61, 2000, 680),
+    "trading": ("lw_top.specs.Traded.IsTrade", 62, 2000, 680),
     "complete": ("lw_top.specs.Answers.IsAnswer", 125, 4000, 2550),
 }
 
