@@ -1,5 +1,5 @@
 -- Answers to words that ask for the size of a graph, or for the values of a network, cannot fail to be there.
-use Rattle.std.proofs.Common.{ℕ, ◌<◌, ◌≤◌, ◌≡◌, inl, inr, Bool, List, [], ◌∷◌, ◌++◌, length, map, Option, Some, None, Result, Ok, Err, refl, ap, arith}
+use Rattle.std.proofs.Common.{ℕ, ◌<◌, ◌≡◌, inl, Bool, List, [], ◌∷◌, ◌++◌, length, map, Option, Some, None, Result, Ok, Err, refl, ap, arith}
 use native.Mathlib.Decide.{dec_lt}
 use Rattle.lw_laws.specs.Networks.{given}
 use Rattle.lw_laws.specs.Graphs.{Graph}
@@ -25,12 +25,11 @@ use Rattle.lw_map.specs.Options.{Options, IsWide}
 use Rattle.lw_map.specs.Mapped.{base_count, splits_count, IsWithinLimits}
 use Rattle.lw_top.specs.declared.refusal.Refusal.{Refusal}
 use Rattle.lw_top.specs.declared.refusal.Refusal.TheVariants.{Vector, Forms, Splits}
-use Rattle.lw_top.specs.declared.refusal.Which.{Which}
 use Rattle.lw_top.specs.declared.refusal.Which.TheVariants as which
-use Rattle.lw_top.specs.Words.{Command, counting, simulation, command_of}
+use Rattle.lw_top.specs.Words.{counting, simulation, command_of}
 use Rattle.lw_top.specs.Counts.{Counts, counts_text, pair_total}
 use Rattle.lw_top.specs.Reports.{Simulates}
-use Rattle.lw_top.specs.Answers.{ReadsModel, HasVectors, text_in, ReadsVectors, IsCountAnswer, IsSimulationAnswer, asked_for, IsAnswer}
+use Rattle.lw_top.specs.Answers.{ReadsModel, HasVectors, text_in, ReadsVectors, asked_for, IsAnswer}
 use Rattle.lw_top.proofs.InRange.{command_in_range}
 use Rattle.lw_exists.specs.Weakly.{Weakly}
 use Rattle.lw_exists.proofs.Weak.{sure, weaker}

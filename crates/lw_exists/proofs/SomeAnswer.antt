@@ -1,14 +1,11 @@
 -- An answer to words that ask for a mapping cannot fail to be there.
-use Rattle.std.proofs.Common.{ℕ, ◌≡◌, inl, inr, Bool, List, Option, Some, Result, Ok, Err, refl, ap, sym, ◌∙◌, subst}
-use Rattle.lw_genlib.specs.declared.fault.LibFault.{LibFault}
-use Rattle.lw_genlib.specs.declared.fault.LibFault.TheVariants as lib_fault
+use Rattle.std.proofs.Common.{ℕ, ◌≡◌, inl, inr, Bool, List, Some, Result, Ok, Err, refl, ap}
 use Rattle.lw_genlib.specs.Cells.{CellParts}
-use Rattle.lw_genlib.specs.Libraries.{library_of}
 use Rattle.lw_blif.specs.declared.parsed.Parsed.{Parsed}
 use Rattle.lw_files.specs.declared.fault.FileFault.{FileFault}
 use Rattle.lw_files.specs.declared.fault.FileFault.TheVariants.{Library}
 use Rattle.lw_files.specs.Steps.{Files, StepTo, followed_by}
-use Rattle.lw_files.specs.Sources.{FileStep, text_of, lines_in, HasCells}
+use Rattle.lw_files.specs.Sources.{FileStep}
 use Rattle.lw_files.specs.Sources as file
 use Rattle.lw_files.proofs.Kept.{cells_kept, model_kept}
 use Rattle.lw_map.specs.Options.{Options}

@@ -1,5 +1,5 @@
 -- What cells and a model come to cannot fail to be there: a mapped text, or why there is none.
-use Rattle.std.proofs.Common.{ℕ, ◌<◌, ◌≤◌, ◌≡◌, ◌⊎◌, inl, inr, Bool, List, length, Some, Result, Ok, Err, slice_get, refl, ap, sym, subst, arith}
+use Rattle.std.proofs.Common.{ℕ, ◌<◌, ◌≡◌, ◌⊎◌, inl, inr, Bool, List, length, Some, Result, Ok, Err, slice_get, refl, sym, subst, arith}
 use Rattle.std.proofs.lemmas.Option.{slice_get_within}
 use native.Mathlib.Decide.{dec_lt}
 use Rattle.lw_pool.specs.declared.id.NetId.{NetId}
@@ -12,7 +12,7 @@ use Rattle.lw_blif.specs.declared.parsed.Parsed.{Parsed}
 use Rattle.lw_files.specs.Steps.{Files}
 use Rattle.lw_mapped.specs.Texts.{mapped_text}
 use Rattle.lw_map.specs.Options.{Options, IsWide}
-use Rattle.lw_map.specs.Mapped.{base_count, splits_count, IsWithinLimits, IsCovered, LacksCover}
+use Rattle.lw_map.specs.Mapped.{base_count, splits_count, IsWithinLimits, IsCovered}
 use Rattle.lw_top.specs.declared.refusal.Refusal.{Refusal}
 use Rattle.lw_top.specs.declared.refusal.Refusal.TheVariants.{Forms, Splits, NoCover}
 use Rattle.lw_top.specs.Maps.{Maps}

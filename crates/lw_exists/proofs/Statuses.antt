@@ -1,8 +1,7 @@
 -- No answer to words that ask for a mapping is that memory ran out.
-use Rattle.std.proofs.Common.{ℕ, ◌≡◌, ◌≢◌, inl, inr, Bool, true, false, if◌then◌else◌, List, length, Option, Some, None, Result, Ok, Err, sym, subst, arith}
+use Rattle.std.proofs.Common.{ℕ, ◌≡◌, ◌≢◌, inl, inr, Bool, true, false, if◌then◌else◌, List, length, Option, Some, None, Result, Ok, Err, subst, arith}
 use Rattle.std.specs.Prelude.{nat_le}
 use Rattle.lw_genlib.specs.Cells.{CellParts}
-use Rattle.lw_blif.specs.declared.parsed.Parsed.{Parsed}
 use Rattle.lw_net.specs.Networks.{NetworkParts}
 use Rattle.lw_fixed.specs.declared.micro.Micro.{Micro}
 use Rattle.lw_words.specs.Limits.{most_bytes}
@@ -17,8 +16,8 @@ use Rattle.lw_top.specs.declared.refusal.Refusal.{Refusal}
 use Rattle.lw_top.specs.declared.refusal.Refusal.TheVariants.{Faulty, Forms, Splits, NoCover}
 use Rattle.lw_top.specs.declared.refusal.Which.{Which}
 use Rattle.lw_top.specs.declared.refusal.Which.TheVariants as which
-use Rattle.lw_top.specs.Words.{Command, mapping, command_of}
-use Rattle.lw_top.specs.Maps.{LacksMapping, Maps}
+use Rattle.lw_top.specs.Words.{mapping, command_of}
+use Rattle.lw_top.specs.Maps.{LacksMapping}
 use Rattle.lw_top.specs.Answers.{in_file, ReadsLibrary, ReadsModel, IsMappingAnswer, IsAnswer, status_of, status_in}
 use Rattle.lw_top.proofs.Asked.{asked_answer}
 
