@@ -93,7 +93,7 @@ module _ (draft : GateDraft) where
     wire_place k wire at = get_right (map gate_link draft.gates) (map wire_link draft.wires) k (wire_link wire) (slice_get_map wire_link draft.wires k wire at)
 
     -- a gate is a step deeper than its pins, and a wire is as deep as its source
-    weight : Link → ℕ
+    abbrev weight : Link → ℕ
     weight link = cond (is_among (map out_of draft.gates) link.name) 1 0
 
     gate_weight : (k : ℕ) (gate : DraftGate) → slice_get draft.gates k ≡ Some gate → weight (gate_link gate) ≡ 1
@@ -202,7 +202,7 @@ module _ (draft : GateDraft) where
         net_of : (q : List ℕ) → HasNet q
         net_of = of_all name_of needs_of ls (Reaches ls) reaching rank ranks.0 HasNet undriven_net link_net
 
-        number : (q : List ℕ) → HasNet q → ℕ
+        abbrev number : (q : List ℕ) → HasNet q → ℕ
         number q (inl (n, is)) = n
         number q (inr out) = 0
 
