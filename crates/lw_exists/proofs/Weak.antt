@@ -66,6 +66,24 @@ first_below P (suc n) d = by_last (first_below P n (λ i lt. d i (omega arith)))
     by_last (inr none) (inl p) = inl (n, (omega arith, p, none))
     by_last (inr none) (inr out) = inr (λ i lt. none_at none out i (eq-or-lt_of_le {n = i} {m = n} (omega arith)))
 
+-- each number below the bound has it, or this is the first that does not
+abbrev pub HoldsBefore : (ℕ → Type 0) → ℕ → Type 0
+HoldsBefore P n =
+    ((i : ℕ) → i < n → P i) ⊎ ((m : ℕ) × ((m < n) × (P m → ⊥) × ((i : ℕ) → i < m → P i)))
+
+pub weak_all_or_first : (P : ℕ → Type 0) (n : ℕ) → Weakly (HoldsBefore P n)
+weak_all_or_first P zero = sure (inl (λ i lt. absurd (omega arith)))
+weak_all_or_first P (suc n) = and_then (weak_all_or_first P n) (λ before. weaker (by_last before) (either (P n)))
+  where
+    by_place : ((i : ℕ) → i < n → P i) → P n → (i : ℕ) → (i ≡ n) ⊎ (i < n) → P i
+    by_place below here i (inl e) = subst P (sym e) here
+    by_place below here i (inr l) = below i l
+
+    by_last : HoldsBefore P n → P n ⊎ (P n → ⊥) → HoldsBefore P (suc n)
+    by_last (inl all) (inl p) = inl (λ i lt. by_place all p i (eq-or-lt_of_le {n = i} {m = n} (omega arith)))
+    by_last (inl all) (inr out) = inr (n, (omega arith, out, all))
+    by_last (inr (m, (lt, out, before))) q = inr (m, (omega arith, out, before))
+
 -- the least number with a property that some number has
 pub weak_least : (P : ℕ → Type 0) (n : ℕ) → P n → Weakly ((m : ℕ) × P m × ((k : ℕ) → P k → m ≤ k))
 weak_least P n p = weaker by_search (weaker (first_below P (suc n)) (weak_decided P (suc n)))
