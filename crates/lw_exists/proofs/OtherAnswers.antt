@@ -38,7 +38,7 @@ use Rattle.lw_exists.proofs.SomeModel.{some_model}
 use Rattle.lw_exists.proofs.SomeAnswer.{some_followed, some_in_file}
 
 -- the model, or why the file has none
-read_model : (name : List ℕ) (files : Files) → Weakly ((r : Result Parsed Refusal) × ReadsModel name files r)
+pub read_model : (name : List ℕ) (files : Files) → Weakly ((r : Result Parsed Refusal) × ReadsModel name files r)
 read_model name files = some_in_file which.Network (file.ReadsModel name) files (some_model name files)
 
 -- The size of a graph.
@@ -74,7 +74,7 @@ by_vectors : (inputs : ℕ) (bytes : List ℕ) (files : Files) (o : Option ℕ) 
 by_vectors inputs bytes files None e = (Ok (map vector_of (lines_in bytes)), (e, refl))
 by_vectors inputs bytes files (Some line) e = (Err (Vector line), e)
 
-some_vectors : (name : List ℕ) (inputs : ℕ) (files : Files) → Weakly ((r : Result (List (List Bool)) Refusal) × ReadsVectors name inputs files r)
+pub some_vectors : (name : List ℕ) (inputs : ℕ) (files : Files) → Weakly ((r : Result (List (List Bool)) Refusal) × ReadsVectors name inputs files r)
 some_vectors name inputs files =
     some_followed (text_in which.Vectors name) (HasVectors inputs) files (some_in_file which.Vectors (gives (text_of name)) files (sure (text_of name files, refl))) (λ bytes is.
     sure (by_vectors inputs bytes files (first_fault inputs (lines_in bytes)) refl))

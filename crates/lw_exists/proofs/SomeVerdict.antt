@@ -17,13 +17,11 @@ use Rattle.lw_netlist.specs.declared.gate.Port.{Port}
 use Rattle.lw_netlist.specs.Netlists.{IsNetlist}
 use Rattle.lw_netlist.specs.Plain.{plain, plain_gate}
 use Rattle.lw_mapped.specs.Texts.{net_name}
-use Rattle.lw_check.specs.declared.trial.Unbounded.{Unbounded}
 use Rattle.lw_check.specs.declared.verdict.Reason.TheVariants.{Ports, Class, NotMatch, Label, Root, Value}
 use Rattle.lw_check.specs.declared.verdict.Verdict.{Verdict}
 use Rattle.lw_check.specs.declared.verdict.Verdict.TheVariants.{Yes, No}
 use Rattle.lw_check.specs.Claims.{Claim, HasSamePorts, HasKnownClasses, first_unknown_class, IsMatchGate, IsMatchAtPlace, AreMatches, HasPotential, IsAtRoot, AreAtRoots, IsOnTime, IsOnTimeAt, AreOnTime, class_of_net, label_of_class, cost_in, timing_in}
 use Rattle.lw_check.specs.Failing.{Gives, IsFailing, IsFirstFailing}
-use Rattle.lw_check.specs.Least.{FindsUnbounded}
 use Rattle.lw_check.specs.Verdicts.{IsVerdictOn}
 use Rattle.lw_check.proofs.Failures.{Fails, failing_of, none_failing, fails_in, first_fails}
 use Rattle.lw_check.proofs.Judging.{inputs_beside, netlist_ordered, same_outputs}
@@ -122,10 +120,9 @@ module _ (k : Claim) (network : IsNetwork k.net) (netlist : IsNetlist k.mapped.n
 
       unbounded : (c : ℕ) → FailsAt c → ((b : ℕ) → b < c → FailsAt b → ⊥) → (d : ℕ) × GivesAt c d × ((e : ℕ) → GivesAt c e → d ≤ e) → HasVerdict
       unbounded c fails first (d, gives, least) =
-          let u : Unbounded = record { class = record { 0 = c }; value = d } in
           let value : Micro = record { 0 = d } in (
-            No (Label u.class (label_of_class k c) value),
-            (ports, classes, matches, is_unbounded k classes labels one_each read u (label_of_class k c) value refl refl (first_failing c fails first, (gives, least))),
+            No (Label (record { 0 = c }) (label_of_class k c) value),
+            (ports, classes, matches, is_unbounded k classes labels one_each read (record { class = record { 0 = c }; value = d }) (label_of_class k c) value refl refl (first_failing c fails first, (gives, least))),
           )
 
       by_labels : ((c : ℕ) × IsFirstBelow FailsAt (length k.graph.pairs) c) ⊎ ((c : ℕ) → c < length k.graph.pairs → FailsAt c → ⊥) → Weakly HasVerdict
@@ -133,8 +130,7 @@ module _ (k : Claim) (network : IsNetwork k.net) (netlist : IsNetlist k.mapped.n
           let is : IsFailing k.graph (cost_in k) k.pats (labels_in labels) c = failing_of k.graph (cost_in k) k.pats (labels_in labels) c fails in
           weaker (unbounded c fails first) (weak_least (GivesAt c) is.value is.gives)
       by_labels (inr none) =
-          let found : FindsUnbounded k.graph (cost_in k) k.pats labels None = none_failing k.graph (cost_in k) k.pats labels (λ c fails. none c (fails_in k.graph (cost_in k) k.pats labels graph one_each c fails) fails) in
-          on_roots (has_potential k classes labels one_each read found)
+          on_roots (has_potential k classes labels one_each read (none_failing k.graph (cost_in k) k.pats labels (λ c fails. none c (fails_in k.graph (cost_in k) k.pats labels graph one_each c fails) fails)))
 
       on_labels : Weakly HasVerdict
       on_labels = and_then (weak_decided FailsAt (length k.graph.pairs)) (λ d. by_labels (first_below FailsAt (length k.graph.pairs) d))
