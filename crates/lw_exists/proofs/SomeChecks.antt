@@ -1,5 +1,5 @@
 -- What a check of a mapped netlist comes to cannot fail to be there: a yes, a no with its reason, or why there is no graph.
-use Rattle.std.proofs.Common.{ℕ, ◌+◌, ◌<◌, ◌≤◌, ◌≡◌, List, length, map, Result, Ok, Err, refl, ap, ◌∙◌, arith}
+use Rattle.std.proofs.Common.{ℕ, ◌<◌, ◌≡◌, List, length, map, Result, Ok, Err, refl, ap, ◌∙◌, arith}
 use Rattle.std.proofs.lemmas.List.{length-map}
 use native.Mathlib.Decide.{dec_lt}
 use Rattle.lw_pool.specs.declared.id.ClassId.{ClassId}

@@ -1,8 +1,7 @@
 -- The netlist of a draft, or a fault of it, cannot fail to be there.
-use Rattle.std.proofs.Common.{ℕ, ◌+◌, ◌<◌, ◌≤◌, ◌≡◌, ◌≢◌, ◌⊎◌, inl, inr, Bool, true, false, cond, List, [], ◌∷◌, ◌++◌, length, map, Option, Some, None, Contains, All, slice_get, slice_index_or, refl, ap, sym, ◌∙◌, subst, arith}
-use Rattle.std.specs.List.{IsDistinct, flat_map}
+use Rattle.std.proofs.Common.{ℕ, ◌+◌, ◌<◌, ◌≤◌, ◌≡◌, ◌⊎◌, inl, inr, Bool, true, false, cond, List, [], length, map, Option, Some, None, Contains, All, slice_get, slice_index_or, refl, ap, sym, ◌∙◌, subst, arith}
+use Rattle.std.specs.List.{flat_map}
 use Rattle.std.specs.List.Sorted.{IsPermutation}
-use Rattle.std.specs.Str.{bytes_eq}
 use Rattle.std.proofs.lemmas.List.{length-map}
 use Rattle.std.proofs.lemmas.List.Elements.{All-from_recursion, All-contains}
 use Rattle.std.proofs.lemmas.List.Sorted.{Contains-permutation}
@@ -17,7 +16,7 @@ use Rattle.lw_named_netlist.specs.declared.draft.DraftGate.{DraftGate}
 use Rattle.lw_named_netlist.specs.declared.draft.GateDraft.{GateDraft}
 use Rattle.lw_named_netlist.specs.declared.draft.Wire.{Wire}
 use Rattle.lw_named_netlist.specs.declared.fault.NetlistFault.TheVariants.{Twice, Undriven, Cycle}
-use Rattle.lw_named_netlist.specs.Closing.{Link, is_among, greatest, name_of, needs_of, gate_link, wire_link, links, drivers, undriven_in, first_twice, first_undriven, Hangs, Reaches, HasNoCycle, IsFirstOnCycle, AreNameDepths, out_of, by_depth, IsNetNamed, netlist_in, IsClosed, HasFault}
+use Rattle.lw_named_netlist.specs.Closing.{Link, is_among, greatest, name_of, needs_of, gate_link, wire_link, links, drivers, first_twice, first_undriven, Hangs, Reaches, HasNoCycle, IsFirstOnCycle, AreNameDepths, out_of, by_depth, IsNetNamed, netlist_in, IsClosed, HasFault}
 use Rattle.lw_named_netlist.specs.Closing.Reaches.{by_step, by_path}
 use Rattle.lw_named_netlist.specs.Closing.IsNetNamed.{at_input, at_gate, at_wire}
 use Rattle.lw_named_netlist.proofs.Names.{once_distinct}

@@ -1,5 +1,5 @@
 -- What cells and a model come to cannot fail to be there: a mapped text, or why there is none.
-use Rattle.std.proofs.Common.{ℕ, ◌<◌, ◌≡◌, ◌⊎◌, inl, inr, Bool, List, length, Some, Result, Ok, Err, slice_get, refl, sym, subst, arith}
+use Rattle.std.proofs.Common.{ℕ, ◌<◌, ◌≡◌, inl, inr, Bool, List, length, Some, Result, Ok, Err, slice_get, refl, sym, subst, arith}
 use Rattle.std.proofs.lemmas.Option.{slice_get_within}
 use native.Mathlib.Decide.{dec_lt}
 use Rattle.lw_pool.specs.declared.id.NetId.{NetId}
@@ -17,7 +17,7 @@ use Rattle.lw_top.specs.declared.refusal.Refusal.{Refusal}
 use Rattle.lw_top.specs.declared.refusal.Refusal.TheVariants.{Forms, Splits, NoCover}
 use Rattle.lw_top.specs.Maps.{Maps}
 use Rattle.lw_exists.specs.Weakly.{Weakly}
-use Rattle.lw_exists.proofs.Weak.{sure, and_then, weaker, Decided, weak_decided, IsFirstBelow, first_below}
+use Rattle.lw_exists.proofs.Weak.{sure, and_then, weaker, HoldsBefore, weak_all_or_first}
 use Rattle.lw_exists.proofs.SomeNetlist.{HasNetlist, some_netlist}
 
 module _ (options : Options) (certified : Bool) (cells : List CellParts) (model : Parsed) (files : Files) (wide : IsWide options) (kept : IsNetwork model.network) (lib : IsLibrary cells) where
@@ -49,24 +49,13 @@ module _ (options : Options) (certified : Bool) (cells : List CellParts) (model 
           },
         )
 
-    turned : (k : ℕ) → IsCoveredAt k ⊎ (IsCoveredAt k → ⊥) → (IsCoveredAt k → ⊥) ⊎ ((IsCoveredAt k → ⊥) → ⊥)
-    turned k (inl c) = inr (λ out. out c)
-    turned k (inr out) = inl out
-
-    settled : (k : ℕ) → IsCoveredAt k ⊎ (IsCoveredAt k → ⊥) → ((IsCoveredAt k → ⊥) → ⊥) → IsCoveredAt k
-    settled k (inl c) twice = c
-    settled k (inr out) twice = absurd (twice out)
-
-    by_outputs : Decided IsCoveredAt (length model.network.outputs) → ((m : ℕ) × IsFirstBelow (λ k. IsCoveredAt k → ⊥) (length model.network.outputs) m) ⊎ ((k : ℕ) → k < length model.network.outputs → (IsCoveredAt k → ⊥) → ⊥) → Weakly HasSome
-    by_outputs d (inl (m, (lt, out, first))) = sure (lacks_cover m lt out (λ k less. settled k (d k (omega arith)) (first k less)))
-    by_outputs d (inr none) =
-        weaker mapped (some_netlist options cells model.network model.starts wide kept lib within.forms (λ k o at.
-        let lt = slice_get_within model.network.outputs k o at in settled k (d k lt) (none k lt) o at) certified)
+    by_outputs : HoldsBefore IsCoveredAt (length model.network.outputs) → Weakly HasSome
+    by_outputs (inl all) =
+        weaker mapped (some_netlist options cells model.network model.starts wide kept lib within.forms (λ k o at. all k (slice_get_within model.network.outputs k o at) o at) certified)
+    by_outputs (inr (m, (lt, out, before))) = sure (lacks_cover m lt out before)
 
     within_limits : Weakly HasSome
-    within_limits =
-        and_then (weak_decided IsCoveredAt (length model.network.outputs)) (λ d.
-        by_outputs d (first_below (λ k. IsCoveredAt k → ⊥) (length model.network.outputs) (λ k lt. turned k (d k lt))))
+    within_limits = and_then (weak_all_or_first IsCoveredAt (length model.network.outputs)) by_outputs
 
   by_limits : Dec (most_bases < base_count options model.network) → Dec (most_splits < splits_count options model.network) → Weakly HasSome
   by_limits (yes many) d = sure (Err Forms, many)

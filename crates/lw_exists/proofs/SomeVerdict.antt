@@ -1,11 +1,10 @@
 -- A verdict on a claim cannot fail to be there: no test fails, or there is a first one, with what fails it first.
-use Rattle.std.proofs.Common.{ℕ, ◌+◌, ◌<◌, ◌≤◌, ◌≡◌, ◌≢◌, ◌⊎◌, inl, inr, List, length, Option, Some, None, option_map, slice_get, refl, ap, sym, ◌∙◌, subst, arith}
+use Rattle.std.proofs.Common.{ℕ, ◌<◌, ◌≤◌, ◌≡◌, ◌≢◌, ◌⊎◌, inl, inr, List, length, Option, Some, None, option_map, slice_get, refl, ap, sym, ◌∙◌, subst, arith}
 use Rattle.std.proofs.lemmas.List.{length-map}
 use Rattle.std.proofs.lemmas.Option.{slice_get_within, get_or_from_slice_get}
 use native.Mathlib.Decide.{dec_lt}
 use Rattle.lw_fixed.specs.declared.micro.Micro.{Micro}
 use Rattle.lw_pool.specs.declared.id.ClassId.{ClassId}
-use Rattle.lw_pool.specs.declared.id.NetId.{NetId}
 use Rattle.lw_laws.specs.Rounds.{labels_in}
 use Rattle.lw_laws.proofs.Lists.{slice_get_some}
 use Rattle.lw_laws.proofs.NetlistValues.{some_arrivals}
@@ -20,7 +19,7 @@ use Rattle.lw_mapped.specs.Texts.{net_name}
 use Rattle.lw_check.specs.declared.verdict.Reason.TheVariants.{Ports, Class, NotMatch, Label, Root, Value}
 use Rattle.lw_check.specs.declared.verdict.Verdict.{Verdict}
 use Rattle.lw_check.specs.declared.verdict.Verdict.TheVariants.{Yes, No}
-use Rattle.lw_check.specs.Claims.{Claim, HasSamePorts, HasKnownClasses, first_unknown_class, IsMatchGate, IsMatchAtPlace, AreMatches, HasPotential, IsAtRoot, AreAtRoots, IsOnTime, IsOnTimeAt, AreOnTime, class_of_net, label_of_class, cost_in, timing_in}
+use Rattle.lw_check.specs.Claims.{Claim, HasSamePorts, HasKnownClasses, first_unknown_class, IsMatchGate, IsMatchAtPlace, AreMatches, HasPotential, IsAtRoot, AreAtRoots, IsOnTime, IsOnTimeAt, class_of_net, label_of_class, cost_in, timing_in}
 use Rattle.lw_check.specs.Failing.{Gives, IsFailing, IsFirstFailing}
 use Rattle.lw_check.specs.Verdicts.{IsVerdictOn}
 use Rattle.lw_check.proofs.Failures.{Fails, failing_of, none_failing, fails_in, first_fails}
