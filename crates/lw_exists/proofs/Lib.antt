@@ -18,6 +18,7 @@ pub mod SomeFiles
 pub mod SomeMaps
 pub mod SomeAnswer
 pub mod Statuses
+pub mod SomeDrawing
 pub mod OtherAnswers
 pub mod SomeTiming
 pub mod SomeVerdict

@@ -1,4 +1,5 @@
--- Answers to words that ask for the size of a graph, or for the values of a network, cannot fail to be there.
+-- Answers to words that ask for the size of a graph, for the values of a network, or for the sizes of a drawn network cannot
+-- fail to be there.
 use Rattle.std.proofs.Common.{ℕ, ◌<◌, ◌≡◌, Bool, List, [], ◌∷◌, ◌++◌, length, Some, Result, Ok, Err, refl, arith}
 use native.Mathlib.Decide.{dec_lt}
 use Rattle.lw_laws.specs.Networks.{given}
@@ -16,21 +17,22 @@ use Rattle.lw_blif.specs.declared.parsed.Parsed.{Parsed}
 use Rattle.lw_report.specs.Simulated.{IsNetworkLine, AreLines, value_line}
 use Rattle.lw_report.specs.Simulated.AreLines.{no_lines, next_line}
 use Rattle.lw_files.specs.Steps.{Files, followed_by}
-use Rattle.lw_files.proofs.Kept.{model_kept}
+use Rattle.lw_files.proofs.Kept.{cells_kept, model_kept}
 use Rattle.lw_map.specs.declared.counting.Counts.{Counts as GraphCounts}
 use Rattle.lw_map.specs.Options.{Options, IsWide}
 use Rattle.lw_map.specs.Mapped.{base_count, splits_count, IsWithinLimits}
 use Rattle.lw_top.specs.declared.refusal.Refusal.{Refusal}
 use Rattle.lw_top.specs.declared.refusal.Refusal.TheVariants.{Forms, Splits}
-use Rattle.lw_top.specs.Words.{counting, simulation, command_of}
-use Rattle.lw_top.specs.Counts.{Counts, counts_text, pair_total}
+use Rattle.lw_top.specs.Words.{counting, simulation, drawing, command_of}
+use Rattle.lw_top.specs.Counts.{Counts, counts_text, pair_total, Draws}
 use Rattle.lw_top.specs.Reports.{Simulates}
-use Rattle.lw_top.specs.Answers.{ReadsModel, ReadsVectors, IsAnswer}
+use Rattle.lw_top.specs.Answers.{ReadsLibrary, ReadsModel, ReadsVectors, IsAnswer}
 use Rattle.lw_top.proofs.InRange.{command_in_range}
 use Rattle.lw_exists.specs.Weakly.{Weakly}
 use Rattle.lw_exists.proofs.Weak.{sure, weaker}
 use Rattle.lw_exists.proofs.SomeGraph.{some_graph}
-use Rattle.lw_exists.proofs.SomeFiles.{some_followed, some_command_answer, read_model, read_vectors}
+use Rattle.lw_exists.proofs.SomeFiles.{some_followed, some_command_answer, read_library, read_model, read_vectors}
+use Rattle.lw_exists.proofs.SomeDrawing.{some_drawing}
 
 -- The size of a graph.
 
@@ -76,3 +78,9 @@ some_simulation_answer words files network_word vectors form =
     some_followed (ReadsVectors vectors model.network.inputs) (λ xs. Simulates model xs) files (read_vectors vectors model.network.inputs files) (λ xs has.
     let (text, are) = some_lines model.network (model_kept network_word files model read).network xs in
     sure (Ok text, are))))
+
+pub some_drawing_answer : (words : List (List ℕ)) (files : Files) (seed count : ℕ) (library : List ℕ) → command_of words ≡ Some (drawing seed count library) → Weakly ((r : Result (List ℕ) Refusal) × IsAnswer words files r)
+some_drawing_answer words files seed count library form =
+    some_command_answer words files (drawing seed count library) form
+    (some_followed (ReadsLibrary library) (λ cells. Draws seed count cells) files (read_library library files) (λ cells lib.
+    some_drawing seed count (command_in_range words (drawing seed count library) form).most cells (cells_kept library files cells lib) files))

@@ -132,12 +132,17 @@ module _ {X : Type 0} (out : X → List ℕ) (needs : X → List (List ℕ)) (xs
     where
       in_list : ((k : ℕ) → k < length xs → HasRank k) → (rank : ℕ → ℕ) × AreRanks rank
       in_list each =
-          let (ranks, count, are) = some_list (λ k r. Counts (Below k) (length xs) r) (length xs) each in
-          ((λ k. slice_index_or ranks k 0), (falls ranks count are, λ k lt.
-          let (r, e) = slice_get_some ranks k (omega arith) in
-          let most = count_most (Below k) (length xs) r (are k r e) in
-          let at = get_or_from_slice_get ranks k r 0 e in
-          omega arith))
+          let (ranks, count, are) = some_list (λ k r. Counts (Below k) (length xs) r) (length xs) each in (
+            (λ k. slice_index_or ranks k 0),
+            (
+              falls ranks count are,
+              λ k lt.
+                  let (r, e) = slice_get_some ranks k (omega arith) in
+                  let most = count_most (Below k) (length xs) r (are k r e) in
+                  let at = get_or_from_slice_get ranks k r 0 e in
+                  omega arith,
+            ),
+          )
 
   -- what follows for a name from what its driver needs holds of all names
   module _ (rank : ℕ → ℕ) (fall : Fall rank) (P : List ℕ → Type 0) (undriven : (q : List ℕ) → driver out q xs ≡ None → P q) (next : (k : ℕ) (x : X) → slice_get xs k ≡ Some x → ((q : List ℕ) → Contains (needs x) q → P q) → P (out x)) where

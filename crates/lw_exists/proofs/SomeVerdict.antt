@@ -50,22 +50,29 @@ module _ (k : Claim) (network : IsNetwork k.net) (netlist : IsNetlist k.mapped.n
             let (d, time) = slice_get_some ds port.net.0 inside in
             let arrival : Micro = record { 0 = d } in
             let differs : arrival ≢ label = λ same. out (λ other there.
-                let one : port ≡ other = cc in
-                let on_time : IsOnTime k port = record { class = class; has_class = has_class; label = label; has_label = has_label; arrives = record { arrivals = ds; are = are; at = time ∙ ap (λ (t : Micro). Some t.0) same } } in
-                subst (IsOnTime k) one on_time) in (
+            let one : port ≡ other = cc in
+            let on_time : IsOnTime k port = record { class = class; has_class = has_class; label = label; has_label = has_label; arrives = record { arrivals = ds; are = are; at = time ∙ ap (λ (t : Micro). Some t.0) same } } in
+            subst (IsOnTime k) one on_time) in (
               No (Value port.name arrival label),
-              (ports, classes, matches, potential, at_roots, record {
-                place = m;
-                port = port;
-                at = at;
-                named = refl;
-                class = class;
-                has_class = has_class;
-                has_label = has_label;
-                arrives = record { arrivals = ds; are = are; at = time };
-                differs = differs;
-                before = before;
-              }),
+              (
+                ports,
+                classes,
+                matches,
+                potential,
+                at_roots,
+                record {
+                  place = m;
+                  port = port;
+                  at = at;
+                  named = refl;
+                  class = class;
+                  has_class = has_class;
+                  has_label = has_label;
+                  arrives = record { arrivals = ds; are = are; at = time };
+                  differs = differs;
+                  before = before;
+                },
+              ),
             )
 
         by_times : HoldsBefore (IsOnTimeAt k) (length k.mapped.netlist.outputs) → HasVerdict
@@ -80,16 +87,22 @@ module _ (k : Claim) (network : IsNetwork k.net) (netlist : IsNetlist k.mapped.n
           let (class, label, has_class, has_label) = port_label m port at in
           let found : ClassId = record { 0 = class } in (
             No (Root port.name found root),
-            (ports, classes, matches, potential, record {
-              place = m;
-              port = port;
-              at = at;
-              root_at = root_at;
-              named = refl;
-              found_at = has_class;
-              differs = λ same. out (at_root k m port root at root_at (has_class ∙ ap (λ (c : ClassId). Some c.0) same));
-              before = before;
-            }),
+            (
+              ports,
+              classes,
+              matches,
+              potential,
+              record {
+                place = m;
+                port = port;
+                at = at;
+                root_at = root_at;
+                named = refl;
+                found_at = has_class;
+                differs = λ same. out (at_root k m port root at root_at (has_class ∙ ap (λ (c : ClassId). Some c.0) same));
+                before = before;
+              },
+            ),
           )
 
       by_roots : HoldsBefore (IsAtRoot k) (length k.mapped.netlist.outputs) → Weakly HasVerdict
@@ -144,14 +157,18 @@ module _ (k : Claim) (network : IsNetwork k.net) (netlist : IsNetlist k.mapped.n
   no_match : HasSamePorts k → HasKnownClasses k → (m : ℕ) (gate : Gate) → slice_get k.mapped.netlist.gates m ≡ Some gate → (IsMatchAtPlace k m → ⊥) → ((j : ℕ) → j < m → IsMatchAtPlace k j) → HasVerdict
   no_match ports classes m gate at out before = (
     No (NotMatch (net_name k.mapped.netlist.names gate.out)),
-    (ports, classes, record {
-      place = m;
-      gate = gate;
-      at = at;
-      named = refl;
-      no_match = λ is. out (λ other there. let same : gate ≡ other = cc in subst (IsMatchGate k) same is);
-      before = before;
-    }),
+    (
+      ports,
+      classes,
+      record {
+        place = m;
+        gate = gate;
+        at = at;
+        named = refl;
+        no_match = λ is. out (λ other there. let same : gate ≡ other = cc in subst (IsMatchGate k) same is);
+        before = before;
+      },
+    ),
   )
 
   by_gates : HasSamePorts k → HasKnownClasses k → HoldsBefore (IsMatchAtPlace k) (length k.mapped.netlist.gates) → Weakly HasVerdict

@@ -9,8 +9,8 @@ ghost use Rattle.lw_laws.specs.Networks.{Network};
 ghost use Rattle.lw_map.specs.Options.{Options};
 ghost use Rattle.lw_top.specs.Answers.{IsAnswer, status_in};
 ghost use Rattle.lw_top.specs.Mappings.{AsksForMapping, AsksForCheck};
-ghost use Rattle.lw_top.specs.Words.{command_of, counting, simulation, timing, gate_simulation};
-ghost use Rattle.lw_top.specs.Words.{to_verilog, from_verilog};
+ghost use Rattle.lw_top.specs.Words.{command_of, counting, simulation, drawing};
+ghost use Rattle.lw_top.specs.Words.{timing, gate_simulation, to_verilog, from_verilog};
 ghost use Rattle.lw_top.specs.declared.refusal.Refusal.{Refusal};
 ghost use Rattle.std.specs.Prelude.{◌≡◌, ◌≢◌, ◌≤◌, ℕ, List, Result, Some};
 
@@ -36,6 +36,13 @@ pub fn counts_and_values_have_answers()
         Weakly ((a : Result (List ℕ) Refusal) × IsAnswer words files a) }
     ensures values { (words : List (List ℕ)) (files : Files) (network vectors : List ℕ) →
         command_of words ≡ Some (simulation network vectors) →
+        Weakly ((a : Result (List ℕ) Refusal) × IsAnswer words files a) }
+{}
+
+/// So is an answer to words that ask for the sizes of a drawn network.
+pub fn sizes_have_answers()
+    ensures { (words : List (List ℕ)) (files : Files) (seed count : ℕ) (library : List ℕ) →
+        command_of words ≡ Some (drawing seed count library) →
         Weakly ((a : Result (List ℕ) Refusal) × IsAnswer words files a) }
 {}
 
