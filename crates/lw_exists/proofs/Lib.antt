@@ -18,7 +18,11 @@ pub mod SomeFiles
 pub mod SomeMaps
 pub mod SomeAnswer
 pub mod Statuses
+pub mod OutputClasses
 pub mod SomeDrawing
+pub mod SomeCuts
+pub mod SomeTables
+pub mod SomeTabled
 pub mod OtherAnswers
 pub mod SomeTiming
 pub mod SomeVerdict

@@ -1,5 +1,5 @@
--- Answers to words that ask for the size of a graph, for the values of a network, or for the sizes of a drawn network cannot
--- fail to be there.
+-- Answers to words that ask for the size of a graph, for the values of a network, for the sizes of a drawn network, or for
+-- lookup tables cannot fail to be there.
 use Rattle.std.proofs.Common.{ℕ, ◌<◌, ◌≡◌, Bool, List, [], ◌∷◌, ◌++◌, length, Some, Result, Ok, Err, refl, arith}
 use native.Mathlib.Decide.{dec_lt}
 use Rattle.lw_laws.specs.Networks.{given}
@@ -23,9 +23,10 @@ use Rattle.lw_map.specs.Options.{Options, IsWide}
 use Rattle.lw_map.specs.Mapped.{base_count, splits_count, IsWithinLimits}
 use Rattle.lw_top.specs.declared.refusal.Refusal.{Refusal}
 use Rattle.lw_top.specs.declared.refusal.Refusal.TheVariants.{Forms, Splits}
-use Rattle.lw_top.specs.Words.{counting, simulation, drawing, command_of}
+use Rattle.lw_top.specs.Words.{counting, simulation, drawing, tabling, command_of}
 use Rattle.lw_top.specs.Counts.{Counts, counts_text, pair_total, Draws}
 use Rattle.lw_top.specs.Reports.{Simulates}
+use Rattle.lw_top.specs.Tables.{Tabulates}
 use Rattle.lw_top.specs.Answers.{ReadsLibrary, ReadsModel, ReadsVectors, IsAnswer}
 use Rattle.lw_top.proofs.InRange.{command_in_range}
 use Rattle.lw_exists.specs.Weakly.{Weakly}
@@ -33,6 +34,7 @@ use Rattle.lw_exists.proofs.Weak.{sure, weaker}
 use Rattle.lw_exists.proofs.SomeGraph.{some_graph}
 use Rattle.lw_exists.proofs.SomeFiles.{some_followed, some_command_answer, read_library, read_model, read_vectors}
 use Rattle.lw_exists.proofs.SomeDrawing.{some_drawing}
+use Rattle.lw_exists.proofs.SomeTabled.{some_tabled}
 
 -- The size of a graph.
 
@@ -84,3 +86,10 @@ some_drawing_answer words files seed count library form =
     some_command_answer words files (drawing seed count library) form
     (some_followed (ReadsLibrary library) (λ cells. Draws seed count cells) files (read_library library files) (λ cells lib.
     some_drawing seed count (command_in_range words (drawing seed count library) form).most cells (cells_kept library files cells lib) files))
+
+pub some_tabling_answer : (words : List (List ℕ)) (files : Files) (leaves : ℕ) (options : Options) (network_word : List ℕ) → command_of words ≡ Some (tabling leaves options network_word) → Weakly ((r : Result (List ℕ) Refusal) × IsAnswer words files r)
+some_tabling_answer words files leaves options network_word form =
+    let (few, wide) = command_in_range words (tabling leaves options network_word) form in
+    some_command_answer words files (tabling leaves options network_word) form
+    (some_followed (ReadsModel network_word) (λ model. Tabulates leaves options model) files (read_model network_word files) (λ model read.
+    some_tabled options leaves model files wide few (model_kept network_word files model read)))

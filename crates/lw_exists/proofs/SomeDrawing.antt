@@ -9,9 +9,7 @@ use Rattle.lw_laws.specs.Rounds.{labels_in}
 use Rattle.lw_laws.proofs.NetlistValues.{some_arrivals}
 use Rattle.lw_net.specs.Closing.{by_depth, network_in}
 use Rattle.lw_net.specs.Networks.{NetworkParts, IsNetwork}
-use Rattle.lw_net.specs.Plain as network
 use Rattle.lw_graph.specs.Graphs.{IsGraph}
-use Rattle.lw_assoc.proofs.Built.{pairs_bound}
 use Rattle.lw_cost.specs.Coming.{matches_from}
 use Rattle.lw_cursor.proofs.AllMatches.{all_matches}
 use Rattle.lw_genlib.specs.Cells.{CellParts, IsLibrary}
@@ -34,11 +32,11 @@ use Rattle.lw_map.specs.Options.{IsWide}
 use Rattle.lw_files.specs.Steps.{Files}
 use Rattle.lw_top.specs.declared.refusal.Refusal.{Refusal}
 use Rattle.lw_top.specs.Counts.{sizes_text, IsSizeText, Draws}
-use Rattle.lw_answers.proofs.FormGraphs.{form_graph}
 use Rattle.lw_exists.specs.Weakly.{Weakly}
 use Rattle.lw_exists.proofs.Weak.{and_then, weaker, some_list}
 use Rattle.lw_exists.proofs.SomeDepths.{some_depths}
 use Rattle.lw_exists.proofs.SomeMaps.{HasMapping, some_mapping}
+use Rattle.lw_exists.proofs.OutputClasses.{graph_kept}
 
 -- how often the matches of a graph are read, or that they are too many
 module _ (g : Graph) (graph : IsGraph g) (pats : List Pattern) (labels : Labels) where
@@ -73,7 +71,7 @@ module _ (seed count : ℕ) (few : count ≤ most_nodes) (cells : List CellParts
     sized : (within : IsWithinLimits drawing_options net) (n : NetlistParts) → IsMappedNetlist drawing_options cells net (at_once net.inputs) n → HasSome
     sized within n mapped =
         let g = mapped.is.graph in
-        let graph : IsGraph g = form_graph drawing_options.mode drawing_options.width (network.plain net) g wide.least mapped.is.is_graph (let a = kept.named in let b = kept.few in omega arith) (let a = within.forms in let p = pairs_bound 0 g.forms in let w = mapped.is.is_graph.written.class_count in let f = mapped.is.is_graph.written.form_count in omega arith) in
+        let graph = graph_kept drawing_options net wide kept within g mapped.is.is_graph in
         let (steps, steps_are) = some_steps g graph (library_patterns cells) (labels_in mapped.is.labels) in
         let (arrivals, arrive) = some_arrivals (netlist.plain n) (ordered n mapped.kept) (timing_of cells (at_once net.inputs)) in
         let sizes : Sizes = record { nodes = count; classes = length g.pairs; gates = length n.gates; latest = record { 0 = greatest (output_arrivals n arrivals) }; steps = steps } in

@@ -8,7 +8,7 @@ ghost use Rattle.lw_laws.specs.Modes.{Mode};
 ghost use Rattle.lw_laws.specs.Networks.{Network};
 ghost use Rattle.lw_map.specs.Options.{Options};
 ghost use Rattle.lw_top.specs.Answers.{IsAnswer, status_in};
-ghost use Rattle.lw_top.specs.Mappings.{AsksForMapping, AsksForCheck};
+ghost use Rattle.lw_top.specs.Mappings.{AsksForMapping, AsksForCheck, AsksForTables};
 ghost use Rattle.lw_top.specs.Words.{command_of, counting, simulation, drawing};
 ghost use Rattle.lw_top.specs.Words.{timing, gate_simulation, to_verilog, from_verilog};
 ghost use Rattle.lw_top.specs.declared.refusal.Refusal.{Refusal};
@@ -43,6 +43,12 @@ pub fn counts_and_values_have_answers()
 pub fn sizes_have_answers()
     ensures { (words : List (List ℕ)) (files : Files) (seed count : ℕ) (library : List ℕ) →
         command_of words ≡ Some (drawing seed count library) →
+        Weakly ((a : Result (List ℕ) Refusal) × IsAnswer words files a) }
+{}
+
+/// So is an answer to words that ask for lookup tables.
+pub fn tables_have_answers()
+    ensures { (words : List (List ℕ)) (files : Files) → AsksForTables words →
         Weakly ((a : Result (List ℕ) Refusal) × IsAnswer words files a) }
 {}
 
