@@ -76,3 +76,9 @@ pub fn netlists_have_answers()
         command_of words ≡ Some (from_verilog library verilog) →
         Weakly ((a : Result (List ℕ) Refusal) × IsAnswer words files a) }
 {}
+
+/// No answer to any words is that memory ran out.
+pub fn answers_want_no_memory()
+    ensures { (words : List (List ℕ)) (files : Files) (a : Result (List ℕ) Refusal) →
+        IsAnswer words files a → status_in a ≢ 8 }
+{}

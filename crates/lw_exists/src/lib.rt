@@ -10,6 +10,6 @@
 mod laws;
 
 pub use laws::{
-    checks_have_answers, counts_and_values_have_answers, graphs_exist, mappings_have_answers,
-    netlists_have_answers, sizes_have_answers, tables_have_answers,
+    answers_want_no_memory, checks_have_answers, counts_and_values_have_answers, graphs_exist,
+    mappings_have_answers, netlists_have_answers, sizes_have_answers, tables_have_answers,
 };
