@@ -123,9 +123,6 @@ module _ (g : Graph) (graph : IsGraph g) (most : ℕ) (two : 2 ≤ most) where
   cover_at (cover k ks) (suc i) d lt (ok, oks) =
       let (l, is, same, le) = cover_at ks i d (omega arith) oks in (l, is, same, omega arith)
 
-  leaf_count : (m : ℕ) (p : Tree) → HasPinsOnce m p → length (leaves_of p) ≡ m
-  leaf_count m p once = length_permutation (range_with_len 0 m) (leaves_of p) once ∙ length-range_with_len 0 m
-
   leaf_low : (m : ℕ) (p : Tree) (i : ℕ) → HasPinsOnce m p → Contains (leaves_of p) i → i < m
   leaf_low m p i once among =
       let (j, lt, e) = Contains-permutation (leaves_of p) (range_with_len 0 m) i (IsPermutation-sym (range_with_len 0 m) (leaves_of p) once) among in
@@ -149,7 +146,8 @@ module _ (g : Graph) (graph : IsGraph g) (most : ℕ) (two : 2 ≤ most) where
         by_cover (wire i, ok, u, d) = absurd (omega arith)
         by_cover (table p ks, (few, once, oks), u, d) =
             let (cut, is, count, pins) = some_cut g (trees_of ks) p c u in
-            let n = leaf_count (length (trees_of ks)) p once in (
+            let n = length_permutation (range_with_len 0 (length (trees_of ks))) (leaves_of p) once in
+            let m = length-range_with_len 0 (length (trees_of ks)) in (
               cut,
               record {
                 is = is;
