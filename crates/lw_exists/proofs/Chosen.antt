@@ -1,14 +1,14 @@
 -- The chosen match of a class cannot fail to be there.
-use Rattle.std.proofs.Common.{ℕ, suc, ◌<◌, ◌≤◌, ◌≡◌, ◌⊎◌, inl, inr, List, length, Option, Some, slice_get, refl, ap, sym, ◌∙◌, subst, arith}
+use Rattle.std.proofs.Common.{ℕ, suc, ◌<◌, ◌≤◌, ◌≡◌, ◌⊎◌, inl, inr, List, length, Some, slice_get, ap, sym, ◌∙◌, subst, arith}
 use Rattle.std.specs.List.{AllByRecursion}
 use native.Mathlib.Nat.{eq-or-lt_of_le}
 use Rattle.lw_facts.proofs.Lists.{contained_at}
 use Rattle.lw_laws.specs.Graphs.{Graph}
 use Rattle.lw_laws.specs.Covers.{Pattern, HasPins}
 use Rattle.lw_laws.specs.Costs.{Cost}
-use Rattle.lw_laws.specs.Choices.{Labels, HaveLabels, Attains, IsInputClass, AreHeights}
+use Rattle.lw_laws.specs.Choices.{Labels, Attains, IsInputClass, AreHeights}
 use Rattle.lw_laws.specs.Matches.{choices_of}
-use Rattle.lw_laws.specs.Extracts.{Match, IsMatchBy, Supports, IsMatchAtMost, IsChosen, IsLeafClass}
+use Rattle.lw_laws.specs.Extracts.{Match, Supports, IsMatchAtMost, IsChosen, IsLeafClass}
 use Rattle.lw_laws.proofs.Heights.{all_weaker}
 use Rattle.lw_exists.specs.Weakly.{Weakly}
 use Rattle.lw_exists.proofs.Weak.{and_then, weaker, weak_least}

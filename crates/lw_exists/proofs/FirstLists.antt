@@ -1,5 +1,5 @@
 -- A property of lists of one length that some list has cannot fail to have a first list, in the order of words.
-use Rattle.std.proofs.Common.{ℕ, zero, suc, ◌<◌, ◌≤◌, ◌≡◌, ◌⊎◌, inl, inr, List, [], ◌∷◌, length, refl, ap, sym, subst, arith}
+use Rattle.std.proofs.Common.{ℕ, zero, suc, ◌<◌, ◌≤◌, ◌≡◌, ◌⊎◌, inl, inr, List, [], ◌∷◌, length, sym, subst, arith}
 use native.Mathlib.Nat.{eq-or-lt_of_le}
 use Rattle.lw_laws.specs.Extracts.{IsListAtMost}
 use Rattle.lw_exists.specs.Weakly.{Weakly}

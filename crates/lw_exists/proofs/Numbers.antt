@@ -1,13 +1,12 @@
 -- Classes of base forms for an equivalence that can be decided: numbers in the order of first base forms.
-use Rattle.std.proofs.Common.{ℕ, zero, suc, ◌+◌, ◌*◌, ◌/◌, ◌%◌, ◌<◌, ◌≤◌, ◌≡◌, ◌≢◌, ◌==◌, ◌⊎◌, ◌↔◌, inl, inr, true, false, List, [], ◌∷◌, ◌++◌, length, slice_index, if◌then◌else◌, refl, ap, sym, ◌∙◌, subst, arith, length-append}
+use Rattle.std.proofs.Common.{ℕ, zero, suc, ◌+◌, ◌*◌, ◌/◌, ◌%◌, ◌<◌, ◌≤◌, ◌≡◌, ◌==◌, ◌⊎◌, ◌↔◌, inl, inr, List, [], ◌∷◌, ◌++◌, length, slice_index, if◌then◌else◌, refl, ap, sym, ◌∙◌, subst, arith, length-append}
 use native.Mathlib.Nat.{eq-or-lt_of_le}
-use native.Mathlib.Decide.{ℕ_discrete}
 use Rattle.std.proofs.Math.ListN.{get_or-append}
 use Rattle.std.proofs.Math.Seq.{get_or-append_seam}
 use Rattle.lw_laws.specs.Flip.{flip}
 use Rattle.lw_laws.specs.Graphs.{Graph, class_of, AreNumberedFrom, pair_count}
 use Rattle.lw_laws.proofs.Flips.{flip-flip, flip_even, flip_other, half-flip, class_of-flip, even_or_odd}
-use Rattle.lw_reduce.proofs.ClassNumbers.{count_more, numbered_more}
+use Rattle.lw_reduce.proofs.ClassNumbers.{count_here, count_there, count_more, numbered_more}
 use Rattle.lw_exists.proofs.Weak.{Decided, find_below}
 
 -- a graph with these classes of base forms, and nothing else
@@ -31,16 +30,6 @@ pub record AreClassesOf (E : ℕ → ℕ → Type 0) (cs : List ℕ) : Type 0 wh
   pub few : pair_count 0 cs ≤ length cs
   pub below : (k : ℕ) → k < length cs → slice_index cs k / 2 < pair_count 0 cs
   pub same : (f h : ℕ) → f / 2 < length cs → h / 2 < length cs → (class_by cs f ≡ class_by cs h) ↔ E f h
-
-count_here : (next c : ℕ) → c ≡ 2 * next → (if c == 2 * next then suc next else next) ≡ suc next
-count_here next c e =
-    let t : (c == 2 * next) ≡ true = grind (arith, e) in ap (λ b. if b then suc next else next) t
-
-count_there : (next c : ℕ) → c / 2 < next → (if c == 2 * next then suc next else next) ≡ next
-count_there next c l =
-    let ne : c ≢ 2 * next = λ e. omega arith in
-    let t : (c == 2 * next) ≡ false = grind (arith, ne) in
-    ap (λ b. if b then suc next else next) t
 
 -- half of a class is that of its base form
 pub half_class : (cs : List ℕ) (f : ℕ) → class_by cs f / 2 ≡ slice_index cs (f / 2) / 2

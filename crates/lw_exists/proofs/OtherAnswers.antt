@@ -1,5 +1,6 @@
--- Answers to words that ask for the size of a graph, or for the values of a network, cannot fail to be there.
-use Rattle.std.proofs.Common.{ℕ, ◌<◌, ◌≤◌, ◌≡◌, inl, inr, Bool, List, [], ◌∷◌, ◌++◌, length, map, Option, Some, None, Result, Ok, Err, refl, ap, arith}
+-- Answers to words that ask for the size of a graph, for the values of a network, for the sizes of a drawn network, or for
+-- lookup tables cannot fail to be there.
+use Rattle.std.proofs.Common.{ℕ, ◌<◌, ◌≡◌, Bool, List, [], ◌∷◌, ◌++◌, length, Some, Result, Ok, Err, refl, arith}
 use native.Mathlib.Decide.{dec_lt}
 use Rattle.lw_laws.specs.Networks.{given}
 use Rattle.lw_laws.specs.Graphs.{Graph}
@@ -13,34 +14,27 @@ use Rattle.lw_net.proofs.Rise.{in_order}
 use Rattle.lw_form.specs.Limits.{most_bases}
 use Rattle.lw_assoc.specs.Splits.{most_splits}
 use Rattle.lw_blif.specs.declared.parsed.Parsed.{Parsed}
-use Rattle.lw_report.specs.Vectors.{first_fault, vector_of}
 use Rattle.lw_report.specs.Simulated.{IsNetworkLine, AreLines, value_line}
 use Rattle.lw_report.specs.Simulated.AreLines.{no_lines, next_line}
-use Rattle.lw_files.specs.Steps.{Files, gives, followed_by}
-use Rattle.lw_files.specs.Sources.{text_of, lines_in}
-use Rattle.lw_files.specs.Sources as file
-use Rattle.lw_files.proofs.Kept.{model_kept}
+use Rattle.lw_files.specs.Steps.{Files, followed_by}
+use Rattle.lw_files.proofs.Kept.{cells_kept, model_kept}
 use Rattle.lw_map.specs.declared.counting.Counts.{Counts as GraphCounts}
 use Rattle.lw_map.specs.Options.{Options, IsWide}
 use Rattle.lw_map.specs.Mapped.{base_count, splits_count, IsWithinLimits}
 use Rattle.lw_top.specs.declared.refusal.Refusal.{Refusal}
-use Rattle.lw_top.specs.declared.refusal.Refusal.TheVariants.{Vector, Forms, Splits}
-use Rattle.lw_top.specs.declared.refusal.Which.{Which}
-use Rattle.lw_top.specs.declared.refusal.Which.TheVariants as which
-use Rattle.lw_top.specs.Words.{Command, counting, simulation, command_of}
-use Rattle.lw_top.specs.Counts.{Counts, counts_text, pair_total}
+use Rattle.lw_top.specs.declared.refusal.Refusal.TheVariants.{Forms, Splits}
+use Rattle.lw_top.specs.Words.{counting, simulation, drawing, tabling, command_of}
+use Rattle.lw_top.specs.Counts.{Counts, counts_text, pair_total, Draws}
 use Rattle.lw_top.specs.Reports.{Simulates}
-use Rattle.lw_top.specs.Answers.{ReadsModel, HasVectors, text_in, ReadsVectors, IsCountAnswer, IsSimulationAnswer, asked_for, IsAnswer}
+use Rattle.lw_top.specs.Tables.{Tabulates}
+use Rattle.lw_top.specs.Answers.{ReadsLibrary, ReadsModel, ReadsVectors, IsAnswer}
 use Rattle.lw_top.proofs.InRange.{command_in_range}
 use Rattle.lw_exists.specs.Weakly.{Weakly}
 use Rattle.lw_exists.proofs.Weak.{sure, weaker}
 use Rattle.lw_exists.proofs.SomeGraph.{some_graph}
-use Rattle.lw_exists.proofs.SomeModel.{some_model}
-use Rattle.lw_exists.proofs.SomeAnswer.{some_followed, some_in_file}
-
--- the model, or why the file has none
-read_model : (name : List ℕ) (files : Files) → Weakly ((r : Result Parsed Refusal) × ReadsModel name files r)
-read_model name files = some_in_file which.Network (file.ReadsModel name) files (some_model name files)
+use Rattle.lw_exists.proofs.SomeFiles.{some_followed, some_command_answer, read_library, read_model, read_vectors}
+use Rattle.lw_exists.proofs.SomeDrawing.{some_drawing}
+use Rattle.lw_exists.proofs.SomeTabled.{some_tabled}
 
 -- The size of a graph.
 
@@ -71,27 +65,31 @@ some_lines n kept (vector ∷ vectors) =
     let values = net_values (given vector) (network.plain n) in
     (value_line values n.outputs ++ text, next_line {line = value_line values n.outputs} (record { values = values; are = net_values_are (network.plain n) (in_order n kept) (given vector); says = refl }) are)
 
-by_vectors : (inputs : ℕ) (bytes : List ℕ) (files : Files) (o : Option ℕ) → first_fault inputs (lines_in bytes) ≡ o → (r : Result (List (List Bool)) Refusal) × HasVectors inputs bytes files r
-by_vectors inputs bytes files None e = (Ok (map vector_of (lines_in bytes)), (e, refl))
-by_vectors inputs bytes files (Some line) e = (Err (Vector line), e)
-
-some_vectors : (name : List ℕ) (inputs : ℕ) (files : Files) → Weakly ((r : Result (List (List Bool)) Refusal) × ReadsVectors name inputs files r)
-some_vectors name inputs files =
-    some_followed (text_in which.Vectors name) (HasVectors inputs) files (some_in_file which.Vectors (gives (text_of name)) files (sure (text_of name files, refl))) (λ bytes is.
-    sure (by_vectors inputs bytes files (first_fault inputs (lines_in bytes)) refl))
-
 -- Answers.
 
 pub some_count_answer : (words : List (List ℕ)) (files : Files) (options : Options) (network_word : List ℕ) → command_of words ≡ Some (counting options network_word) → Weakly ((r : Result (List ℕ) Refusal) × IsAnswer words files r)
 some_count_answer words files options network_word form =
-    weaker (λ (r, is). (r, inl (counting options network_word, ap asked_for form, is)))
+    some_command_answer words files (counting options network_word) form
     (some_followed (ReadsModel network_word) (λ model. Counts options model) files (read_model network_word files) (λ model read.
     some_counts options model files (command_in_range words (counting options network_word) form)))
 
 pub some_simulation_answer : (words : List (List ℕ)) (files : Files) (network_word vectors : List ℕ) → command_of words ≡ Some (simulation network_word vectors) → Weakly ((r : Result (List ℕ) Refusal) × IsAnswer words files r)
 some_simulation_answer words files network_word vectors form =
-    weaker (λ (r, is). (r, inl (simulation network_word vectors, ap asked_for form, is)))
+    some_command_answer words files (simulation network_word vectors) form
     (some_followed (ReadsModel network_word) (λ model. followed_by (ReadsVectors vectors model.network.inputs) (λ xs. Simulates model xs)) files (read_model network_word files) (λ model read.
-    some_followed (ReadsVectors vectors model.network.inputs) (λ xs. Simulates model xs) files (some_vectors vectors model.network.inputs files) (λ xs has.
+    some_followed (ReadsVectors vectors model.network.inputs) (λ xs. Simulates model xs) files (read_vectors vectors model.network.inputs files) (λ xs has.
     let (text, are) = some_lines model.network (model_kept network_word files model read).network xs in
     sure (Ok text, are))))
+
+pub some_drawing_answer : (words : List (List ℕ)) (files : Files) (seed count : ℕ) (library : List ℕ) → command_of words ≡ Some (drawing seed count library) → Weakly ((r : Result (List ℕ) Refusal) × IsAnswer words files r)
+some_drawing_answer words files seed count library form =
+    some_command_answer words files (drawing seed count library) form
+    (some_followed (ReadsLibrary library) (λ cells. Draws seed count cells) files (read_library library files) (λ cells lib.
+    some_drawing seed count (command_in_range words (drawing seed count library) form).most cells (cells_kept library files cells lib) files))
+
+pub some_tabling_answer : (words : List (List ℕ)) (files : Files) (leaves : ℕ) (options : Options) (network_word : List ℕ) → command_of words ≡ Some (tabling leaves options network_word) → Weakly ((r : Result (List ℕ) Refusal) × IsAnswer words files r)
+some_tabling_answer words files leaves options network_word form =
+    let (few, wide) = command_in_range words (tabling leaves options network_word) form in
+    some_command_answer words files (tabling leaves options network_word) form
+    (some_followed (ReadsModel network_word) (λ model. Tabulates leaves options model) files (read_model network_word files) (λ model read.
+    some_tabled options leaves model files wide few (model_kept network_word files model read)))

@@ -1,17 +1,15 @@
 -- The row of the pairs with a property that can be decided.
-use Rattle.std.proofs.Common.{ℕ, zero, suc, ◌+◌, ◌<◌, ◌≤◌, ◌≡◌, ◌⊎◌, ◌↔◌, inl, inr, List, [], ◌∷◌, Contains, refl, ap, ap₂, sym, ◌∙◌, subst, arith}
+use Rattle.std.proofs.Common.{ℕ, zero, suc, ◌+◌, ◌<◌, ◌≤◌, ◌≡◌, ◌⊎◌, ◌↔◌, inl, inr, List, [], ◌∷◌, Contains, refl, ap₂, sym, subst, arith}
 use Rattle.std.specs.List.{AllByRecursion}
 use native.Mathlib.Decide.{dec_lt}
 use native.Mathlib.Nat.{eq-or-lt_of_le}
 use Rattle.lw_laws.specs.Graphs.{Pair, IsPairBefore, AreRising}
+use Rattle.lw_facts.proofs.Lists.{contains_tail}
 use Rattle.lw_laws.proofs.Lists.{all_contains}
 
 all_weaker : {X : Type 0} (P Q : X → Type 0) → ((x : X) → P x → Q x) → (xs : List X) → AllByRecursion P xs → AllByRecursion Q xs
 all_weaker P Q f [] a = tt
 all_weaker P Q f (x ∷ xs) (p, a) = (f x p, all_weaker P Q f xs a)
-
-in_tail : {X : Type 0} (y : X) (xs : List X) (x : X) → Contains xs x → Contains (y ∷ xs) x
-in_tail y xs x (k, lt, e) = (suc k, omega arith, e)
 
 module _ (P : ℕ → ℕ → Type 0) (n : ℕ) (d : (x y : ℕ) → x < n → y < n → P x y ⊎ (P x y → ⊥)) where
   -- the pair does not come before this one
@@ -63,7 +61,7 @@ module _ (P : ℕ → ℕ → Type 0) (n : ℕ) (d : (x y : ℕ) → x < n → y
     where
       by_place : (p : Pair) → IsOfRow p → (at a b ≡ p) ⊎ IsFrom a (suc b) p → Contains (at a b ∷ ps) p
       by_place p r (inl e) = (0, omega arith, e)
-      by_place p r (inr f) = in_tail (at a b) ps p (all p f r)
+      by_place p r (inr f) = contains_tail (at a b) ps p (all p f r)
 
   abbrev SomeFrom : ℕ → ℕ → Type 0
   SomeFrom a b = (ps : List Pair) × AreFrom a b ps

@@ -1,9 +1,8 @@
 -- The graph of listed forms cannot fail to be there: equivalence is decided for finitely many forms, and so is which pairs a class holds.
-use Rattle.std.proofs.Common.{ℕ, Bool, true, zero, suc, ◌+◌, ◌*◌, ◌/◌, ◌<◌, ◌≤◌, ◌≡◌, ◌⊎◌, ◌↔◌, inl, inr, List, [], length, Some, slice_get, slice_index, slice_index_or, Contains, refl, ap, sym, ◌∙◌, subst, arith}
+use Rattle.std.proofs.Common.{ℕ, true, ◌+◌, ◌*◌, ◌/◌, ◌<◌, ◌≤◌, ◌≡◌, ◌↔◌, inl, inr, List, [], length, Some, slice_get, slice_index_or, Contains, refl, ap, sym, ◌∙◌, subst, arith}
 use Rattle.std.proofs.lemmas.List.{length-map, get_or_past}
 use Rattle.std.proofs.lemmas.Option.{slice_get_within, get_or_from_slice_get}
 use native.Mathlib.Decide.{dec_lt}
-use Rattle.lw_laws.specs.Flip.{flip}
 use Rattle.lw_laws.specs.Modes.{Mode}
 use Rattle.lw_laws.specs.Networks.{Network}
 use Rattle.lw_laws.specs.Forms.Form.{var_form, true_form}
@@ -14,7 +13,6 @@ use Rattle.lw_laws.specs.Graphs.{Pair, Graph, class_of, HoldsPair, AreRising, pa
 use Rattle.lw_laws.specs.Families.{Family, IsNand, Equivalent}
 use Rattle.lw_laws.specs.Families.Equivalent.{same, turned, joined, flipped}
 use Rattle.lw_laws.specs.NumberedForms.{family_of, NumberOccurs}
-use Rattle.lw_laws.specs.NumberedForms.Base.{base_true, base_input}
 use Rattle.lw_laws.specs.Encodings.{HasNand, Encodes}
 use Rattle.lw_laws.specs.Numbering.{numbered, numbered_base}
 use Rattle.lw_laws.specs.Classes.{IsGraphOf}
@@ -28,7 +26,7 @@ use Rattle.lw_laws.proofs.ClassLaws.{encoding_of_forms}
 use Rattle.lw_laws.proofs.Sound.{network_is_sound}
 use Rattle.lw_laws.proofs.Lists.{slice_get_some, held_in}
 use Rattle.lw_exists.specs.Weakly.{Weakly}
-use Rattle.lw_exists.proofs.Weak.{sure, and_then, weaker, weak_all, Decided, weak_decided, some_list}
+use Rattle.lw_exists.proofs.Weak.{and_then, weaker, weak_all, Decided, weak_decided, some_list}
 use Rattle.lw_exists.proofs.Numbers.{bare, class_by, IsEquivalence, AreClassesOf, half_class, some_classes}
 use Rattle.lw_exists.proofs.Rows.{some_row}
 
@@ -48,16 +46,13 @@ module _ (mode : Mode) (inputs : ℕ) (o : Listing) (sound : IsSoundListing inpu
   each_one : length (numbered inputs o).bases ≡ total
   each_one = length-map o.bases (numbered_base o.bases)
 
-  apart : (f : ℕ) → Equivalent F (flip f) f → ⊥
-  apart = flip_not_equivalent F (λ i. true) (number_value o (λ i. true)) (form_values_fit (numbered inputs o) (λ i. true) (number_value o (λ i. true)) (numbers_have_values inputs o is (λ i. true) (sound.agree (λ i. true))) mode)
-
   equivalence : IsEquivalence (λ f h. Equivalent F f h) total
   equivalence = record {
     own = λ f lt. same (let n = each_one in omega arith);
     turn = λ f h e. turned e;
     join = λ f h k d e. joined d e;
     flips = λ f h e. flipped e;
-    apart = apart;
+    apart = flip_not_equivalent F (λ i. true) (number_value o (λ i. true)) (form_values_fit (numbered inputs o) (λ i. true) (number_value o (λ i. true)) (numbers_have_values inputs o is (λ i. true) (sound.agree (λ i. true))) mode);
   }
 
   nand_occurs : (f x y : ℕ) → IsNand F f x y → NumberOccurs (numbered inputs o) f × NumberOccurs (numbered inputs o) x × NumberOccurs (numbered inputs o) y

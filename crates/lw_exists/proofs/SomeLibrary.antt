@@ -6,7 +6,6 @@ use Rattle.lw_fixed.specs.declared.micro.Micro.{Micro}
 use Rattle.lw_words.specs.Lines.{LogicalLine}
 use Rattle.lw_genlib.specs.declared.token.Token.{Token}
 use Rattle.lw_genlib.specs.declared.pin.Field.{Field}
-use Rattle.lw_genlib.specs.declared.pin.Target.{Target}
 use Rattle.lw_genlib.specs.declared.fault.LibKind.{LibKind}
 use Rattle.lw_genlib.specs.declared.fault.LibFault.{LibFault}
 use Rattle.lw_genlib.specs.declared.fault.LibFault.TheVariants.{Line, Memory}
@@ -15,11 +14,11 @@ use Rattle.lw_genlib.specs.Functions.{first_fault, fault_or, token_fault}
 use Rattle.lw_genlib.specs.Streams.{StreamItem, word_on, long_line, text_end, stream_of, last_number, Reading, done, broken, cut_short, and_then, with_rest, on_line, word_by}
 use Rattle.lw_genlib.specs.Entries.{FunctionText, text_from, Entry, entry_begun, behind_gate, behind_pin, behind_target, delay_from, delay_behind, number_of, cell_name, target_of, pins_of, with_delay, pin_fields, no_delay, no_text, entry_by, behind_area, behind_name, is_end, with_word}
 use Rattle.lw_genlib.specs.Merging.{merged, merged_at, agrees, cell_of, lacks_delay, place_of}
-use Rattle.lw_genlib.specs.Libraries.{CellsSoFar, no_cells, with_open, is_word, merged_with, with_cells, entry_ended, go_on_with, entry_on, entry_behind, gate_on, pin_on, words_behind, Piece, next, stopped, unfinished, finished, piece_by, last_piece, piece, Outcome, after, pieces, outcome_from, outcome_of, library_of, library_by, cells_or_fault}
+use Rattle.lw_genlib.specs.Libraries.{CellsSoFar, no_cells, with_open, is_word, merged_with, with_cells, entry_ended, go_on_with, entry_on, entry_behind, words_behind, Piece, next, stopped, unfinished, finished, piece_by, last_piece, piece, Outcome, after, pieces, outcome_from, outcome_of, library_of, library_by, cells_or_fault}
 use Rattle.lw_files.specs.declared.fault.FileFault.{FileFault}
 use Rattle.lw_files.specs.declared.fault.FileFault.TheVariants.{Library}
 use Rattle.lw_files.specs.Steps.{Files}
-use Rattle.lw_files.specs.Sources.{text_of, lines_in, HasCells, ReadsLibrary}
+use Rattle.lw_files.specs.Sources.{text_of, lines_in, ReadsLibrary}
 use Rattle.lw_exists.specs.Weakly.{Weakly}
 use Rattle.lw_exists.proofs.Weak.{sure}
 

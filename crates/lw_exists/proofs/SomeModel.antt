@@ -1,5 +1,5 @@
 -- The model of a text, or a fault of it, cannot fail to be there.
-use Rattle.std.proofs.Common.{ℕ, ◌<◌, ◌≡◌, ◌⊎◌, inl, inr, List, [], length, map, Option, Some, None, Result, Ok, Err, slice_get, slice_index_or, refl, ap, sym, ◌∙◌, subst, arith}
+use Rattle.std.proofs.Common.{ℕ, ◌<◌, ◌≡◌, ◌⊎◌, inl, inr, List, [], length, map, Option, Some, None, Result, Ok, Err, slice_index_or, refl, sym, ◌∙◌, subst, arith}
 use Rattle.std.proofs.lemmas.List.{length-map}
 use Rattle.std.proofs.lemmas.Option.{slice_get_within, slice_get-get_or, get_or_from_slice_get}
 use Rattle.lw_facts.proofs.Lists.{contained_at}
@@ -15,7 +15,7 @@ use Rattle.lw_blif.specs.declared.parsed.Parsed.{Parsed}
 use Rattle.lw_blif.specs.declared.fault.BlifFault.{BlifFault}
 use Rattle.lw_blif.specs.declared.fault.BlifFault.TheVariants as fault
 use Rattle.lw_blif.specs.LineFaults.{FaultAt, first_fault, lines_read}
-use Rattle.lw_blif.specs.Drafts.{draft_of, frame_on, starts_on, IsModelOf}
+use Rattle.lw_blif.specs.Drafts.{draft_of, frame_on, starts_on}
 use Rattle.lw_blif.specs.BlifNetworks.{HasWholeFault, ComesTo}
 use Rattle.lw_blif.proofs.Sound.{lines-draft}
 use Rattle.lw_files.specs.declared.fault.FileFault.{FileFault}

@@ -1,5 +1,5 @@
 -- The netlist that a network is mapped to cannot fail to be there, where each output has a cover.
-use Rattle.std.proofs.Common.{ℕ, zero, suc, ◌+◌, ◌*◌, ◌^◌, ◌-◌, ◌<◌, ◌≤◌, ◌≡◌, Bool, true, false, List, [], ◌∷◌, ◌++◌, length, map, take, All, Option, Some, None, option_map, Contains, slice_get, slice_index_or, refl, ap, sym, ◌∙◌, subst, arith, length-append}
+use Rattle.std.proofs.Common.{ℕ, zero, suc, ◌+◌, ◌^◌, ◌-◌, ◌<◌, ◌≤◌, ◌≡◌, Bool, true, false, List, [], ◌∷◌, ◌++◌, length, map, take, Option, Some, None, option_map, Contains, slice_get, slice_index_or, refl, ap, sym, ◌∙◌, subst, arith, length-append}
 use Rattle.std.specs.List.{AllByRecursion, AllZip}
 use Rattle.std.proofs.Math.Seq.{take-append_seam}
 use Rattle.std.proofs.lemmas.List.{length-map, length-take-le}
@@ -10,7 +10,7 @@ use Rattle.lw_pool.specs.declared.id.ClassId.{ClassId}
 use Rattle.lw_pool.specs.declared.id.NetId.{NetId}
 use Rattle.lw_pool.specs.Numbers.{net_number}
 use Rattle.lw_fixed.specs.declared.micro.Micro.{Micro}
-use Rattle.lw_laws.specs.Graphs.{Graph, Unfolds, pair_count}
+use Rattle.lw_laws.specs.Graphs.{Graph, Unfolds}
 use Rattle.lw_laws.specs.Signals.{sop_at, signals_of}
 use Rattle.lw_laws.specs.Listings.{listing_of}
 use Rattle.lw_laws.specs.Classes.{IsGraphOf}
@@ -45,7 +45,7 @@ use Rattle.lw_label.specs.Delays.{most_time}
 use Rattle.lw_assoc.proofs.Built.{pairs_bound}
 use Rattle.lw_netlist.specs.declared.gate.Gate.{Gate}
 use Rattle.lw_netlist.specs.declared.gate.Port.{Port}
-use Rattle.lw_netlist.specs.Netlists.{NetlistParts, IsGateAt, IsNetlist, plain_gate, plain, plain_port, mapped_ports}
+use Rattle.lw_netlist.specs.Netlists.{NetlistParts, IsNetlist, plain_gate, plain, plain_port, mapped_ports}
 use Rattle.lw_mapped.specs.declared.certificate.Certificate.{Certificate}
 use Rattle.lw_map.specs.Options.{Options, IsWide}
 use Rattle.lw_map.specs.Mapped.{base_count, IsMappedNetlist, IsCovered}

@@ -1,5 +1,5 @@
 -- The numbers below a bound with a property that is decided, in the order of gates.
-use Rattle.std.proofs.Common.{ℕ, zero, suc, ◌<◌, ◌≤◌, ◌≡◌, ◌⊎◌, ◌↔◌, inl, inr, List, [], ◌∷◌, length, Some, Contains, slice_get, refl, ap, sym, ◌∙◌, subst, arith}
+use Rattle.std.proofs.Common.{ℕ, zero, suc, ◌<◌, ◌≤◌, ◌≡◌, ◌⊎◌, ◌↔◌, inl, inr, List, [], ◌∷◌, length, Some, Contains, slice_get, refl, ap, sym, subst, arith}
 use Rattle.std.specs.List.{AllByRecursion}
 use native.Mathlib.Decide.{dec_lt}
 use native.Mathlib.Nat.{eq-or-lt_of_le}

@@ -18,15 +18,19 @@ weaker f w = λ none. w (λ p. none (f p))
 pub either : (P : Type 0) → Weakly (P ⊎ (P → ⊥))
 either P = λ none. none (inr (λ p. none (inl p)))
 
+-- what holds below a number and at it holds below the next
+below_next : (P : ℕ → Type 0) (n : ℕ) → ((i : ℕ) → i < n → P i) → P n → (i : ℕ) → i < suc n → P i
+below_next P n below here i lt = by_place (eq-or-lt_of_le {n = i} {m = n} (omega arith))
+  where
+    by_place : (i ≡ n) ⊎ (i < n) → P i
+    by_place (inl e) = subst P (sym e) here
+    by_place (inr l) = below i l
+
 -- what each number below a bound cannot fail to have, all of them cannot fail to have
 pub weak_all : (P : ℕ → Type 0) (n : ℕ) → ((i : ℕ) → i < n → Weakly (P i)) → Weakly ((i : ℕ) → i < n → P i)
 weak_all P zero f = sure (λ i lt. absurd (omega arith))
 weak_all P (suc n) f =
-    and_then (weak_all P n (λ i lt. f i (omega arith))) (λ below. weaker (λ here i lt. by_place below here i (eq-or-lt_of_le {n = i} {m = n} (omega arith))) (f n (omega arith)))
-  where
-    by_place : ((i : ℕ) → i < n → P i) → P n → (i : ℕ) → (i ≡ n) ⊎ (i < n) → P i
-    by_place below here i (inl e) = subst P (sym e) here
-    by_place below here i (inr l) = below i l
+    and_then (weak_all P n (λ i lt. f i (omega arith))) (λ below. weaker (below_next P n below) (f n (omega arith)))
 
 -- decisions for all numbers below a bound
 abbrev pub Decided : (ℕ → Type 0) → ℕ → Type 0
@@ -40,14 +44,10 @@ pub find_below : (P : ℕ → Type 0) (n : ℕ) → Decided P n → ((i : ℕ) �
 find_below P zero d = inr (λ i lt p. absurd (omega arith))
 find_below P (suc n) d = by_last (find_below P n (λ i lt. d i (omega arith))) (d n (omega arith))
   where
-    none_at : ((i : ℕ) → i < n → P i → ⊥) → (P n → ⊥) → (i : ℕ) → (i ≡ n) ⊎ (i < n) → P i → ⊥
-    none_at none out i (inl e) p = out (subst P e p)
-    none_at none out i (inr l) p = none i l p
-
     by_last : ((i : ℕ) × (i < n) × P i) ⊎ ((i : ℕ) → i < n → P i → ⊥) → P n ⊎ (P n → ⊥) → ((i : ℕ) × (i < suc n) × P i) ⊎ ((i : ℕ) → i < suc n → P i → ⊥)
     by_last (inl (i, lt, p)) q = inl (i, omega arith, p)
     by_last (inr none) (inl p) = inl (n, omega arith, p)
-    by_last (inr none) (inr out) = inr (λ i lt. none_at none out i (eq-or-lt_of_le {n = i} {m = n} (omega arith)))
+    by_last (inr none) (inr out) = inr (below_next (λ i. P i → ⊥) n none out)
 
 -- the first number below the bound that has it, or none has it
 abbrev pub IsFirstBelow : (ℕ → Type 0) → ℕ → ℕ → Type 0
@@ -57,14 +57,24 @@ pub first_below : (P : ℕ → Type 0) (n : ℕ) → Decided P n → ((m : ℕ) 
 first_below P zero d = inr (λ i lt p. absurd (omega arith))
 first_below P (suc n) d = by_last (first_below P n (λ i lt. d i (omega arith))) (d n (omega arith))
   where
-    none_at : ((i : ℕ) → i < n → P i → ⊥) → (P n → ⊥) → (i : ℕ) → (i ≡ n) ⊎ (i < n) → P i → ⊥
-    none_at none out i (inl e) p = out (subst P e p)
-    none_at none out i (inr l) p = none i l p
-
     by_last : ((m : ℕ) × IsFirstBelow P n m) ⊎ ((i : ℕ) → i < n → P i → ⊥) → P n ⊎ (P n → ⊥) → ((m : ℕ) × IsFirstBelow P (suc n) m) ⊎ ((i : ℕ) → i < suc n → P i → ⊥)
     by_last (inl (i, (lt, p, first))) q = inl (i, (omega arith, p, first))
     by_last (inr none) (inl p) = inl (n, (omega arith, p, none))
-    by_last (inr none) (inr out) = inr (λ i lt. none_at none out i (eq-or-lt_of_le {n = i} {m = n} (omega arith)))
+    by_last (inr none) (inr out) = inr (below_next (λ i. P i → ⊥) n none out)
+
+-- each number below the bound has it, or this is the first that does not
+abbrev pub HoldsBefore : (ℕ → Type 0) → ℕ → Type 0
+HoldsBefore P n =
+    ((i : ℕ) → i < n → P i) ⊎ ((m : ℕ) × ((m < n) × (P m → ⊥) × ((i : ℕ) → i < m → P i)))
+
+pub weak_all_or_first : (P : ℕ → Type 0) (n : ℕ) → Weakly (HoldsBefore P n)
+weak_all_or_first P zero = sure (inl (λ i lt. absurd (omega arith)))
+weak_all_or_first P (suc n) = and_then (weak_all_or_first P n) (λ before. weaker (by_last before) (either (P n)))
+  where
+    by_last : HoldsBefore P n → P n ⊎ (P n → ⊥) → HoldsBefore P (suc n)
+    by_last (inl all) (inl p) = inl (below_next P n all p)
+    by_last (inl all) (inr out) = inr (n, (omega arith, out, all))
+    by_last (inr (m, (lt, out, before))) q = inr (m, (omega arith, out, before))
 
 -- the least number with a property that some number has
 pub weak_least : (P : ℕ → Type 0) (n : ℕ) → P n → Weakly ((m : ℕ) × P m × ((k : ℕ) → P k → m ≤ k))

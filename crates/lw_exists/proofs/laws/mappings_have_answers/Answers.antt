@@ -8,4 +8,4 @@ pub returns-clause-answer : goal.returns-clause-answer
 returns-clause-answer c = λ words files asks. some_answer words files asks.options asks.certified asks.library asks.network (map_asked words (mapping asks.options asks.certified asks.library asks.network) asks.form)
 
 pub returns-clause-status : goal.returns-clause-status
-returns-clause-status c = λ words files a asks answer. no_want_of_memory words files asks.options asks.certified asks.library asks.network (map_asked words (mapping asks.options asks.certified asks.library asks.network) asks.form) a answer
+returns-clause-status c = λ words files a asks answer. no_want_of_memory words files a answer
