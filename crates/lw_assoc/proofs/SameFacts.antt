@@ -9,6 +9,7 @@ use Rattle.lw_laws.specs.Families.{IsNand}
 use Rattle.lw_laws.specs.Drafts.{Draft, NandFact, facts_of, HaveSameFacts}
 use Rattle.lw_form.specs.Bases.{picked}
 use Rattle.lw_form.specs.Kept.{AreForms}
+use Rattle.lw_form.proofs.Parts.{picked_zero}
 use Rattle.lw_assoc.specs.Drafting.{other, IsDraftOf}
 use Rattle.std.proofs.lemmas.Nat.{or_comm}
 use Rattle.std.proofs.lemmas.Option.{slice_get_within}
